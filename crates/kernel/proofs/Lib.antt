@@ -1,0 +1,6 @@
+-- What the proofs share, and the laws that the crates above cite.
+pub mod Mirror
+pub mod Lengths
+pub mod Signed
+pub mod Loops
+pub mod Products

@@ -1,0 +1,42 @@
+-- Walks in the form in which loops meet them: i is the next index, n the end.
+use Prim.Native.Nat.{ℕ, zero, suc, _+_, _-_, _≤_, _<_}
+use native.Mathlib.Nat.{le-antisymm}
+use native.Mathlib.Numerals.{add-one}
+use native.Mathlib.Omega.{arith}
+use mathlib.Core.Path.{_≡_, refl, sym, ap, _∙_}
+use mathlib.Core.Bool.{Bool, true, false}
+use lib.Dec.{ltb}
+use borrow.Author.Tests.{ltb-true}
+use Rattle.kernel.specs.Numbers.{nobody}
+use Rattle.kernel.specs.Walk.{each, firstFrom}
+use Rattle.kernel.specs.Tables.{usedRows}
+
+-- the state after turn i, where a turn's result is f of the state before it
+pub each-more : {A : Type 0} (f : ℕ → A → A) (a : A) (i : ℕ) (x y : A) → x ≡ each i f a → y ≡ f i x → y ≡ each (i + 1) f a
+each-more f a i x y e s = s ∙ ap (f i) e ∙ ap (λ (n : ℕ). each n f a) (sym (add-one i))
+
+-- the state where the loop's test failed
+pub each-done : {A : Type 0} (f : ℕ → A → A) (a : A) (i n : ℕ) (x : A) → x ≡ each i f a → i ≤ n → n ≤ i → x ≡ each n f a
+each-done f a i n x e l g = e ∙ ap (λ (m : ℕ). each m f a) (le-antisymm l g)
+
+module _ (f : ℕ → Bool) (i n : ℕ) where
+  -- a search that has come to i: i passes, i fails, or none is left
+  pub first-here : i < n → f i ≡ true → firstFrom f i (n - i) ≡ i
+  unfolding firstFrom
+  first-here h t = let more : n - i ≡ suc (n - suc i) = omega arith in rw (more, t)
+
+  pub first-next : i < n → f i ≡ false → firstFrom f i (n - i) ≡ firstFrom f (i + 1) (n - (i + 1))
+  unfolding firstFrom
+  first-next h t = let more : n - i ≡ suc (n - suc i) = omega arith in rw (add-one, more, t)
+
+  pub first-none : n ≤ i → firstFrom f i (n - i) ≡ nobody
+  unfolding firstFrom
+  first-none h = let none : n - i ≡ 0 = omega arith in rw none
+
+-- no more rows are in use than there are; e is what a callee gave
+pub used-le : (e n : ℕ) → e ≡ usedRows n → e ≤ 16
+used-le e n same = rw same (go (ltb n 16) refl)
+  where
+    go : (b : Bool) → ltb n 16 ≡ b → usedRows n ≤ 16
+    go true t = rw t (omega (arith, ltb-true n 16 t))
+    go false t = rw t (omega arith)

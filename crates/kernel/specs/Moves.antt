@@ -1,0 +1,117 @@
+-- The two moves, to be made ready and to go to sleep, and the end of a call.
+use Prim.Native.Nat.{ℕ}
+use mathlib.Core.Bool.{cond}
+use lib.Dec.{eqb, ltb}
+use lib.IntN.{ℤ}
+use Rattle.kernel.specs.declared.records.Call.{Call}
+use Rattle.kernel.specs.declared.records.Answer.{Answer}
+use Rattle.kernel.specs.declared.records.Thread.{Thread}
+use Rattle.kernel.specs.declared.records.Kernel.{Kernel}
+use Rattle.kernel.specs.Numbers.{
+  nobody,
+  nowhere,
+  ready,
+  suspended,
+  queued,
+  timedOut,
+  immediate,
+  infinite,
+  eventWait,
+}
+use Rattle.kernel.specs.Records.{noCall, noAnswer}
+use Rattle.kernel.specs.Counters.{up, down}
+use Rattle.kernel.specs.Tables.{
+  threadAt,
+  counterAt,
+  withThread,
+  withCounter,
+  withHolder,
+  withWoken,
+  withFinished,
+  withAnswer,
+}
+
+-- ""Made ready" stores the message and sets remaining ticks to 0"; it waits "nowhere if ready"
+abbrev pub readied : Thread → ℤ → Thread
+readied t m =
+    record {
+      state = ready;
+      place = nowhere;
+      remaining = 0;
+      pending = t .pending;
+      awaited = t .awaited;
+      message = m;
+      call = t .call;
+      answer = t .answer;
+    }
+
+-- the ticks that a timeout leaves to count: "0 for .. an infinite timeout"
+abbrev pub ticksOf : ℕ → ℕ
+ticksOf timeout = cond (eqb timeout infinite) 0 timeout
+
+-- "awaited flags (an unfinished 14's mask, else 0)"
+abbrev pub awaitedBy : Call → ℕ
+awaitedBy c = cond (eqb (c .kind) eventWait) (c .operand) 0
+
+-- a call that sleeps keeps its fields, and "sets its last answer to 0 and 0"
+abbrev pub asleep : Thread → ℕ → ℕ → Call → Thread
+asleep t state place call =
+    record {
+      state = state;
+      place = place;
+      remaining = ticksOf (call .timeout);
+      pending = t .pending;
+      awaited = awaitedBy call;
+      message = t .message;
+      call = call;
+      answer = noAnswer;
+    }
+
+-- a finished call leaves its answer: "all 0 without one", awaited flags "else 0"
+abbrev pub answered : Thread → Answer → Thread
+answered t a =
+    record {
+      state = t .state;
+      place = t .place;
+      remaining = t .remaining;
+      pending = t .pending;
+      awaited = 0;
+      message = t .message;
+      call = noCall;
+      answer = a;
+    }
+
+-- "taken off its queue (counter +1) or reference (emptied)"
+unfoldable pub takenOff : Kernel → ℕ → ℕ → Kernel
+takenOff k state place =
+    cond (eqb state queued) (withCounter k place (up (counterAt k place)))
+    (cond (eqb state suspended) (withHolder k place nobody) k)
+
+-- "counter less 1 and sleep"; "Reference r holds i exactly if i is suspended on r"
+unfoldable pub putOn : Kernel → ℕ → ℕ → ℕ → Kernel
+putOn k i state place =
+    cond (eqb state queued) (withCounter k place (down (counterAt k place)))
+    (cond (eqb state suspended) (withHolder k place i) k)
+
+-- thread i is made ready with m
+unfoldable pub woken : Kernel → ℕ → ℤ → Kernel
+woken k i m =
+    withWoken
+    (withThread (takenOff k (threadAt k i .state) (threadAt k i .place)) i (readied (threadAt k i) m))
+    i
+
+-- thread i goes to sleep in a call; only a thread of the table sleeps
+unfoldable pub slept : Kernel → ℕ → ℕ → ℕ → Call → Kernel
+slept k i state place call =
+    cond (ltb i 16) (withThread (putOn k i state place) i (asleep (threadAt k i) state place call)) k
+
+-- thread i's call is finished; an interrupt has no record and no finished bit, only its answer
+unfoldable pub finished : Kernel → ℕ → ℤ → ℕ → Kernel
+finished k i m d =
+    cond (eqb i nobody) (withAnswer k (record { message = m; datum = d }))
+    (withFinished (withThread k i (answered (threadAt k i) (record { message = m; datum = d }))) i)
+
+-- "a timeout of 0 answers -1 at once, changing nothing else"; otherwise the thread sleeps
+unfoldable pub blocked : Kernel → ℕ → ℕ → ℕ → Call → Kernel
+blocked k i state place call =
+    cond (eqb (call .timeout) immediate) (finished k i timedOut 0) (slept k i state place call)

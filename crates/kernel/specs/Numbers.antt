@@ -1,0 +1,58 @@
+-- The numbers that the manual and document 01 fix, each under one name. `src/numbers.rt` has the same.
+use Prim.Native.Nat.{ℕ}
+use lib.IntN.{ℤ, pos, negsuc}
+
+-- no thread: idle, an interrupt, an empty reference
+abbrev pub nobody : ℕ
+nobody = 255
+
+-- the place of a thread that waits on no object; only a queued or a suspended thread's place is read
+abbrev pub nowhere : ℕ
+nowhere = 0
+
+-- the rows of the threads' table
+abbrev pub threads : ℕ
+threads = 16
+
+-- a thread's states
+abbrev pub ready : ℕ
+ready = 0
+
+abbrev pub sleeping : ℕ
+sleeping = 1
+
+abbrev pub suspended : ℕ
+suspended = 2
+
+abbrev pub queued : ℕ
+queued = 3
+
+abbrev pub awaiting : ℕ
+awaiting = 4
+
+-- messages
+abbrev pub ok : ℤ
+ok = pos 0
+
+abbrev pub timedOut : ℤ
+timedOut = negsuc 0
+
+abbrev pub wasReset : ℤ
+wasReset = negsuc 1
+
+-- intervals
+abbrev pub immediate : ℕ
+immediate = 0
+
+abbrev pub infinite : ℕ
+infinite = 4294967295
+
+-- kinds of step
+abbrev pub sleepFor : ℕ
+sleepFor = 11
+
+abbrev pub sleepUntil : ℕ
+sleepUntil = 12
+
+abbrev pub eventWait : ℕ
+eventWait = 14

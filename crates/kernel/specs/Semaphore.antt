@@ -1,0 +1,29 @@
+-- Counting semaphores, at any place. "2: semaphore wait; 3: signal; 4: reset"
+use Prim.Native.Nat.{ℕ}
+use mathlib.Core.Bool.{cond}
+use lib.IntN.{ℤ, pos}
+use lib.Signed.{ltZ}
+use Rattle.kernel.specs.declared.records.Call.{Call}
+use Rattle.kernel.specs.declared.records.Kernel.{Kernel}
+use Rattle.kernel.specs.Numbers.{ok, wasReset}
+use Rattle.kernel.specs.Counters.{up, down}
+use Rattle.kernel.specs.Tables.{counterAt, withCounter}
+use Rattle.kernel.specs.Moves.{finished}
+use Rattle.kernel.specs.Queue.{enqueued, releasedFirst, releasedAll}
+
+-- "counter .. less 1"
+unfoldable pub taken : Kernel → ℕ → Kernel
+taken k p = withCounter k p (down (counterAt k p))
+
+-- "counter above 0: less 1, answer 0. Else timeout 0: answer -1, nothing else changed. Else counter less 1 and sleep"
+unfoldable pub waited : Kernel → ℕ → ℕ → Call → Kernel
+waited k i p call = cond (ltZ (pos 0) (counterAt k p)) (finished (taken k p) i ok 0) (enqueued k i p call)
+
+-- "counter +1; if it was below 0, the highest-priority waiter is made ready with 0": being made ready raises the counter
+unfoldable pub signalled : Kernel → ℕ → ℕ → Kernel
+signalled k n p =
+    cond (ltZ (counterAt k p) (pos 0)) (releasedFirst k n p ok) (withCounter k p (up (counterAt k p)))
+
+-- "counter becomes a; all waiters are made ready with -2"
+unfoldable pub resetTo : Kernel → ℕ → ℕ → ℤ → Kernel
+resetTo k n p c = withCounter (releasedAll k n p wasReset) p c

@@ -1,0 +1,91 @@
+-- The tables read and written at an index: past the end a read gives the blank, and a write changes nothing.
+use Prim.Native.Nat.{ℕ}
+use mathlib.Core.Bool.{true, cond}
+use lib.Dec.{ltb}
+use lib.ListN.{getD, set}
+use lib.IntN.{ℤ, pos}
+use Rattle.kernel.specs.declared.records.Answer.{Answer}
+use Rattle.kernel.specs.declared.records.Thread.{Thread}
+use Rattle.kernel.specs.declared.records.Kernel.{Kernel}
+use Rattle.kernel.specs.Numbers.{nobody}
+use Rattle.kernel.specs.Records.{blank}
+
+-- how many of n threads have a row
+abbrev pub usedRows : ℕ → ℕ
+usedRows n = cond (ltb n 16) n 16
+
+abbrev pub threadAt : Kernel → ℕ → Thread
+threadAt k i = getD (k .threads) i blank
+
+abbrev pub counterAt : Kernel → ℕ → ℤ
+counterAt k p = getD (k .counters) p (pos 0)
+
+-- whom a reference holds
+abbrev pub holderAt : Kernel → ℕ → ℕ
+holderAt k r = getD (k .references) r nobody
+
+abbrev pub withThread : Kernel → ℕ → Thread → Kernel
+withThread k i t =
+    record {
+      threads = set (k .threads) i t;
+      counters = k .counters;
+      references = k .references;
+      woken = k .woken;
+      finished = k .finished;
+      answer = k .answer;
+    }
+
+abbrev pub withCounter : Kernel → ℕ → ℤ → Kernel
+withCounter k p c =
+    record {
+      threads = k .threads;
+      counters = set (k .counters) p c;
+      references = k .references;
+      woken = k .woken;
+      finished = k .finished;
+      answer = k .answer;
+    }
+
+abbrev pub withHolder : Kernel → ℕ → ℕ → Kernel
+withHolder k r i =
+    record {
+      threads = k .threads;
+      counters = k .counters;
+      references = set (k .references) r i;
+      woken = k .woken;
+      finished = k .finished;
+      answer = k .answer;
+    }
+
+abbrev pub withWoken : Kernel → ℕ → Kernel
+withWoken k i =
+    record {
+      threads = k .threads;
+      counters = k .counters;
+      references = k .references;
+      woken = set (k .woken) i true;
+      finished = k .finished;
+      answer = k .answer;
+    }
+
+abbrev pub withFinished : Kernel → ℕ → Kernel
+withFinished k i =
+    record {
+      threads = k .threads;
+      counters = k .counters;
+      references = k .references;
+      woken = k .woken;
+      finished = set (k .finished) i true;
+      answer = k .answer;
+    }
+
+abbrev pub withAnswer : Kernel → Answer → Kernel
+withAnswer k a =
+    record {
+      threads = k .threads;
+      counters = k .counters;
+      references = k .references;
+      woken = k .woken;
+      finished = k .finished;
+      answer = a;
+    }

@@ -1,0 +1,39 @@
+// The numbers that the manual and document 01 fix, each under one name.
+
+// No thread: idle where the running thread is meant, an interrupt where a caller is, an empty reference where a holder is.
+pub const NOBODY: u8 = 255;
+// The place of a thread that waits on no object. Only a queued or a suspended thread's place is read.
+pub const NOWHERE: u16 = 0;
+
+// How many rows each table has; of the threads the first T are in use.
+pub const THREADS: u8 = 16;
+
+// A thread's states.
+pub const READY: u16 = 0;
+
+pub const SLEEPING: u16 = 1;
+
+pub const SUSPENDED: u16 = 2;
+
+pub const QUEUED: u16 = 3;
+
+pub const AWAITING: u16 = 4;
+
+// Messages: MSG_OK, MSG_TIMEOUT and MSG_RESET of the manual.
+pub const OK: i32 = 0;
+
+pub const TIMED_OUT: i32 = -1;
+
+pub const WAS_RESET: i32 = -2;
+
+// Intervals: TIME_IMMEDIATE and TIME_INFINITE, with document 01's numbers.
+pub const IMMEDIATE: u32 = 0;
+
+pub const INFINITE: u32 = 4294967295;
+
+// The kinds of step whose calls the kernel part puts to sleep.
+pub const SLEEP_FOR: u16 = 11;
+
+pub const SLEEP_UNTIL: u16 = 12;
+
+pub const EVENT_WAIT: u16 = 14;
