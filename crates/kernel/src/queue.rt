@@ -18,14 +18,14 @@ pub fn enqueue(k: Kernel, i: u8, place: u16, call: Call) -> Kernel
 }
 
 // The first of n threads that waits at the place is made ready with m; with nobody there nothing changes: chThdDequeueNextI.
-pub fn release_first(k: Kernel, n: u8, place: u16, m: i32) -> Kernel
+pub fn release_first(k: Kernel, n: u16, place: u16, m: i32) -> Kernel
     ensures { λ r. ⌜ r ≡ releasedFirst k n place m ⌝ }
 {
     wake(k, first_waiter(k, n, place), m)
 }
 
 // All of n threads that wait at the place are made ready with m, in index order: chThdDequeueAllI.
-pub fn release_all(k: Kernel, n: u8, place: u16, m: i32) -> Kernel
+pub fn release_all(k: Kernel, n: u16, place: u16, m: i32) -> Kernel
     ensures { λ r. ⌜ r ≡ releasedAll k n place m ⌝ }
 {
     let end = used_rows(n);

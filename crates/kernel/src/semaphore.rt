@@ -34,7 +34,7 @@ pub fn wait(k: Kernel, i: u8, place: u16, call: Call) -> Kernel
 
 // Below 0 the highest waiter is made ready with 0, which raises the counter; else the counter is raised: chSemSignalI.
 // At 2147483647 the counter stays: a step refuses that signal before it gets here.
-pub fn signal(k: Kernel, n: u8, place: u16) -> Kernel
+pub fn signal(k: Kernel, n: u16, place: u16) -> Kernel
     ensures { λ r. ⌜ r ≡ signalled k n place ⌝ }
 {
     let c = counter_at(k, place);
@@ -46,7 +46,7 @@ pub fn signal(k: Kernel, n: u8, place: u16) -> Kernel
 }
 
 // All waiters are made ready with -2, and the counter becomes c: chSemResetI.
-pub fn reset(k: Kernel, n: u8, place: u16, c: i32) -> Kernel
+pub fn reset(k: Kernel, n: u16, place: u16, c: i32) -> Kernel
     ensures { λ r. ⌜ r ≡ resetTo k n place c ⌝ }
 {
     set_counter(release_all(k, n, place, WAS_RESET), place, c)

@@ -11,10 +11,10 @@ ghost use mathlib.Core.Bool.{true};
 ghost use Rattle.kernel.specs.Tables.{usedRows, threadAt, counterAt, holderAt, withThread, withCounter, withHolder, withWoken, withFinished, withAnswer};
 
 // How many of n threads have a row.
-pub fn used_rows(n: u8) -> u8
+pub fn used_rows(n: u16) -> u8
     ensures { λ r. ⌜ r ≡ usedRows n ⌝ }
 {
-    if n < THREADS { n } else { THREADS }
+    if n < 16 { n as u8 } else { THREADS }
 }
 
 pub fn thread_at(k: Kernel, i: u8) -> Thread

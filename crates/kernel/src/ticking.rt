@@ -20,7 +20,7 @@ fn count_off(t: Thread) -> Thread
 }
 
 // One tick for n threads, in index order: whose last tick it is, is made ready with -1; the others have one less.
-pub fn tick(k: Kernel, n: u8) -> Kernel
+pub fn tick(k: Kernel, n: u16) -> Kernel
     ensures { λ r. ⌜ r ≡ ticked k n ⌝ }
 {
     let end = used_rows(n);

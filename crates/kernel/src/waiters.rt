@@ -21,7 +21,7 @@ pub fn is_queued_at(t: Thread, place: u16) -> bool
 }
 
 // The running one of n threads: the first that is ready, or NOBODY for idle.
-pub fn first_ready(k: Kernel, n: u8) -> u8
+pub fn first_ready(k: Kernel, n: u16) -> u8
     ensures { λ r. ⌜ r ≡ firstReady k n ⌝ }
 {
     let end = used_rows(n);
@@ -37,7 +37,7 @@ pub fn first_ready(k: Kernel, n: u8) -> u8
 }
 
 // The first of n threads that is queued at a place, or NOBODY.
-pub fn first_waiter(k: Kernel, n: u8, place: u16) -> u8
+pub fn first_waiter(k: Kernel, n: u16, place: u16) -> u8
     ensures { λ r. ⌜ r ≡ firstWaiter k n place ⌝ }
 {
     let end = used_rows(n);
