@@ -8,7 +8,7 @@ use mathlib.Core.Bool.{Bool, true, false}
 use lib.Dec.{ltb}
 use borrow.Author.Tests.{ltb-true}
 use Rattle.kernel.specs.Numbers.{nobody}
-use Rattle.kernel.specs.Walk.{each, firstFrom}
+use Rattle.kernel.specs.Walk.{each, firstFrom, allFrom, bit, countOf}
 use Rattle.kernel.specs.Tables.{usedRows}
 
 -- the state after turn i, where a turn's result is f of the state before it
@@ -32,6 +32,25 @@ module _ (f : ℕ → Bool) (i n : ℕ) where
   pub first-none : n ≤ i → firstFrom f i (n - i) ≡ nobody
   unfolding firstFrom
   first-none h = let none : n - i ≡ 0 = omega arith in rw none
+
+module _ (f : ℕ → Bool) (i n : ℕ) where
+  -- a test of all that has come to i: i fails, i passes, or none is left
+  pub all-fails : i < n → f i ≡ false → allFrom f i (n - i) ≡ false
+  unfolding allFrom
+  all-fails h t = let more : n - i ≡ suc (n - suc i) = omega arith in rw (more, t)
+
+  pub all-next : i < n → f i ≡ true → allFrom f i (n - i) ≡ allFrom f (i + 1) (n - (i + 1))
+  unfolding allFrom
+  all-next h t = let more : n - i ≡ suc (n - suc i) = omega arith in rw (add-one, more, t)
+
+  pub all-done : n ≤ i → allFrom f i (n - i) ≡ true
+  unfolding allFrom
+  all-done h = let none : n - i ≡ 0 = omega arith in rw none
+
+-- one index more is counted
+pub count-more : (f : ℕ → Bool) (i : ℕ) → countOf f (i + 1) ≡ countOf f i + bit (f i)
+unfolding countOf
+count-more f i = rw add-one
 
 -- no more rows are in use than there are; e is what a callee gave
 pub used-le : (e n : ℕ) → e ≡ usedRows n → e ≤ 16
