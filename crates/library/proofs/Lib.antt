@@ -1,0 +1,4 @@
+-- What the proofs share.
+pub mod Signed
+pub mod SettlingLaws
+pub mod Masks

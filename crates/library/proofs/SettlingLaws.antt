@@ -1,0 +1,38 @@
+-- Settling, turn by turn, in the form in which code meets it: i is the running thread that a callee gave, t its row.
+use Prim.Native.Nat.{ℕ, zero, suc, _-_}
+use native.Mathlib.Numerals.{sub-one}
+use mathlib.Core.Path.{_≡_, refl, sym, ap, _∙_}
+use borrow.Author.Tests.{eq-eqb, ne-eqb}
+use Rattle.kernel.specs.declared.records.Thread.{Thread}
+use Rattle.kernel.specs.Tables.{threadAt}
+use Rattle.library.specs.declared.tables.Plant.{Plant}
+use Rattle.library.specs.Settling.{continued, runningIn, settled}
+
+-- no budget: nothing is continued
+pub settled-none : (n : ℕ) (p : Plant) → n ≡ 0 → p ≡ settled n p
+unfolding settled
+settled-none n p e = rw e
+
+module _ (p : Plant) (i : ℕ) (t : Thread) (at : i ≡ runningIn p) (is : t ≡ threadAt (p .kernel) i) where
+  row : t .call .kind ≡ threadAt (p .kernel) (runningIn p) .call .kind
+  row =
+      ap (λ (u : Thread). u .call .kind) is ∙ ap (λ (j : ℕ). threadAt (p .kernel) j .call .kind) at
+
+  -- the running thread has no unfinished call: settling ends
+  pub settled-quiet : (n : ℕ) → t .call .kind ≡ 0 → p ≡ settled n p
+  unfolding settled
+  settled-quiet zero e = refl
+  settled-quiet (suc n) e =
+      rw (eq-eqb (threadAt (p .kernel) (runningIn p) .call .kind) 0 (sym row ∙ e), settled)
+
+  -- it has one: its call is continued, and settling goes on with one less
+  pub settled-on : (n : ℕ) → (t .call .kind ≡ 0 → ⊥) → (n ≡ 0 → ⊥) → settled (n - 1) (continued p i) ≡ settled n p
+  unfolding settled
+  settled-on zero f g = absurd (g refl)
+  settled-on (suc n) f g =
+      rw (
+        ne-eqb (threadAt (p .kernel) (runningIn p) .call .kind) 0 (λ e. f (row ∙ e)),
+        settled,
+        sub-one (suc n),
+        at,
+      )

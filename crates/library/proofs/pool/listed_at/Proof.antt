@@ -1,0 +1,13 @@
+-- In range the entry is read; past the end there is none, and 0 stands for it.
+use borrow.Author.Needs.{needs}
+use Rattle.kernel.proofs.Lengths.{read-past}
+use Rattle.library.proofs.pool.listed_at.Statement.{statement}
+use Rattle.library.proofs.pool.listed_at.Tie as tie
+
+returns-2 : tie.Need-returns-2
+returns-2 c =
+    let a = c .before .args in
+    read-past (a .t1 .list) 32 (a .i) (search needs) (c .if1 .left) 0
+
+pub listed-at-spec : {M : Type 1} → statement M
+listed-at-spec = tie.close (tie.spec (λ c. search needs) (λ c. search needs) returns-2)

@@ -1,0 +1,44 @@
+-- Settling. "If it has an unfinished call, that call is continued"; "Then the running thread is chosen anew"
+use Prim.Native.Nat.{ℕ, zero, suc}
+use mathlib.Core.Bool.{Bool, true, false, cond, not, _||_}
+use lib.Dec.{eqb}
+use lib.IntN.{pos}
+use Rattle.kernel.specs.declared.records.Thread.{Thread}
+use Rattle.kernel.specs.Tables.{threadAt}
+use Rattle.kernel.specs.Moves.{finished}
+use Rattle.kernel.specs.Waiters.{firstReady}
+use Rattle.library.specs.declared.tables.Plant.{Plant}
+use Rattle.library.specs.Signs.{same}
+use Rattle.library.specs.Mailbox.{postTried, fetchTried}
+use Rattle.library.specs.Pool.{handedOver}
+use Rattle.library.specs.Tables.{withKernel}
+
+-- a mailbox's or a pool's call
+abbrev pub isBoxCall : ℕ → Bool
+isBoxCall kind = eqb kind 15 || (eqb kind 16 || (eqb kind 17 || eqb kind 20))
+
+-- any call but a mailbox's or a pool's with "wake message 0"
+abbrev pub answeredOnly : Thread → Bool
+answeredOnly t = cond (isBoxCall (t .call .kind)) (not (same (t .message) (pos 0))) true
+
+-- "mailbox, wake message 0: the whole mailbox rule is tried again"; "pool, message 0: it takes the top"; "all others answer their wake message with datum 0"
+unfoldable pub continued : Plant → ℕ → Plant
+continued p i =
+    cond (answeredOnly (threadAt (p .kernel) i))
+    (withKernel p (finished (p .kernel) i (threadAt (p .kernel) i .message) 0))
+    (cond (eqb (threadAt (p .kernel) i .call .kind) 17) (fetchTried p i (threadAt (p .kernel) i .call))
+    (cond (eqb (threadAt (p .kernel) i .call .kind) 20) (handedOver p i (threadAt (p .kernel) i .call .object))
+    (postTried p i (threadAt (p .kernel) i .call))))
+
+-- "the running thread is the first ready one, or idle"
+abbrev pub runningIn : Plant → ℕ
+runningIn p = firstReady (p .kernel) (p .sizes .threads)
+
+-- "Settling ends when the running thread has no unfinished call"
+abbrev pub isSettled : Plant → Bool
+isSettled p = eqb (threadAt (p .kernel) (runningIn p) .call .kind) 0
+
+-- with a budget of continuations
+unfoldable pub settled : ℕ → Plant → Plant
+settled zero p = p
+settled (suc n) p = elim (isSettled p) [ true ↦ p | false ↦ settled n (continued p (runningIn p)) ]

@@ -1,0 +1,17 @@
+// Binary semaphores: a semaphore whose signal does nothing once the counter is 1.
+use kernel::records::Kernel;
+use kernel::semaphore::signal;
+use kernel::tables::counter_at;
+ghost use mathlib.Core.Path.{_≡_};
+ghost use Rattle.library.specs.Binary.{binarySignalled};
+
+// As signal if the counter is below 1, else nothing: chBSemSignalI.
+pub fn binary_signal(k: Kernel, n: u16, place: u16) -> Kernel
+    ensures { λ r. ⌜ r ≡ binarySignalled k n place ⌝ }
+{
+    if counter_at(k, place) < 1 {
+        signal(k, n, place)
+    } else {
+        k
+    }
+}

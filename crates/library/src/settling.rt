@@ -1,0 +1,86 @@
+// Settling: while the running thread has an unfinished call, that call is continued and the running thread is chosen anew.
+// `settle` and `continue_call` call each other; the budget is the number that falls.
+use crate::logic::either;
+use crate::mailbox::try_fetch;
+use crate::mailbox::try_post;
+use crate::pool::hand_over;
+use crate::signs::is_same;
+use crate::tables::Plant;
+use crate::tables::set_kernel;
+use kernel::moves::finish;
+use kernel::records::Kernel;
+use kernel::records::Thread;
+use kernel::tables::thread_at;
+use kernel::waiters::first_ready;
+ghost use mathlib.Core.Path.{_≡_};
+ghost use Rattle.kernel.specs.Moves.{finished};
+ghost use Rattle.library.specs.Settling.{isBoxCall, answeredOnly, continued, settled};
+
+// Whether a kind is a mailbox's or a pool's.
+pub fn is_box_call(kind: u16) -> bool
+    ensures { λ r. ⌜ r ≡ isBoxCall kind ⌝ }
+{
+    either(
+        kind == 15,
+        either(kind == 16, either(kind == 17, kind == 20)),
+    )
+}
+
+// Whether the call is answered by its wake message alone: any but a mailbox's or a pool's that was woken with 0.
+fn is_answered_only(t: Thread) -> bool
+    ensures { λ r. ⌜ r ≡ answeredOnly t ⌝ }
+{
+    if is_box_call(t.call.kind) {
+        !is_same(t.message, 0)
+    } else {
+        true
+    }
+}
+
+// Thread i's call answers its wake message, with datum 0.
+fn answer_woken(k: Kernel, i: u8, t: Thread) -> Kernel
+    ensures { λ r. ⌜ r ≡ finished k i (t .message) 0 ⌝ }
+{
+    finish(k, i, t.message, 0)
+}
+
+// Thread i's unfinished call goes on after its waking.
+fn go_on(p: Plant, i: u8) -> Plant
+    ensures { λ r. ⌜ r ≡ continued p i ⌝ }
+{
+    let k = p.kernel;
+    let t = thread_at(k, i);
+    let call = t.call;
+    let kind = call.kind;
+    if is_answered_only(t) {
+        return set_kernel(p, answer_woken(k, i, t));
+    }
+    match kind {
+        17 => try_fetch(p, i, call),
+        20 => hand_over(p, i, call.object),
+        _ => try_post(p, i, call),
+    }
+}
+
+// The plant once the running thread has no unfinished call, or the budget is spent.
+pub fn settle(p: Plant, budget: u16) -> Plant
+    ensures { λ r. ⌜ r ≡ settled budget p ⌝ }
+{
+    if budget == 0 {
+        return p;
+    }
+    let k = p.kernel;
+    let i = first_ready(k, p.sizes.threads);
+    let t = thread_at(k, i);
+    if t.call.kind == 0 {
+        return p;
+    }
+    continue_call(p, i, budget - 1)
+}
+
+// Thread i's call is continued, and settling goes on.
+pub fn continue_call(p: Plant, i: u8, budget: u16) -> Plant
+    ensures { λ r. ⌜ r ≡ settled budget (continued p i) ⌝ }
+{
+    settle(go_on(p, i), budget)
+}
