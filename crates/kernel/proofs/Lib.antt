@@ -4,3 +4,4 @@ pub mod Lengths
 pub mod Signed
 pub mod Loops
 pub mod Products
+pub mod Unique

@@ -2,3 +2,5 @@
 pub mod Signed
 pub mod SettlingLaws
 pub mod Masks
+pub mod HangingLaws
+pub mod Unique

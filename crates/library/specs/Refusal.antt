@@ -6,6 +6,7 @@ use lib.IntN.{pos}
 use lib.Signed.{ltZ}
 use Rattle.kernel.specs.declared.time.SystemTime.{SystemTime}
 use Rattle.kernel.specs.declared.records.Kernel.{Kernel}
+use Rattle.kernel.specs.declared.clock.Clock.{Clock}
 use Rattle.kernel.specs.Numbers.{nobody, immediate, infinite}
 use Rattle.kernel.specs.Time.{differed}
 use Rattle.kernel.specs.Places.{semaphorePlace}
@@ -18,6 +19,7 @@ use Rattle.library.specs.Tables.{poolAt}
 use Rattle.library.specs.Pool.{absent, out, markAt}
 use Rattle.library.specs.Acting.{kernelWaits}
 use Rattle.library.specs.Settling.{isBoxCall}
+use Rattle.library.specs.Hanging.{hangsTogether}
 
 -- 2: "kind not 1 to 22"
 abbrev pub kindFits : ℕ → Bool
@@ -65,3 +67,17 @@ stateFits p s =
     (cond (eqb (s .kind) 9) (eqb (holderAt (p .kernel) (s .object)) nobody)
     (cond (eqb (s .kind) 21) (eqb (markAt (poolAt p (s .object)) (s .a % 256)) out)
     (cond (eqb (s .kind) 22) (eqb (markAt (poolAt p (s .object)) (s .a % 256)) absent) true)))
+
+-- "Refusal numbers, in the order of checking"; 0 is an accepted step
+unfoldable pub refusalOf : Plant → Clock → Step → ℕ
+refusalOf p c s =
+    cond (hangsTogether p c)
+    (cond (kindFits (s .kind))
+    (cond (callerFits (p .kernel) (p .sizes .threads) (s .caller))
+    (cond (contextFits s)
+    (cond (leb (objectLimit (p .sizes) (s .kind)) (s .object)) 5
+    (cond (valueFits (c .time) s) (cond (stateFits p s) 0 7) 6))
+    4)
+    3)
+    2)
+    1

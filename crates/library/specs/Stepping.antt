@@ -12,7 +12,15 @@ use Rattle.kernel.specs.Time.{advanced}
 use Rattle.kernel.specs.Walk.{bit}
 use Rattle.kernel.specs.Tables.{usedRows, threadAt}
 use Rattle.kernel.specs.Waiters.{firstReady}
+use Rattle.library.specs.declared.calls.Step.{Step}
+use Rattle.library.specs.declared.tables.Tables.{Tables}
+use Rattle.library.specs.declared.tables.Plant.{Plant}
 use Rattle.library.specs.declared.stepping.Outcome.{Outcome}
+use Rattle.library.specs.declared.stepping.Stepped.{Stepped}
+use Rattle.library.specs.Tables.{opened, closed}
+use Rattle.library.specs.Acting.{acted}
+use Rattle.library.specs.Settling.{runningIn, settled}
+use Rattle.library.specs.Refusal.{refusalOf}
 
 -- the flags as a word: flag i counts 2 ^ i
 unfoldable pub maskOf : List Bool → ℕ
@@ -47,3 +55,28 @@ clockAfter c kind = cond (eqb kind 1) (record { time = advanced (c .time); frequ
 -- "twice the threads"
 abbrev pub budgetOf : ℕ → ℕ
 budgetOf n = 2 * usedRows n
+
+-- an accepted step that has settled
+unfoldable pub doneWith : Plant → Clock → Step → Stepped
+doneWith p c s =
+    record {
+      tables = closed p;
+      clock = clockAfter c (s .kind);
+      outcome = outcomeOf (p .kernel) (p .sizes .threads) (s .caller);
+    }
+
+-- "the running thread as it stands (255 for 1)"
+abbrev pub runningAtRefusal : Plant → ℕ → ℕ
+runningAtRefusal p code = cond (eqb code 1) nobody (runningIn p)
+
+-- a refused step: "All tables keep their bytes"
+unfoldable pub refusedWith : Tables → Clock → Plant → ℕ → Stepped
+refusedWith t c p code =
+    record { tables = t; clock = c; outcome = refusedOutcome code (runningAtRefusal p code) }
+
+-- one step: "After every accepted step", settling
+unfoldable pub stepped : Tables → Clock → Step → Stepped
+stepped t c s =
+    cond (eqb (refusalOf (opened t) c s) 0)
+    (doneWith (settled (budgetOf (t .sizes .threads)) (acted (opened t) (c .time) s)) c s)
+    (refusedWith t c (opened t) (refusalOf (opened t) c s))

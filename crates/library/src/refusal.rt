@@ -1,6 +1,7 @@
 // The refusals, in document 01's order: the first test that fails gives its number, and 0 is an accepted step.
 use crate::acting::is_kernel_wait;
 use crate::calls::Step;
+use crate::hanging::hangs_together;
 use crate::logic::both;
 use crate::logic::either;
 use crate::numbers::ABSENT;
@@ -10,6 +11,7 @@ use crate::settling::is_box_call;
 use crate::sizes::Sizes;
 use crate::tables::Plant;
 use crate::tables::pool_at;
+use kernel::clock::Clock;
 use kernel::numbers::IMMEDIATE;
 use kernel::numbers::INFINITE;
 use kernel::numbers::NOBODY;
@@ -21,7 +23,7 @@ use kernel::time::SystemTime;
 use kernel::time::difference;
 use kernel::waiters::first_ready;
 ghost use mathlib.Core.Path.{_≡_};
-ghost use Rattle.library.specs.Refusal.{kindFits, callerFits, contextFits, objectLimit, isSpan, valueFits, stateFits};
+ghost use Rattle.library.specs.Refusal.{kindFits, callerFits, contextFits, objectLimit, isSpan, valueFits, stateFits, refusalOf};
 
 // 2: kind not 1 to 22.
 fn kind_fits(kind: u8) -> bool
@@ -117,4 +119,32 @@ fn state_fits(p: Plant, s: Step) -> bool
         22 => mark_at(pool_at(p, object), (s.a % 256) as u8) == ABSENT,
         _ => true,
     }
+}
+
+// The refusal number of a step, or 0.
+pub fn refuse(p: Plant, clock: Clock, s: Step) -> u8
+    ensures { λ r. ⌜ r ≡ refusalOf p clock s ⌝ }
+{
+    if !hangs_together(p, clock) {
+        return 1;
+    }
+    if !kind_fits(s.kind) {
+        return 2;
+    }
+    if !caller_fits(p.kernel, p.sizes.threads, s.caller) {
+        return 3;
+    }
+    if !context_fits(s) {
+        return 4;
+    }
+    if object_limit(p.sizes, s.kind) <= s.object as u16 {
+        return 5;
+    }
+    if !value_fits(clock.time, s) {
+        return 6;
+    }
+    if !state_fits(p, s) {
+        return 7;
+    }
+    0
 }

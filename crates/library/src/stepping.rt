@@ -1,5 +1,12 @@
 // One step: refused with everything as it was, or acted, settled and answered.
+use crate::acting::act;
+use crate::calls::Step;
+use crate::refusal::refuse;
+use crate::settling::settle;
+use crate::tables::Plant;
 use crate::tables::Tables;
+use crate::tables::close;
+use crate::tables::open;
 use kernel::clock::Clock;
 use kernel::clock::advance;
 use kernel::numbers::NOBODY;
@@ -10,7 +17,7 @@ use kernel::tables::used_rows;
 use kernel::waiters::first_ready;
 ghost use mathlib.Core.Path.{_≡_};
 ghost use Rattle.kernel.specs.Walk.{bit};
-ghost use Rattle.library.specs.Stepping.{maskOf, answerOf, outcomeOf, refusedOutcome, clockAfter, budgetOf};
+ghost use Rattle.library.specs.Stepping.{maskOf, answerOf, outcomeOf, refusedOutcome, clockAfter, budgetOf, doneWith, runningAtRefusal, refusedWith, stepped};
 
 // A step's result. The masks have bit i for thread i.
 #[repr(C)]
@@ -113,4 +120,57 @@ fn budget_of(n: u16) -> u16
 {
     let rows = used_rows(n);
     2 * rows as u16
+}
+
+// An accepted step that has settled: its tables, its clock and its result.
+fn end_step(p: Plant, clock: Clock, s: Step) -> Stepped
+    ensures { λ r. ⌜ r ≡ doneWith p clock s ⌝ }
+{
+    let outcome = outcome_of(p.kernel, p.sizes.threads, s.caller);
+    let tables = close(p);
+    let after = clock_after(clock, s.kind);
+    Stepped {
+        tables: tables,
+        clock: after,
+        outcome: outcome,
+    }
+}
+
+// The running thread as it stands; tables that do not hang together have none.
+fn running_at_refusal(p: Plant, code: u8) -> u8
+    ensures { λ r. ⌜ r ≡ runningAtRefusal p code ⌝ }
+{
+    if code == 1 {
+        NOBODY
+    } else {
+        first_ready(p.kernel, p.sizes.threads)
+    }
+}
+
+// A refused step: the very tables and clock that came in.
+fn refuse_step(tables: Tables, clock: Clock, p: Plant, code: u8) -> Stepped
+    ensures { λ r. ⌜ r ≡ refusedWith tables clock p code ⌝ }
+{
+    let running = running_at_refusal(p, code);
+    let outcome = refused_outcome(code, running);
+    Stepped {
+        tables: tables,
+        clock: clock,
+        outcome: outcome,
+    }
+}
+
+// One step of a thread, an interrupt or the tick, on any tables.
+pub fn step(tables: Tables, clock: Clock, s: Step) -> Stepped
+    ensures { λ r. ⌜ r ≡ stepped tables clock s ⌝ }
+{
+    let p = open(tables);
+    let code = refuse(p, clock, s);
+    if code == 0 {
+        let acted = act(p, clock.time, s);
+        let settled = settle(acted, budget_of(p.sizes.threads));
+        end_step(settled, clock, s)
+    } else {
+        refuse_step(tables, clock, p, code)
+    }
 }

@@ -1,0 +1,123 @@
+/* Steps that never sleep. */
+#include "work.h"
+
+static void tick(struct work *w)
+{
+    w->t->clock.time++; /* unsigned: "from 4294967295 to 0" */
+    for (uint32_t i = 0; i < w->t->sizes.threads; i++) {
+        struct thread *th = &w->t->thread[i];
+
+        if (th->remaining > 0) {
+            th->remaining--;
+            if (th->remaining == 0) {
+                time_out(w, i);
+            }
+        }
+    }
+}
+
+/* "Counter becomes a; all waiters are made ready with -2." */
+static void reset_semaphore(struct work *w, const struct step *s)
+{
+    release_all(w, (struct place){ AT_SEMAPHORE, s->object }, MSG_RESET);
+    w->t->semaphore[s->object] = (int32_t)s->a;
+}
+
+/* "As 3 if the counter is below 1, else nothing." */
+static void binary_signal(struct work *w, uint32_t s)
+{
+    if (w->t->semaphore[s] < 1) {
+        signal_at(w, (struct place){ AT_SEMAPHORE, s });
+    }
+}
+
+/* "Resume of an empty reference does nothing." */
+static void resume(struct work *w, uint32_t r, int32_t message)
+{
+    uint32_t holder = w->t->reference[r];
+
+    if (holder != NOBODY) {
+        w->t->reference[r] = NOBODY;
+        make_ready(w, holder, message);
+    }
+}
+
+/* "At the waking, the awaited flags then pending are cleared, are the datum
+   with message 0, and the call is finished." */
+static void signal_events(struct work *w, uint32_t i, uint32_t flags)
+{
+    struct thread *th = &w->t->thread[i];
+    struct answer answer;
+
+    th->pending |= flags;
+    if (th->state == AWAITING_EVENTS
+        && try_events(w, i, th->awaited, &answer)) {
+        make_ready(w, i, MSG_OK);
+        finish(w, i, answer);
+    }
+}
+
+/* "Reset empties, returns both places to 0, sets reset state and releases
+   both queues with -2." */
+static void reset_mailbox(struct work *w, uint32_t m)
+{
+    struct mailbox *box = &w->t->mailbox[m];
+
+    box->count = 0;
+    box->read = 0;
+    box->write = 0;
+    box->reset = 1;
+    release_all(w, (struct place){ AT_WRITERS, m }, MSG_RESET);
+    release_all(w, (struct place){ AT_READERS, m }, MSG_RESET);
+}
+
+/* "Free and add put the object on top and signal." */
+static void give_object(struct work *w, uint32_t p, uint32_t object)
+{
+    struct pool *pool = &w->t->pool[p];
+
+    pool->list[pool->length++] = object;
+    pool->mark[object] = FREE;
+    signal_at(w, (struct place){ AT_POOL, p });
+}
+
+void act(struct work *w, const struct step *s)
+{
+    struct place queue = { AT_QUEUE, s->object };
+
+    switch (s->kind) {
+    case TICK:
+        tick(w);
+        break;
+    case SIGNAL:
+        signal_at(w, (struct place){ AT_SEMAPHORE, s->object });
+        break;
+    case SEMAPHORE_RESET:
+        reset_semaphore(w, s);
+        break;
+    case BINARY_SIGNAL:
+        binary_signal(w, s->object);
+        break;
+    case RELEASE_FIRST:
+        release_first(w, queue, as_message(s->a));
+        break;
+    case RELEASE_ALL:
+        release_all(w, queue, as_message(s->a));
+        break;
+    case RESUME:
+        resume(w, s->object, as_message(s->a));
+        break;
+    case EVENT_SIGNAL:
+        signal_events(w, s->object, s->a);
+        break;
+    case MAILBOX_RESET:
+        reset_mailbox(w, s->object);
+        break;
+    case MAILBOX_RESUME:
+        w->t->mailbox[s->object].reset = 0;
+        break;
+    default: /* free and add */
+        give_object(w, s->object, s->a);
+        break;
+    }
+}

@@ -1,0 +1,133 @@
+#!/bin/sh
+# The programs' own behaviour: check.sh DIRECTORY-OF-THE-PROGRAMS
+out=$1
+failed=0
+dir=$(mktemp -d) || exit 1
+trap 'rm -rf "$dir"' EXIT
+
+# same NAME: compares what was printed with what was expected
+same() {
+    if ! cmp -s "$dir/got" "$dir/want"; then
+        echo "check.sh: $1: another output"
+        diff "$dir/want" "$dir/got" | head -20
+        failed=1
+    fi
+}
+
+# status NAME WANTED GOT
+status() {
+    if [ "$2" -ne "$3" ]; then
+        echo "check.sh: $1: exit status $3, not $2"
+        failed=1
+    fi
+}
+
+# Document 01's example: sizes 02 01 00 00 00 00 and six steps.
+step=$(printf '\\000\\013')
+{
+    printf '\001\000\006\002\001\000\000\000\000'
+    printf "$step"'\002\000\000\000\000\000\000\000\000\000\003'
+    printf "$step"'\003\001\000\000\000\000\000\000\000\000\000'
+    printf "$step"'\002\000\000\000\000\000\000\000\000\000\002'
+    printf "$step"'\001\377\000\000\000\000\000\000\000\000\000'
+    printf "$step"'\001\377\000\000\000\000\000\000\000\000\000'
+    printf "$step"'\003\001\000\000\000\000\000\000\000\000\000'
+} > "$dir/six"
+cat > "$dir/want" <<'END'
+step code run woke done
+1 0 1 0 0
+2 0 0 1 3
+3 0 1 0 0
+4 0 1 0 0
+5 0 0 1 1
+6 3 0 0 0
+END
+"$out/second" "$dir/six" > "$dir/got"
+status 'six lines' 0 $?
+same 'six lines'
+"$out/second" < "$dir/six" > "$dir/got"
+same 'six lines from standard input'
+
+# The same, cut inside record 2.
+head -c 24 "$dir/six" > "$dir/cut"
+printf 'step code run woke done\n1 0 1 0 0\nstopped 2 12\n' > "$dir/want"
+"$out/second" "$dir/cut" > "$dir/got"
+status 'cut short' 0 $?
+same 'cut short'
+
+# The heading is printed always.
+printf 'step code run woke done\nstopped 0 11\n' > "$dir/want"
+"$out/second" < /dev/null > "$dir/got"
+same 'empty'
+printf 'step code run woke done\nstopped 0 15\n' > "$dir/want"
+head -c 60001 /dev/zero | "$out/second" > "$dir/got"
+same 'too long'
+printf 'step code run woke done\nstopped 0 11\n' > "$dir/want"
+head -c 60000 /dev/zero | "$out/second" > "$dir/got"
+same 'not too long, but another version'
+
+# All tables: one thread, semaphore, queue, reference, mailbox of 2, pool.
+{
+    printf '\001\000\007\001\001\001\001\001\001\002'
+    printf "$step"'\026\377\000\000\000\000\005\000\000\000\000'
+    printf "$step"'\017\000\000\377\377\377\371\000\000\000\000'
+    printf "$step"'\015\000\001\000\000\000\001\000\000\000\000'
+    printf "$step"'\016\000\000\377\377\377\377\377\377\377\376'
+} > "$dir/all"
+rows() {
+    echo "semaphore 0 0"
+    echo "queue 0 0"
+    echo "reference 0 255"
+    echo "mailbox 0 $1"
+    echo "pool 0 1 1 5"
+    echo "marks 0 0 0 0 0 0 1 0 0 0 0 0 0 0 0 0 0 0 0 0 0 0 0 0 0 0 0 0 0" \
+         "0 0 0 0"
+    echo "clock 0 1000"
+}
+{
+    printf 'step code run woke done\n1 0 0 0 0\nanswer 0 0\n'
+    echo 'thread 0 0 - 0 0 0 0 0 0 0 0 0 0'
+    rows '0 0 0 0 0 0 0 0'
+    printf '2 0 0 0 1\nanswer 0 0\n'
+    echo 'thread 0 0 - 0 0 0 0 0 0 0 0 0 0'
+    rows '0 1 1 0 0 0 -7 0'
+    printf '3 5 0 0 0\nanswer 0 0\n'
+    echo 'thread 0 0 - 0 0 0 0 0 0 0 0 0 0'
+    rows '0 1 1 0 0 0 -7 0'
+    printf '4 0 255 0 0\nanswer 0 0\n'
+    echo 'thread 0 4 - 4294967294 0 4294967295 0 14 0 4294967295 4294967294' \
+         '0 0'
+    rows '0 1 1 0 0 0 -7 0'
+} > "$dir/want"
+"$out/second" --tables "$dir/all" > "$dir/got"
+status 'all tables' 0 $?
+same 'all tables'
+
+# No listing without a readable file; a clear message instead.
+: > "$dir/want"
+for file in "$dir/missing" "$dir"; do
+    "$out/second" "$file" > "$dir/got" 2> "$dir/message"
+    status "unreadable $file" 1 $?
+    same "unreadable $file"
+    [ -s "$dir/message" ] || { echo "check.sh: no message"; failed=1; }
+done
+"$out/second" --wrong > "$dir/got" 2> /dev/null
+status 'wrong option' 2 $?
+same 'wrong option'
+"$out/second" one two > "$dir/got" 2> /dev/null
+status 'two files' 2 $?
+"$out/second" --help > "$dir/got"
+status 'help' 0 $?
+grep -q '^usage: second' "$dir/got" || { echo "check.sh: no usage"; failed=1; }
+
+# The generator: the same bytes for a seed, wrong usage refused.
+"$out/generate" 42 > "$dir/got" && "$out/generate" 42 > "$dir/want"
+status 'generate' 0 $?
+same 'generate'
+"$out/generate" 1 nonsense > /dev/null 2>&1
+status 'generate nonsense' 2 $?
+"$out/generate" -1 > /dev/null 2>&1
+status 'generate -1' 2 $?
+
+[ "$failed" -eq 0 ] && echo "check.sh: all as expected"
+exit "$failed"

@@ -1,0 +1,525 @@
+/*
+ * Choosing the next step. No expression asks for two random numbers in an
+ * order that C leaves open: the trace must be the same on every machine.
+ */
+#include "director.h"
+
+enum { TRIES = 12, SHORT_TICKS = 6 };
+
+struct kinds {
+    uint32_t number;
+    uint8_t kind[5];
+};
+
+/* The kinds that wait at an object of each family, and those that wake. */
+static const struct kinds WAITS[FAMILIES] = {
+    { 1, { SEMAPHORE_WAIT } },
+    { 1, { QUEUE_WAIT } },
+    { 1, { SUSPEND } },
+    { 1, { EVENT_WAIT } },
+    { 3, { POST, POST_AHEAD, FETCH } },
+    { 1, { POOL_ALLOC } },
+    { 2, { SLEEP_FOR, SLEEP_UNTIL } }
+};
+
+static const struct kinds WAKES[FAMILIES] = {
+    { 4, { SIGNAL, SIGNAL, BINARY_SIGNAL, SEMAPHORE_RESET } },
+    { 3, { RELEASE_FIRST, RELEASE_FIRST, RELEASE_ALL } },
+    { 1, { RESUME } },
+    { 1, { EVENT_SIGNAL } },
+    { 5, { POST, POST_AHEAD, FETCH, FETCH, MAILBOX_RESET } },
+    { 3, { POOL_FREE, POOL_FREE, POOL_ADD } },
+    { 1, { TICK } }
+};
+
+uint32_t family_size(const struct sizes *z, uint32_t family)
+{
+    switch (family) {
+    case SEMAPHORES:
+        return z->semaphores;
+    case QUEUES:
+        return z->queues;
+    case REFERENCES:
+        return z->references;
+    case EVENTS:
+        return z->threads;
+    case MAILBOXES:
+        return z->mailboxes;
+    case POOLS:
+        return z->pools;
+    default:
+        return 1; /* sleeps need no object */
+    }
+}
+
+static uint32_t family_of_kind(uint32_t kind)
+{
+    static const uint8_t family[POOL_ADD + 1] = {
+        SLEEPS, SLEEPS, SEMAPHORES, SEMAPHORES, SEMAPHORES, SEMAPHORES,
+        QUEUES, QUEUES, QUEUES, REFERENCES, REFERENCES, SLEEPS, SLEEPS,
+        EVENTS, EVENTS, MAILBOXES, MAILBOXES, MAILBOXES, MAILBOXES,
+        MAILBOXES, POOLS, POOLS, POOLS
+    };
+
+    return family[kind];
+}
+
+static uint32_t one_of(struct random *r, const struct kinds *from)
+{
+    return from->kind[random_below(r, from->number)];
+}
+
+/* ---- operands --------------------------------------------------------- */
+
+static uint32_t some_edge(struct random *r)
+{
+    static const uint32_t edge[] = {
+        0, 1, 2, 31, 32, 33, UINT32_C(0x7ffffffe), UINT32_C(0x7fffffff),
+        UINT32_C(0x80000000), UINT32_C(0x80000001), UINT32_C(0xfffffffd),
+        UINT32_C(0xfffffffe), UINT32_C(0xffffffff)
+    };
+
+    return edge[random_below(r, sizeof edge / sizeof edge[0])];
+}
+
+static uint32_t some_message(struct random *r)
+{
+    switch (random_below(r, 6)) {
+    case 0:
+        return MSG_OK;
+    case 1:
+        return (uint32_t)MSG_TIMEOUT;
+    case 2:
+        return (uint32_t)MSG_RESET;
+    case 3:
+        return some_edge(r);
+    case 4:
+        return random_word(r);
+    default:
+        return random_between(r, 1, 99);
+    }
+}
+
+/* Few flags, so that masks and signals meet often. */
+static uint32_t some_flags(struct random *r)
+{
+    if (random_chance(r, 8)) {
+        return random_chance(r, 50) ? random_word(r) : UINT32_MAX;
+    }
+    return random_between(r, 1, 15);
+}
+
+static uint32_t some_timeout(struct random *r)
+{
+    switch (random_below(r, 10)) {
+    case 0:
+    case 1:
+        return INFINITE;
+    case 2:
+        return IMMEDIATE;
+    case 3:
+        return random_chance(r, 30) ? some_edge(r) : random_between(r, 1, 40);
+    default:
+        return random_between(r, 1, SHORT_TICKS);
+    }
+}
+
+/* Mostly soon; at times past, so late in the wrapped range; at times now or
+   one tick ago, which refusal 6 forbids. */
+static uint32_t some_time(struct random *r, uint32_t now)
+{
+    switch (random_below(r, 10)) {
+    case 0:
+        return now - random_between(r, 0, 4);
+    case 1:
+        return now + some_edge(r);
+    case 2:
+        return random_word(r);
+    default:
+        return now + random_between(r, 1, SHORT_TICKS);
+    }
+}
+
+/* An object of the pool with the mark wanted, from a random place on; any
+   number where there is none. */
+static uint32_t some_marked(struct random *r, const struct pool *p,
+                            uint32_t mark)
+{
+    uint32_t start = random_below(r, random_chance(r, 70) ? 4 : POOL_OBJECTS);
+
+    for (uint32_t k = 0; k < POOL_OBJECTS; k++) {
+        uint32_t n = (start + k) % POOL_OBJECTS;
+
+        if (p->mark[n] == mark) {
+            return n;
+        }
+    }
+    return start;
+}
+
+/* Low counters keep waiters coming; the highest is there for refusal 7. */
+static uint32_t some_counter(struct random *r)
+{
+    if (random_chance(r, 6)) {
+        return UINT32_C(0x7fffffff) - random_below(r, 2);
+    }
+    return random_below(r, 3);
+}
+
+static uint32_t some_operand(struct random *r, const struct tables *t,
+                             const struct step *s)
+{
+    switch (s->kind) {
+    case SEMAPHORE_RESET:
+        return some_counter(r);
+    case RELEASE_FIRST:
+    case RELEASE_ALL:
+    case RESUME:
+    case POST:
+    case POST_AHEAD:
+        return some_message(r);
+    case SLEEP_UNTIL:
+        return some_time(r, t->clock.time);
+    case EVENT_SIGNAL:
+    case EVENT_WAIT:
+        return some_flags(r);
+    case POOL_FREE:
+        return s->object < t->sizes.pools
+            ? some_marked(r, &t->pool[s->object], OUT) : 0;
+    case POOL_ADD:
+        return s->object < t->sizes.pools
+            ? some_marked(r, &t->pool[s->object], ABSENT) : 0;
+    default: /* unused, and so to be ignored */
+        return random_chance(r, 50) ? 0 : random_word(r);
+    }
+}
+
+/* ---- steps of each mood ----------------------------------------------- */
+
+static bool needs_immediate(uint32_t kind)
+{
+    return kind == POST || kind == POST_AHEAD || kind == FETCH
+        || kind == POOL_ALLOC;
+}
+
+static struct step complete(struct director *d, const struct tables *t,
+                            uint32_t kind, uint32_t caller, uint32_t timeout)
+{
+    uint32_t family = family_of_kind(kind);
+    uint32_t size = family_size(&t->sizes, family);
+    struct step s = { (uint8_t)kind, (uint8_t)caller, 0, 0, timeout };
+
+    if (family == d->family && random_chance(d->random, 85)) {
+        s.object = (uint8_t)d->object;
+    } else if (size > 0) {
+        s.object = (uint8_t)random_below(d->random, size);
+    }
+    if (caller == INTERRUPT && needs_immediate(kind)) {
+        s.timeout = IMMEDIATE;
+    }
+    s.a = some_operand(d->random, t, &s);
+    return s;
+}
+
+/* A running thread when there is one and the dice say so, or an interrupt. */
+static uint32_t some_caller(struct director *d, const struct tables *t,
+                            uint32_t thread_percent)
+{
+    uint32_t running = running_thread(t);
+
+    return random_chance(d->random, thread_percent) ? running : INTERRUPT;
+}
+
+/* The running thread comes to wait too; references hold one each, so theirs
+   are chosen anew. */
+static struct step gather_step(struct director *d, const struct tables *t)
+{
+    uint32_t timeout = random_chance(d->random, 70)
+        ? d->timeout : some_timeout(d->random);
+
+    if (d->family == REFERENCES) {
+        d->object = random_below(d->random, t->sizes.references);
+    }
+    return complete(d, t, d->wait_kind, running_thread(t), timeout);
+}
+
+/* A mailbox in reset state is mostly brought back first: else its calls all
+   answer -2 and nothing blocks. */
+static struct step serve_step(struct director *d, const struct tables *t,
+                              uint32_t thread_percent)
+{
+    uint32_t kind = one_of(d->random, &WAKES[d->family]);
+    uint32_t caller = some_caller(d, t, thread_percent);
+
+    if (d->family == MAILBOXES && t->mailbox[d->object].reset != 0
+        && random_chance(d->random, 60)) {
+        kind = MAILBOX_RESUME;
+    } else if (kind == MAILBOX_RESET && random_chance(d->random, 60)) {
+        kind = FETCH;
+    }
+    return complete(d, t, kind, kind == TICK ? INTERRUPT : caller,
+                    some_timeout(d->random));
+}
+
+static bool someone_woken(const struct tables *t, uint32_t kind, uint32_t m)
+{
+    for (uint32_t i = 0; i < t->sizes.threads; i++) {
+        const struct thread *th = &t->thread[i];
+
+        if (th->state == READY && th->call.kind == kind
+            && th->call.object == m) {
+            return true;
+        }
+    }
+    return false;
+}
+
+/* The three moves that rob a mailbox call: have it woken, take the message or
+   the room it was woken for, and make way, so that it finds nothing. */
+static uint32_t robbing_move(const struct tables *t, uint32_t m)
+{
+    const struct mailbox *box = &t->mailbox[m];
+
+    if (someone_woken(t, FETCH, m)) {
+        return box->count > 0 ? FETCH : SLEEP_FOR;
+    }
+    if (someone_woken(t, POST, m) || someone_woken(t, POST_AHEAD, m)) {
+        return box->count < t->sizes.slots[m] ? POST : SLEEP_FOR;
+    }
+    return box->readers < 0 ? POST : FETCH;
+}
+
+/* The running thread takes and gives without waiting, while woken ones of
+   lower priority have not come to run yet. */
+static struct step rob_step(struct director *d, const struct tables *t)
+{
+    uint32_t kind;
+
+    if (d->family == MAILBOXES && random_chance(d->random, 60)) {
+        kind = robbing_move(t, d->object);
+        return complete(d, t, kind, running_thread(t),
+                        kind == SLEEP_FOR ? d->timeout : IMMEDIATE);
+    }
+    if (random_chance(d->random, 45)) {
+        return serve_step(d, t, 85);
+    }
+    kind = one_of(d->random, &WAITS[d->family]);
+    return complete(d, t, kind, running_thread(t),
+                    random_chance(d->random, 70) ? IMMEDIATE : d->timeout);
+}
+
+static struct step clock_step(struct director *d, const struct tables *t)
+{
+    if (random_chance(d->random, 55)) {
+        return complete(d, t, TICK, INTERRUPT, IMMEDIATE);
+    }
+    return serve_step(d, t, 30);
+}
+
+static struct step mixed_step(struct director *d, const struct tables *t)
+{
+    uint32_t kind = random_between(d->random, TICK, POOL_ADD);
+    uint32_t caller = some_caller(d, t, 70);
+
+    return complete(d, t, kind, caller, some_timeout(d->random));
+}
+
+static struct step mood_step(struct director *d, const struct tables *t)
+{
+    switch (d->mood) {
+    case GATHER:
+        return gather_step(d, t);
+    case SERVE:
+        return serve_step(d, t, 35);
+    case ROB:
+        return rob_step(d, t);
+    case CLOCK:
+        return clock_step(d, t);
+    default:
+        return mixed_step(d, t);
+    }
+}
+
+/* ---- moods ------------------------------------------------------------ */
+
+static uint32_t some_family(struct director *d, const struct sizes *z)
+{
+    uint32_t family = random_below(d->random, FAMILIES);
+
+    if (d->focus < FAMILIES && random_chance(d->random, 75)) {
+        family = d->focus;
+    }
+    return family_size(z, family) > 0 ? family : SLEEPS;
+}
+
+/* Low numbers are preferred, so that moods come back to the same object. */
+static uint32_t some_object(struct random *r, uint32_t size)
+{
+    uint32_t one = random_below(r, size);
+    uint32_t other = random_below(r, size);
+
+    return one < other ? one : other;
+}
+
+static uint32_t some_mood(struct director *d, const struct tables *t)
+{
+    static const uint8_t running[] = {
+        GATHER, GATHER, GATHER, GATHER, SERVE, ROB, ROB, ROB, CLOCK, MIX
+    };
+    static const uint8_t idle[] = { SERVE, SERVE, SERVE, CLOCK, MIX };
+
+    return running_thread(t) == IDLE
+        ? idle[random_below(d->random, sizeof idle)]
+        : running[random_below(d->random, sizeof running)];
+}
+
+/* A mailbox makes threads wait only when empty or full: mostly the side is
+   taken that is nearer to waiting. */
+static uint32_t some_wait(struct director *d, const struct tables *t)
+{
+    if (d->family == MAILBOXES && random_chance(d->random, 70)) {
+        uint32_t count = t->mailbox[d->object].count;
+
+        return 2 * count > t->sizes.slots[d->object] ? POST : FETCH;
+    }
+    return one_of(d->random, &WAITS[d->family]);
+}
+
+/* Half of the time the object stays, so that what has gathered is served. */
+static void change_mood(struct director *d, const struct tables *t)
+{
+    d->mood = some_mood(d, t);
+    d->left = random_between(d->random, 1, t->sizes.threads + 3);
+    if (random_chance(d->random, 50)) {
+        d->family = some_family(d, &t->sizes);
+        d->object = some_object(d->random, family_size(&t->sizes, d->family));
+    }
+    d->wait_kind = some_wait(d, t);
+    d->timeout = random_chance(d->random, 25)
+        ? INFINITE : random_between(d->random, 1, SHORT_TICKS);
+}
+
+/* ---- wild steps ------------------------------------------------------- */
+
+static void spoil_field(struct random *r, struct step *s)
+{
+    switch (random_below(r, 5)) {
+    case 0:
+        s->kind = (uint8_t)(random_chance(r, 70) ? random_below(r, 25)
+                                                 : random_below(r, 256));
+        break;
+    case 1:
+        s->caller = (uint8_t)(random_chance(r, 50) ? INTERRUPT
+                                                   : random_below(r, 18));
+        break;
+    case 2:
+        s->object = (uint8_t)(random_chance(r, 70) ? random_below(r, 20)
+                                                   : random_below(r, 256));
+        break;
+    case 3:
+        s->a = random_chance(r, 70) ? some_edge(r) : random_word(r);
+        break;
+    default:
+        s->timeout = random_chance(r, 70) ? some_edge(r) : random_word(r);
+        break;
+    }
+}
+
+static uint32_t highest_semaphore(const struct tables *t)
+{
+    uint32_t highest = 0;
+
+    for (uint32_t s = 1; s < t->sizes.semaphores; s++) {
+        if (t->semaphore[s] > t->semaphore[highest]) {
+            highest = s;
+        }
+    }
+    return highest;
+}
+
+/* A value for refusal 6 or 7, where the kind has one. */
+static void almost_right(struct random *r, const struct tables *t,
+                         struct step *s)
+{
+    switch (s->kind) {
+    case SIGNAL:
+        s->object = (uint8_t)highest_semaphore(t);
+        break;
+    case SEMAPHORE_RESET:
+        s->a = UINT32_C(0x80000000) + random_below(r, 2);
+        break;
+    case SLEEP_FOR:
+        s->timeout = random_chance(r, 50) ? IMMEDIATE : INFINITE;
+        break;
+    case SLEEP_UNTIL:
+        s->a = t->clock.time - random_below(r, 3);
+        break;
+    case EVENT_WAIT:
+        s->a = random_below(r, 2);
+        break;
+    case POOL_FREE:
+    case POOL_ADD:
+        s->a = random_below(r, POOL_OBJECTS + 2);
+        break;
+    default:
+        break;
+    }
+}
+
+/* From a step that is only not tried, over one almost right or with a field
+   or two spoilt, to nothing but random bytes. */
+static struct step wild_step(struct director *d, const struct tables *t)
+{
+    struct step s = random_chance(d->random, 50) ? mixed_step(d, t)
+                                                 : mood_step(d, t);
+    uint32_t spoils = random_below(d->random, 5);
+
+    if (random_chance(d->random, 50)) {
+        almost_right(d->random, t, &s);
+    }
+    if (spoils == 4) {
+        spoils = 25;
+    }
+    while (spoils-- > 0) {
+        spoil_field(d->random, &s);
+    }
+    return s;
+}
+
+/* ---- the director ----------------------------------------------------- */
+
+struct director new_director(struct random *random, uint32_t focus,
+                             uint32_t wild_percent)
+{
+    struct director d = { 0 };
+
+    d.random = random;
+    d.focus = focus;
+    d.wild_percent = wild_percent;
+    d.family = SLEEPS;
+    d.wait_kind = SLEEP_FOR;
+    d.timeout = 1;
+    return d;
+}
+
+struct step next_step(struct director *d, const struct tables *t)
+{
+    bool stuck = running_thread(t) == IDLE
+        && (d->mood == GATHER || d->mood == ROB);
+
+    if (d->left == 0 || stuck) {
+        change_mood(d, t);
+    }
+    d->left--;
+    if (random_chance(d->random, d->wild_percent)) {
+        return wild_step(d, t);
+    }
+    for (uint32_t k = 0; k < TRIES; k++) {
+        struct step s = mood_step(d, t);
+
+        if (refusal_of(t, &s) == ACCEPTED) {
+            return s;
+        }
+    }
+    return complete(d, t, TICK, INTERRUPT, IMMEDIATE);
+}

@@ -1,0 +1,79 @@
+/* One step: its refusal or effect, settling, and its result. */
+#include "work.h"
+
+/* "The running thread is the first ready one, or idle." */
+uint32_t running_thread(const struct tables *t)
+{
+    for (uint32_t i = 0; i < t->sizes.threads && i < MAX_THREADS; i++) {
+        if (t->thread[i].state == READY) {
+            return i;
+        }
+    }
+    return IDLE;
+}
+
+/* "The falling number is the budget of twice the threads." */
+uint32_t settling_budget(const struct tables *t)
+{
+    return 2 * t->sizes.threads;
+}
+
+/* "Then the running thread is chosen anew. ... Settling ends when the running
+   thread has no unfinished call." Should the budget ever run out, settling
+   stops there, and the next step finds the running thread with an unfinished
+   call: refusal 1. Returns how many calls were continued. */
+static uint32_t settle(struct work *w)
+{
+    uint32_t continued = 0;
+
+    while (continued < settling_budget(w->t)) {
+        uint32_t i = running_thread(w->t);
+
+        if (i == IDLE || w->t->thread[i].call.kind == 0) {
+            break;
+        }
+        continue_call(w, i);
+        continued++;
+    }
+    return continued;
+}
+
+/* "A refused step returns its number, the running thread as it stands (255
+   for 1), masks 0, message 0, datum 0." */
+static struct result refused(const struct tables *t, uint32_t code)
+{
+    struct result r = { 0 };
+
+    r.code = code;
+    r.running = code == BROKEN_TABLES ? IDLE : running_thread(t);
+    return r;
+}
+
+struct result do_step(struct tables *t, const struct step *s)
+{
+    struct work w = { t, 0, 0 };
+    struct answer answer = { MSG_OK, 0 };
+    struct result r = { 0 };
+    bool answered = true;
+    uint32_t code = refusal_of(t, s);
+
+    if (code != ACCEPTED) {
+        return refused(t, code);
+    }
+    if (may_sleep(s->kind)) {
+        answered = make_call(&w, s, &answer);
+    } else {
+        act(&w, s);
+    }
+    if (answered && s->caller != INTERRUPT) {
+        finish(&w, s->caller, answer);
+    }
+    r.continued = settle(&w);
+    r.running = running_thread(t);
+    r.woken = w.woken;
+    r.finished = w.finished;
+    /* A sleeping caller's last answer is 0 and 0 until its call finishes,
+       which may be in this very step: so it is the result's in every case. */
+    r.answer = s->caller == INTERRUPT ? answer : t->thread[s->caller].last;
+    return r;
+}

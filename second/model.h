@@ -1,0 +1,202 @@
+/*
+ * The kernel model, read from document 01: tables, steps, results.
+ *
+ * Every value in the tables is a plain 32-bit integer, so that damaged tables
+ * can be written down too: refusal 1 is a test on values, never on types.
+ * There is no padding, so two tables are equal exactly if memcmp says so.
+ */
+#ifndef MODEL_H
+#define MODEL_H
+
+#include <stdbool.h>
+#include <stdint.h>
+
+/* "Sizes": the upper limits. The lower ones are 0, but 1 for threads and
+   slots. */
+enum {
+    MAX_THREADS = 16,
+    MAX_SEMAPHORES = 16,
+    MAX_QUEUES = 8,
+    MAX_REFERENCES = 8,
+    MAX_MAILBOXES = 4,
+    MAX_SLOTS = 16,
+    MAX_POOLS = 4,
+    POOL_OBJECTS = 32 /* "object numbers 0 to 31" */
+};
+
+/* 255 is idle among threads, an interrupt among callers, and nobody in an
+   empty reference. */
+enum { IDLE = 255, INTERRUPT = 255, NOBODY = 255 };
+
+/* "OK 0, TIMEOUT -1, RESET -2." */
+enum { MSG_OK = 0, MSG_TIMEOUT = -1, MSG_RESET = -2 };
+
+/* "Interval 0 is immediate, 4294967295 infinite, 4294967294 the longest." */
+#define IMMEDIATE UINT32_C(0)
+#define INFINITE UINT32_C(4294967295)
+#define LONGEST UINT32_C(4294967294)
+
+#define DEFAULT_FREQUENCY UINT32_C(1000)
+#define MAX_FREQUENCY UINT32_C(1000000)
+
+enum state { READY, SLEEPING, SUSPENDED, QUEUED, AWAITING_EVENTS };
+
+enum place_tag {
+    NOWHERE,
+    AT_SEMAPHORE,
+    AT_QUEUE,
+    AT_REFERENCE,
+    AT_WRITERS, /* of a mailbox */
+    AT_READERS, /* of a mailbox */
+    AT_POOL
+};
+
+enum mark { ABSENT, FREE, OUT };
+
+enum kind {
+    TICK = 1,
+    SEMAPHORE_WAIT = 2,
+    SIGNAL = 3,
+    SEMAPHORE_RESET = 4,
+    BINARY_SIGNAL = 5,
+    QUEUE_WAIT = 6,
+    RELEASE_FIRST = 7,
+    RELEASE_ALL = 8,
+    SUSPEND = 9,
+    RESUME = 10,
+    SLEEP_FOR = 11,
+    SLEEP_UNTIL = 12,
+    EVENT_SIGNAL = 13,
+    EVENT_WAIT = 14,
+    POST = 15,
+    POST_AHEAD = 16,
+    FETCH = 17,
+    MAILBOX_RESET = 18,
+    MAILBOX_RESUME = 19,
+    POOL_ALLOC = 20,
+    POOL_FREE = 21,
+    POOL_ADD = 22
+};
+
+/* Refusal numbers of steps, of fresh tables and of conversions. */
+enum refusal {
+    ACCEPTED = 0,
+    BROKEN_TABLES = 1,
+    BAD_KIND = 2,
+    BAD_CALLER = 3,
+    BAD_CONTEXT = 4,
+    BAD_OBJECT = 5,
+    BAD_VALUE = 6,
+    BAD_MOMENT = 7,
+    BAD_SIZE = 14
+};
+
+struct sizes {
+    uint32_t threads;
+    uint32_t semaphores;
+    uint32_t queues;
+    uint32_t references;
+    uint32_t mailboxes;
+    uint32_t pools;
+    uint32_t slots[MAX_MAILBOXES];
+};
+
+/* Where a thread waits. The index means nothing beside NOWHERE. */
+struct place {
+    uint32_t tag;
+    uint32_t index;
+};
+
+/* An unfinished call; all 0 without one. */
+struct call {
+    uint32_t kind;
+    uint32_t object;
+    uint32_t operand;
+    uint32_t timeout; /* the full one */
+};
+
+struct answer {
+    int32_t message;
+    uint32_t datum;
+};
+
+struct thread {
+    uint32_t state;
+    struct place place;
+    uint32_t remaining;
+    uint32_t pending;
+    uint32_t awaited;
+    int32_t wake_message;
+    struct call call;
+    struct answer last;
+};
+
+struct mailbox {
+    uint32_t read;
+    uint32_t write;
+    uint32_t count;
+    uint32_t reset; /* any value but 0 is the reset state */
+    int32_t writers;
+    int32_t readers;
+    int32_t slot[MAX_SLOTS];
+};
+
+struct pool {
+    int32_t counter;
+    uint32_t length;
+    uint32_t list[POOL_OBJECTS]; /* the top is the last used place */
+    uint32_t mark[POOL_OBJECTS];
+};
+
+struct system_clock {
+    uint32_t time;
+    uint32_t frequency;
+};
+
+struct tables {
+    struct sizes sizes;
+    struct thread thread[MAX_THREADS];
+    int32_t semaphore[MAX_SEMAPHORES];
+    int32_t queue[MAX_QUEUES];
+    uint32_t reference[MAX_REFERENCES];
+    struct mailbox mailbox[MAX_MAILBOXES];
+    struct pool pool[MAX_POOLS];
+    struct system_clock clock;
+};
+
+struct step {
+    uint8_t kind;
+    uint8_t caller;
+    uint8_t object;
+    uint32_t a;
+    uint32_t timeout;
+};
+
+struct result {
+    uint32_t code;
+    uint32_t running;
+    uint32_t woken;
+    uint32_t finished;
+    struct answer answer;
+    uint32_t continued; /* not the paper's: calls continued while settling */
+};
+
+/* tables.c */
+bool sizes_in_limits(const struct sizes *sizes);
+/* Without a frequency (NULL) it is 1000. Refused with 14 for a size, then 6
+   for the frequency; the tables are then left alone. */
+uint32_t fresh_tables(struct tables *t, const struct sizes *sizes,
+                      const uint32_t *frequency);
+
+/* hang.c: safe on tables of any values. */
+bool tables_hang_together(const struct tables *t);
+
+/* refuse.c: the number that the step is refused with, or 0. */
+uint32_t refusal_of(const struct tables *t, const struct step *s);
+
+/* model.c */
+uint32_t running_thread(const struct tables *t);
+uint32_t settling_budget(const struct tables *t);
+struct result do_step(struct tables *t, const struct step *s);
+
+#endif

@@ -1,0 +1,168 @@
+/*
+ * The shake: shake COUNT [SEED]. Random steps on tables of which a random
+ * value is changed now and then, so that the model meets tables no trace
+ * leads to. Asserted:
+ *   - where the change breaks the tables, a step is refused with 1, running
+ *     is 255 and every byte is kept; the change is then taken back;
+ *   - where it does not, it stays (but for a size's, since the director has
+ *     an object in mind), and "accepted steps keep it so".
+ */
+#include "director.h"
+
+#include <inttypes.h>
+#include <stddef.h>
+#include <stdio.h>
+#include <stdlib.h>
+#include <string.h>
+
+enum {
+    STEPS = 150,
+    CHANGES = 12,
+    WORD = sizeof(uint32_t),
+    FIRST = offsetof(struct tables, thread) / WORD /* word after the sizes */
+};
+
+static struct {
+    uint64_t accepted;
+    uint64_t refused;
+    uint64_t kept;
+    uint64_t broken;
+    uint32_t most_continued;
+} seen;
+
+static void expect(bool fine, uint64_t seed, uint32_t step, const char *what)
+{
+    if (!fine) {
+        printf("seed %" PRIu64 " step %" PRIu32 ": %s\n", seed, step, what);
+        exit(1);
+    }
+}
+
+/* The tables are words throughout, so a word's number names a value. */
+static uint32_t get_word(const struct tables *t, size_t number)
+{
+    uint32_t word;
+
+    memcpy(&word, (const char *)t + number * WORD, WORD);
+    return word;
+}
+
+static void set_word(struct tables *t, size_t number, uint32_t word)
+{
+    memcpy((char *)t + number * WORD, &word, WORD);
+}
+
+static uint32_t some_word(struct random *r, const struct tables *t,
+                          size_t number)
+{
+    switch (random_below(r, 6)) {
+    case 0:
+        return random_below(r, 24);
+    case 1:
+        return get_word(t, number) + 1;
+    case 2:
+        return get_word(t, number) - 1;
+    case 3:
+        return get_word(t, random_below(r, sizeof *t / WORD));
+    case 4:
+        return UINT32_MAX - random_below(r, 3);
+    default:
+        return random_chance(r, 50) ? 0 : random_word(r);
+    }
+}
+
+/* A word of some used thread's record, or any word of all. */
+static size_t some_number(struct random *r, const struct tables *t)
+{
+    size_t each = sizeof t->thread[0] / WORD;
+
+    if (random_chance(r, 60)) {
+        size_t thread = random_below(r, t->sizes.threads);
+
+        return FIRST + thread * each + random_below(r, (uint32_t)each);
+    }
+    return random_below(r, sizeof *t / WORD);
+}
+
+static void expect_refusal_1(uint64_t seed, uint32_t step, struct tables *t)
+{
+    static const struct step tick = { TICK, INTERRUPT, 0, 0, 0 };
+    struct tables before = *t;
+    struct result r = do_step(t, &tick);
+
+    expect(r.code == BROKEN_TABLES && r.running == IDLE, seed, step,
+           "broken tables, another refusal");
+    expect(memcmp(&before, t, sizeof before) == 0, seed, step,
+           "broken tables changed");
+}
+
+static void change_something(struct random *r, uint64_t seed, uint32_t step,
+                             struct tables *t)
+{
+    size_t number = some_number(r, t);
+    uint32_t old = get_word(t, number);
+
+    set_word(t, number, some_word(r, t, number));
+    if (tables_hang_together(t)) {
+        seen.kept++;
+        if (number >= FIRST) {
+            return;
+        }
+    } else {
+        seen.broken++;
+        expect_refusal_1(seed, step, t);
+    }
+    set_word(t, number, old);
+}
+
+static void shaken_step(struct director *d, uint64_t seed, uint32_t step,
+                        struct tables *t)
+{
+    struct step s = next_step(d, t);
+    struct result r = do_step(t, &s);
+
+    expect(tables_hang_together(t), seed, step, "tables do not hang");
+    expect(r.code != BROKEN_TABLES, seed, step, "refusal 1");
+    seen.accepted += r.code == ACCEPTED;
+    seen.refused += r.code != ACCEPTED;
+    if (r.continued > seen.most_continued) {
+        seen.most_continued = r.continued;
+    }
+}
+
+static void shake(uint64_t seed)
+{
+    struct random random = { seed };
+    uint32_t threads = random_between(&random, 1, MAX_THREADS);
+    uint32_t focus = random_below(&random, FAMILIES + 1);
+    struct director d = new_director(&random, focus, 5);
+    struct sizes z = { threads, 2, 2, 3, 2, 2, { 1, 3, 0, 0 } };
+    struct tables t;
+
+    fresh_tables(&t, &z, NULL);
+    for (uint32_t step = 1; step <= STEPS; step++) {
+        for (uint32_t k = random_below(&random, CHANGES); k > 0; k--) {
+            change_something(&random, seed, step, &t);
+        }
+        shaken_step(&d, seed, step, &t);
+    }
+}
+
+int main(int argc, char **argv)
+{
+    uint64_t count = argc > 1 ? strtoull(argv[1], NULL, 10) : 0;
+    uint64_t seed = argc > 2 ? strtoull(argv[2], NULL, 10) : 1;
+
+    if (argc < 2 || argc > 3) {
+        fputs("usage: shake COUNT [SEED]\n", stderr);
+        return 2;
+    }
+    for (uint64_t k = 0; k < count; k++) {
+        shake(seed + k);
+    }
+    printf("steps accepted %" PRIu64 ", refused %" PRIu64 "; changes kept %"
+           PRIu64 ", broken %" PRIu64 "; most continued %" PRIu32 "\n",
+           seen.accepted, seen.refused, seen.kept, seen.broken,
+           seen.most_continued);
+    return 0;
+}

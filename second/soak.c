@@ -1,0 +1,256 @@
+/*
+ * The soak: soak COUNT [SEED [SHAPE]]. Runs random traces through the reader
+ * and the model and asserts what document 01 promises of every one of them:
+ *   - from fresh tables every step, accepted or refused, leaves tables that
+ *     hang together, and settling never exhausts its budget;
+ *   - a refused step keeps all bytes and gives masks, message and datum 0;
+ *   - a clean trace, read and written again, gives the same bytes.
+ * At the end it prints what the traces covered.
+ */
+#include "scenario.h"
+#include "trace.h"
+
+#include <inttypes.h>
+#include <stdio.h>
+#include <stdlib.h>
+#include <string.h>
+
+enum { CODES = 8, OTHER_KIND = POOL_ADD + 1, STOPS = 17 };
+
+static struct {
+    uint64_t traces;
+    uint64_t steps;
+    uint64_t by_kind[OTHER_KIND + 1][CODES];
+    uint64_t stopped[STOPS];
+    uint64_t clean;
+    uint64_t retried_asleep;   /* a mailbox call that went to sleep again */
+    uint64_t woken_asleep;     /* woken and asleep again in one step */
+    uint64_t slept_finished;   /* caller slept and finished in one step */
+    uint64_t promised_refused; /* alloc without object while one is listed */
+    uint64_t unfinished_ready; /* steps that leave such a thread behind */
+    uint32_t most_continued;
+    uint32_t most_woken;
+    uint32_t tightest_percent; /* of the budget */
+} seen;
+
+static void fail(uint64_t seed, uint32_t record, const char *what)
+{
+    printf("seed %" PRIu64 " record %" PRIu32 ": %s\n", seed, record, what);
+    exit(1);
+}
+
+static void expect(bool fine, uint64_t seed, uint32_t record, const char *what)
+{
+    if (!fine) {
+        fail(seed, record, what);
+    }
+}
+
+static uint32_t bits_in(uint32_t word)
+{
+    uint32_t n = 0;
+
+    for (; word != 0; word &= word - 1) {
+        n++;
+    }
+    return n;
+}
+
+/* ---- what the traces covered ------------------------------------------ */
+
+static bool was_retried_asleep(const struct thread *before,
+                               const struct thread *after)
+{
+    return before->state == READY && before->call.kind != 0
+        && after->state != READY;
+}
+
+static void note_threads(const struct tables *before,
+                         const struct tables *after, const struct result *r)
+{
+    bool left_behind = false;
+
+    for (uint32_t i = 0; i < after->sizes.threads; i++) {
+        const struct thread *th = &after->thread[i];
+
+        seen.retried_asleep += was_retried_asleep(&before->thread[i], th);
+        seen.woken_asleep += th->state != READY && (r->woken >> i & 1);
+        left_behind |= th->state == READY && th->call.kind != 0;
+    }
+    seen.unfinished_ready += left_behind;
+}
+
+static void note_settling(const struct tables *t, const struct result *r)
+{
+    uint32_t percent = 100 * r->continued / settling_budget(t);
+
+    if (r->continued > seen.most_continued) {
+        seen.most_continued = r->continued;
+    }
+    if (percent > seen.tightest_percent) {
+        seen.tightest_percent = percent;
+    }
+    if (bits_in(r->woken) > seen.most_woken) {
+        seen.most_woken = bits_in(r->woken);
+    }
+}
+
+static void note_caller(const struct tables *before, const struct step *s,
+                        const struct result *r)
+{
+    if (s->caller != INTERRUPT && (r->woken & r->finished) >> s->caller & 1) {
+        seen.slept_finished++;
+    }
+    if (s->kind == POOL_ALLOC && before->pool[s->object].counter <= 0
+        && before->pool[s->object].length > 0) {
+        seen.promised_refused++;
+    }
+}
+
+static void note_step(const struct tables *before, const struct tables *after,
+                      const struct step *s, const struct result *r)
+{
+    uint32_t kind = s->kind <= POOL_ADD ? s->kind : OTHER_KIND;
+
+    seen.steps++;
+    seen.by_kind[kind][r->code]++;
+    if (r->code == ACCEPTED) {
+        note_threads(before, after, r);
+        note_settling(after, r);
+        note_caller(before, s, r);
+    }
+}
+
+/* ---- what is promised ------------------------------------------------- */
+
+/* "Settling ends when the running thread has no unfinished call." */
+static bool is_settled(const struct tables *t)
+{
+    uint32_t i = running_thread(t);
+
+    return i == IDLE || t->thread[i].call.kind == 0;
+}
+
+static void run_step(uint64_t seed, uint32_t record, struct tables *t,
+                     const struct step *s)
+{
+    static const struct answer none = { 0, 0 };
+    struct tables before = *t;
+    struct result r = do_step(t, s);
+    uint32_t all = (UINT32_C(1) << t->sizes.threads) - 1;
+
+    expect(is_settled(t), seed, record, "settling ran out of its budget");
+    expect(tables_hang_together(t), seed, record, "tables do not hang");
+    expect(r.running == running_thread(t), seed, record, "wrong running");
+    expect(((r.woken | r.finished) & ~all) == 0, seed, record, "stray bits");
+    if (r.code != ACCEPTED) {
+        expect(memcmp(&before, t, sizeof before) == 0, seed, record,
+               "a refused step changed something");
+        expect(r.woken == 0 && r.finished == 0
+               && memcmp(&r.answer, &none, sizeof none) == 0,
+               seed, record, "a refused step gave something");
+    }
+    note_step(&before, t, s, &r);
+}
+
+static void expect_same_bytes(uint64_t seed, const struct sizes *z,
+                              const struct step *steps, size_t count,
+                              const struct bytes *trace)
+{
+    static uint8_t again[TRACE_LIMIT];
+    size_t length = 0;
+    int code = trace_write(z, steps, count, again, trace->length, &length);
+
+    expect(code == ACCEPTED && length == trace->length
+           && memcmp(again, trace->at, length) == 0,
+           seed, 0, "written again, the bytes differ");
+}
+
+static void run_trace(uint64_t seed, const struct bytes *trace)
+{
+    static struct step steps[TRACE_LIMIT / (LENGTH_BYTES + STEP_BYTES)];
+    struct tables t;
+    struct reader reader;
+    struct sizes sizes;
+    size_t count = 0;
+    int code = trace_open(&reader, trace->at, trace->length, &sizes);
+
+    seen.traces++;
+    if (code == ACCEPTED) {
+        fresh_tables(&t, &sizes, NULL);
+        while ((code = trace_next(&reader, &steps[count])) == ACCEPTED) {
+            run_step(seed, reader.record - 1, &t, &steps[count]);
+            count++;
+        }
+    }
+    if (code == TRACE_END) {
+        seen.clean++;
+        expect_same_bytes(seed, &sizes, steps, count, trace);
+    } else {
+        seen.stopped[code]++;
+    }
+}
+
+/* ---- the program ------------------------------------------------------ */
+
+static void print_kinds(void)
+{
+    printf("%-6s", "kind");
+    for (uint32_t c = 0; c < CODES; c++) {
+        printf(" %9" PRIu32, c);
+    }
+    putchar('\n');
+    for (uint32_t k = 0; k <= OTHER_KIND; k++) {
+        printf("%-6" PRIu32, k);
+        for (uint32_t c = 0; c < CODES; c++) {
+            printf(" %9" PRIu64, seen.by_kind[k][c]);
+        }
+        putchar('\n');
+    }
+}
+
+static void print_seen(void)
+{
+    printf("traces %" PRIu64 ", clean %" PRIu64 ", steps %" PRIu64 "\n",
+           seen.traces, seen.clean, seen.steps);
+    for (uint32_t c = 0; c < STOPS; c++) {
+        if (seen.stopped[c] > 0) {
+            printf("stopped with %" PRIu32 ": %" PRIu64 "\n", c,
+                   seen.stopped[c]);
+        }
+    }
+    print_kinds();
+    printf("calls retried and asleep again %" PRIu64 "\n",
+           seen.retried_asleep);
+    printf("woken and asleep again in one step %" PRIu64 "\n",
+           seen.woken_asleep);
+    printf("caller slept and finished in one step %" PRIu64 "\n",
+           seen.slept_finished);
+    printf("allocs against a promised object %" PRIu64 "\n",
+           seen.promised_refused);
+    printf("steps leaving a ready thread unfinished %" PRIu64 "\n",
+           seen.unfinished_ready);
+    printf("most continued %" PRIu32 " (%" PRIu32 "%% of a budget), "
+           "most woken %" PRIu32 "\n",
+           seen.most_continued, seen.tightest_percent, seen.most_woken);
+}
+
+int main(int argc, char **argv)
+{
+    static struct bytes trace;
+    uint32_t shape = SHAPE_ANY;
+    uint64_t count = argc > 1 ? strtoull(argv[1], NULL, 10) : 0;
+    uint64_t seed = argc > 2 ? strtoull(argv[2], NULL, 10) : 1;
+
+    if (argc < 2 || argc > 4
+        || (argc == 4 && !shape_by_name(argv[3], &shape))) {
+        fputs("usage: soak COUNT [SEED [SHAPE]]\n", stderr);
+        return 2;
+    }
+    for (uint64_t k = 0; k < count; k++) {
+        make_scenario(seed + k, shape, &trace);
+        run_trace(seed + k, &trace);
+    }
+    print_seen();
+    return 0;
+}
