@@ -3,4 +3,5 @@ pub mod Signed
 pub mod SettlingLaws
 pub mod Masks
 pub mod HangingLaws
+pub mod StepLaws
 pub mod Unique
