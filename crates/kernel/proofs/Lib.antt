@@ -4,3 +4,5 @@ pub mod Lengths
 pub mod Signed
 pub mod Loops
 pub mod Products
+pub mod Cases
+pub mod WalkLaws
