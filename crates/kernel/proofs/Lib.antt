@@ -6,3 +6,6 @@ pub mod Loops
 pub mod Products
 pub mod Cases
 pub mod WalkLaws
+pub mod TablesLaws
+pub mod CountersLaws
+pub mod MovesLaws

@@ -1,0 +1,357 @@
+-- A move changes one thread's row, and the one counter or reference that the thread leaves or joins; all else stands as it stood.
+use Prim.Native.Nat.{ℕ, _+_, _-_, _≤_, _<_}
+use native.Mathlib.Omega.{arith}
+use mathlib.Core.Path.{_≡_, refl, sym, ap, _∙_}
+use mathlib.Core.Logic.{_≢_}
+use mathlib.Core.Bool.{Bool, true, false, cond, _&&_}
+use lib.Dec.{eqb, ltb}
+use lib.ListN.{length, getD, set, length-set, List·getD-eq-default}
+use lib.Seq.{set-out, getD-set-same, getD-set-other}
+use lib.IntN.{ℤ, pos}
+use lib.Signed.{ltZ}
+use borrow.Author.Tests.{eqb-true, eqb-false, eq-eqb, ne-eqb, lt-ltb, le-ltb}
+use Rattle.kernel.specs.declared.records.Call.{Call}
+use Rattle.kernel.specs.declared.records.Answer.{Answer}
+use Rattle.kernel.specs.declared.records.Thread.{Thread}
+use Rattle.kernel.specs.declared.records.Kernel.{Kernel}
+use Rattle.kernel.specs.Numbers.{nobody, suspended, queued, timedOut}
+use Rattle.kernel.specs.Records.{blank}
+use Rattle.kernel.specs.Walk.{bit}
+use Rattle.kernel.specs.Counters.{up, down}
+use Rattle.kernel.specs.Tables.{
+  threadAt,
+  counterAt,
+  holderAt,
+  withThread,
+  withCounter,
+  withHolder,
+  withWoken,
+  withFinished,
+  withAnswer,
+}
+use Rattle.kernel.specs.Moves.{readied, asleep, answered, takenOff, putOn, woken, slept, finished, blocked}
+use Rattle.kernel.specs.Waiters.{queuedAt}
+use Rattle.kernel.proofs.Cases.{split, same-or, in-or-out, chosen}
+use Rattle.kernel.proofs.TablesLaws.{
+  wokenAt,
+  finishedAt,
+  SameSizes,
+  sizes-refl,
+  sizes-trans,
+  counter-sizes,
+  holder-sizes,
+  thread-sizes,
+  mark-woken-sizes,
+  mark-finished-sizes,
+  answer-sizes,
+  thread-blank,
+  thread-same,
+  thread-other,
+  counter-same,
+  counter-other,
+  holder-same,
+  holder-other,
+  holder-nobody,
+  mark-woken-same,
+  mark-woken-other,
+  mark-finished-same,
+  mark-finished-other,
+}
+use Rattle.kernel.proofs.CountersLaws.{debt, raised-debt, lowered-debt}
+
+-- suspended on the reference r
+abbrev pub suspendedAt : ℕ → Thread → Bool
+suspendedAt r t = eqb (t .state) suspended && eqb (t .place) r
+
+-- nobody is queued and suspended at once
+not-suspended : (s : ℕ) → eqb s queued ≡ true → eqb s suspended ≡ false
+not-suspended s e = rw (eqb-true s queued e)
+
+-- h differs from k at most in counters and references
+record Beside (k h : Kernel) : Type 0 where
+  threads : h .threads ≡ k .threads
+  woken : h .woken ≡ k .woken
+  finished : h .finished ≡ k .finished
+  answer : h .answer ≡ k .answer
+  sizes : SameSizes k h
+
+-- to leave a place or a reference
+module _ (k : Kernel) (s p : ℕ) where
+  off-beside : Beside k (takenOff k s p)
+  unfolding takenOff
+  off-beside =
+      chosen (Beside k) (eqb s queued)
+      (λ e. record { threads = refl; woken = refl; finished = refl; answer = refl; sizes = counter-sizes k p (up (counterAt k p)) })
+      (λ e. chosen (Beside k) (eqb s suspended)
+      (λ f. record { threads = refl; woken = refl; finished = refl; answer = refl; sizes = holder-sizes k p nobody })
+      (λ f. record { threads = refl; woken = refl; finished = refl; answer = refl; sizes = sizes-refl k }))
+
+  off-counters : takenOff k s p .counters ≡ cond (eqb s queued) (withCounter k p (up (counterAt k p)) .counters) (k .counters)
+  unfolding takenOff
+  off-counters = split (eqb s queued) (λ e. rw e) (λ e. rw e (split (eqb s suspended) (λ f. rw f) (λ f. rw f)))
+
+  off-references : takenOff k s p .references ≡ cond (eqb s suspended) (withHolder k p nobody .references) (k .references)
+  unfolding takenOff
+  off-references =
+      split (eqb s queued) (λ e. rw (e, not-suspended s e)) (λ e. rw e (split (eqb s suspended) (λ f. rw f) (λ f. rw f)))
+
+-- to join one
+module _ (k : Kernel) (i s p : ℕ) where
+  on-beside : Beside k (putOn k i s p)
+  unfolding putOn
+  on-beside =
+      chosen (Beside k) (eqb s queued)
+      (λ e. record { threads = refl; woken = refl; finished = refl; answer = refl; sizes = counter-sizes k p (down (counterAt k p)) })
+      (λ e. chosen (Beside k) (eqb s suspended)
+      (λ f. record { threads = refl; woken = refl; finished = refl; answer = refl; sizes = holder-sizes k p i })
+      (λ f. record { threads = refl; woken = refl; finished = refl; answer = refl; sizes = sizes-refl k }))
+
+  on-counters : putOn k i s p .counters ≡ cond (eqb s queued) (withCounter k p (down (counterAt k p)) .counters) (k .counters)
+  unfolding putOn
+  on-counters = split (eqb s queued) (λ e. rw e) (λ e. rw e (split (eqb s suspended) (λ f. rw f) (λ f. rw f)))
+
+  on-references : putOn k i s p .references ≡ cond (eqb s suspended) (withHolder k p i .references) (k .references)
+  unfolding putOn
+  on-references =
+      split (eqb s queued) (λ e. rw (e, not-suspended s e)) (λ e. rw e (split (eqb s suspended) (λ f. rw f) (λ f. rw f)))
+
+-- a counter changed by g where b, read at every place
+changed : (k : Kernel) (g : ℤ → ℤ) (b : Bool) (p q : ℕ) → q < length (k .counters)
+    → getD (cond b (withCounter k p (g (counterAt k p)) .counters) (k .counters)) q (pos 0)
+    ≡ cond (b && eqb p q) (g (counterAt k q)) (counterAt k q)
+changed k g true p q h =
+    same-or q p (λ e. rw (e, eq-eqb p p refl) (counter-same k p (g (counterAt k p)) (rw e at h)))
+    (λ n. rw (ne-eqb p q (λ e. n (sym e))) (counter-other k p (g (counterAt k p)) q n))
+changed k g false p q h = refl
+
+unchanged : (k : Kernel) (g : ℤ → ℤ) (b : Bool) (p q : ℕ) → b && eqb p q ≡ false
+    → getD (cond b (withCounter k p (g (counterAt k p)) .counters) (k .counters)) q (pos 0) ≡ counterAt k q
+unchanged k g true p q z = counter-other k p (g (counterAt k p)) q (λ e. eqb-false p q z (sym e))
+unchanged k g false p q z = refl
+
+-- a reference given the holder x where b; emptied, it may be any
+given-holder : (k : Kernel) (b : Bool) (p r x : ℕ) → r < length (k .references)
+    → getD (cond b (withHolder k p x .references) (k .references)) r nobody ≡ cond (b && eqb p r) x (holderAt k r)
+given-holder k true p r x h =
+    same-or r p (λ e. rw (e, eq-eqb p p refl) (holder-same k p x (rw e at h)))
+    (λ n. rw (ne-eqb p r (λ e. n (sym e))) (holder-other k p x r n))
+given-holder k false p r x h = refl
+
+emptied : (k : Kernel) (b : Bool) (p r : ℕ)
+    → getD (cond b (withHolder k p nobody .references) (k .references)) r nobody ≡ cond (b && eqb p r) nobody (holderAt k r)
+emptied k b p r = in-or-out r (length (k .references)) (given-holder k b p r nobody) (λ h. past b h)
+  where
+    past : (b : Bool) → length (k .references) ≤ r
+        → getD (cond b (withHolder k p nobody .references) (k .references)) r nobody ≡ cond (b && eqb p r) nobody (holderAt k r)
+    past true h =
+        rw (holder-nobody k r h, holder-nobody (withHolder k p nobody) r (rw length-set h))
+        (split (eqb p r) (λ e. rw e) (λ e. rw e))
+    past false h = refl
+
+-- ---- to be made ready
+
+module _ (k : Kernel) (i : ℕ) (m : ℤ) where
+  pub woken-threads : woken k i m .threads ≡ withThread k i (readied (threadAt k i) m) .threads
+  unfolding woken
+  woken-threads = rw (off-beside k (threadAt k i .state) (threadAt k i .place) .threads)
+
+  -- ""Made ready" stores the message and sets remaining ticks to 0"
+  pub woken-row : i < length (k .threads) → threadAt (woken k i m) i ≡ readied (threadAt k i) m
+  woken-row h = rw woken-threads (getD-set-same (k .threads) i (readied (threadAt k i) m) blank h)
+
+  -- nobody else's row changes
+  pub woken-others : (j : ℕ) → j ≢ i → threadAt (woken k i m) j ≡ threadAt k j
+  woken-others j n = rw woken-threads (getD-set-other (k .threads) i j (readied (threadAt k i) m) blank n)
+
+  -- "taken off its queue (counter +1)": at its place, and nowhere else
+  pub woken-counter : (q : ℕ) → q < length (k .counters)
+      → counterAt (woken k i m) q ≡ cond (queuedAt q (threadAt k i)) (up (counterAt k q)) (counterAt k q)
+  unfolding woken
+  woken-counter q h =
+      rw (off-counters k (threadAt k i .state) (threadAt k i .place))
+      (changed k up (eqb (threadAt k i .state) queued) (threadAt k i .place) q h)
+
+  pub woken-counter-others : (q : ℕ) → queuedAt q (threadAt k i) ≡ false → counterAt (woken k i m) q ≡ counterAt k q
+  unfolding woken
+  woken-counter-others q z =
+      rw (off-counters k (threadAt k i .state) (threadAt k i .place))
+      (unchanged k up (eqb (threadAt k i .state) queued) (threadAt k i .place) q z)
+
+  -- its place owes one waking less, and no other place does
+  pub woken-debt : (q : ℕ) → debt (counterAt (woken k i m) q) ≡ debt (counterAt k q) - bit (queuedAt q (threadAt k i))
+  unfolding woken
+  woken-debt q =
+      rw (off-counters k (threadAt k i .state) (threadAt k i .place))
+      (split (eqb (threadAt k i .state) queued) (λ e. rw e (raised-debt k (threadAt k i .place) q)) (λ e. rw e (omega arith)))
+
+  -- "or reference (emptied)"
+  pub woken-holder : (r : ℕ) → holderAt (woken k i m) r ≡ cond (suspendedAt r (threadAt k i)) nobody (holderAt k r)
+  unfolding woken
+  woken-holder r =
+      rw (off-references k (threadAt k i .state) (threadAt k i .place))
+      (emptied k (eqb (threadAt k i .state) suspended) (threadAt k i .place) r)
+
+  -- its woken flag is set, and no other changes
+  pub woken-woken : woken k i m .woken ≡ withWoken k i .woken
+  unfolding woken
+  woken-woken = rw (off-beside k (threadAt k i .state) (threadAt k i .place) .woken)
+
+  pub woken-flag : i < length (k .woken) → wokenAt (woken k i m) i ≡ true
+  woken-flag h = rw woken-woken (mark-woken-same k i h)
+
+  pub woken-flag-others : (j : ℕ) → j ≢ i → wokenAt (woken k i m) j ≡ wokenAt k j
+  woken-flag-others j n = rw woken-woken (mark-woken-other k i j n)
+
+  -- no call is finished by a waking
+  pub woken-finished : woken k i m .finished ≡ k .finished
+  unfolding woken
+  woken-finished = off-beside k (threadAt k i .state) (threadAt k i .place) .finished
+
+  pub woken-answer : woken k i m .answer ≡ k .answer
+  unfolding woken
+  woken-answer = off-beside k (threadAt k i .state) (threadAt k i .place) .answer
+
+  pub woken-sizes : SameSizes k (woken k i m)
+  unfolding woken
+  woken-sizes =
+      let off = takenOff k (threadAt k i .state) (threadAt k i .place) in
+      let set = withThread off i (readied (threadAt k i) m) in
+      sizes-trans (off-beside k (threadAt k i .state) (threadAt k i .place) .sizes)
+      (sizes-trans (thread-sizes off i (readied (threadAt k i) m)) (mark-woken-sizes set i))
+
+  -- nothing changes where there is no thread i
+  pub woken-past : length (k .threads) ≤ i → length (k .woken) ≤ i → woken k i m ≡ k
+  unfolding woken takenOff
+  woken-past h w = rw (thread-blank k i h, set-out (k .threads) i (readied blank m) h, set-out (k .woken) i true w)
+
+-- ---- to go to sleep
+
+module _ (k : Kernel) (i s p : ℕ) (c : Call) where
+  -- only a thread of the table sleeps
+  pub slept-past : 16 ≤ i → slept k i s p c ≡ k
+  unfolding slept
+  slept-past h = rw (le-ltb i 16 h)
+
+  pub slept-woken : slept k i s p c .woken ≡ k .woken
+  unfolding slept
+  slept-woken = chosen (λ (h : Kernel). h .woken ≡ k .woken) (ltb i 16) (λ e. on-beside k i s p .woken) (λ e. refl)
+
+  pub slept-finished : slept k i s p c .finished ≡ k .finished
+  unfolding slept
+  slept-finished = chosen (λ (h : Kernel). h .finished ≡ k .finished) (ltb i 16) (λ e. on-beside k i s p .finished) (λ e. refl)
+
+  pub slept-answer : slept k i s p c .answer ≡ k .answer
+  unfolding slept
+  slept-answer = chosen (λ (h : Kernel). h .answer ≡ k .answer) (ltb i 16) (λ e. on-beside k i s p .answer) (λ e. refl)
+
+  pub slept-sizes : SameSizes k (slept k i s p c)
+  unfolding slept
+  slept-sizes =
+      chosen (SameSizes k) (ltb i 16)
+      (λ e. sizes-trans (on-beside k i s p .sizes) (thread-sizes (putOn k i s p) i (asleep (threadAt k i) s p c)))
+      (λ e. sizes-refl k)
+
+  -- nobody else's row changes
+  pub slept-others : (j : ℕ) → j ≢ i → threadAt (slept k i s p c) j ≡ threadAt k j
+  unfolding slept
+  slept-others j n =
+      chosen (λ (h : Kernel). threadAt h j ≡ threadAt k j) (ltb i 16)
+      (λ e. rw (on-beside k i s p .threads) (getD-set-other (k .threads) i j (asleep (threadAt k i) s p c) blank n)) (λ e. refl)
+
+  module _ (here : i < 16) where
+    -- "one that sleeps sets its last answer to 0 and 0", and keeps its call's fields
+    pub slept-row : i < length (k .threads) → threadAt (slept k i s p c) i ≡ asleep (threadAt k i) s p c
+    unfolding slept
+    slept-row h =
+        rw (lt-ltb i 16 here, on-beside k i s p .threads) (getD-set-same (k .threads) i (asleep (threadAt k i) s p c) blank h)
+
+    -- "counter less 1 and sleep": at the place it sleeps on if queued, and nowhere else
+    pub slept-counter : (q : ℕ) → q < length (k .counters)
+        → counterAt (slept k i s p c) q ≡ cond (eqb s queued && eqb p q) (down (counterAt k q)) (counterAt k q)
+    unfolding slept
+    slept-counter q h = rw (lt-ltb i 16 here, on-counters k i s p) (changed k down (eqb s queued) p q h)
+
+    pub slept-counter-others : (q : ℕ) → eqb s queued && eqb p q ≡ false → counterAt (slept k i s p c) q ≡ counterAt k q
+    unfolding slept
+    slept-counter-others q z = rw (lt-ltb i 16 here, on-counters k i s p) (unchanged k down (eqb s queued) p q z)
+
+    -- "Reference r holds i exactly if i is suspended on r"
+    pub slept-holder : (r : ℕ) → r < length (k .references)
+        → holderAt (slept k i s p c) r ≡ cond (eqb s suspended && eqb p r) i (holderAt k r)
+    unfolding slept
+    slept-holder r h = rw (lt-ltb i 16 here, on-references k i s p) (given-holder k (eqb s suspended) p r i h)
+
+-- ---- the end of a call
+
+module _ (k : Kernel) (i : ℕ) (m : ℤ) (d : ℕ) where
+  -- "For an interrupt they are the step's answer, and no finished bit stands for it"
+  pub finished-interrupt : i ≡ nobody → finished k i m d ≡ withAnswer k (record { message = m; datum = d })
+  unfolding finished
+  finished-interrupt e = rw (eq-eqb i nobody e)
+
+  pub finished-counters : finished k i m d .counters ≡ k .counters
+  unfolding finished
+  finished-counters = chosen (λ (h : Kernel). h .counters ≡ k .counters) (eqb i nobody) (λ e. refl) (λ e. refl)
+
+  pub finished-references : finished k i m d .references ≡ k .references
+  unfolding finished
+  finished-references = chosen (λ (h : Kernel). h .references ≡ k .references) (eqb i nobody) (λ e. refl) (λ e. refl)
+
+  pub finished-woken : finished k i m d .woken ≡ k .woken
+  unfolding finished
+  finished-woken = chosen (λ (h : Kernel). h .woken ≡ k .woken) (eqb i nobody) (λ e. refl) (λ e. refl)
+
+  pub finished-sizes : SameSizes k (finished k i m d)
+  unfolding finished
+  finished-sizes =
+      let a : Answer = record { message = m; datum = d } in
+      let set = withThread k i (answered (threadAt k i) a) in
+      chosen (SameSizes k) (eqb i nobody) (λ e. answer-sizes k a)
+      (λ e. sizes-trans (thread-sizes k i (answered (threadAt k i) a)) (mark-finished-sizes set i))
+
+  -- nobody else's row, nor finished flag, changes
+  pub finished-others : (j : ℕ) → j ≢ i → threadAt (finished k i m d) j ≡ threadAt k j
+  unfolding finished
+  finished-others j n =
+      chosen (λ (h : Kernel). threadAt h j ≡ threadAt k j) (eqb i nobody) (λ e. refl)
+      (λ e. thread-other k i (answered (threadAt k i) (record { message = m; datum = d })) j n)
+
+  pub finished-flag-others : (j : ℕ) → j ≢ i → finishedAt (finished k i m d) j ≡ finishedAt k j
+  unfolding finished
+  finished-flag-others j n =
+      chosen (λ (h : Kernel). finishedAt h j ≡ finishedAt k j) (eqb i nobody) (λ e. refl) (λ e. mark-finished-other k i j n)
+
+  module _ (thread : i ≢ nobody) where
+    -- a finished call is no more: its fields are 0, and its answer is the last answer
+    pub finished-row : i < length (k .threads)
+        → threadAt (finished k i m d) i ≡ answered (threadAt k i) (record { message = m; datum = d })
+    unfolding finished
+    finished-row h =
+        rw (ne-eqb i nobody thread) (thread-same k i (answered (threadAt k i) (record { message = m; datum = d })) h)
+
+    pub finished-flag : i < length (k .finished) → finishedAt (finished k i m d) i ≡ true
+    unfolding finished
+    finished-flag h = rw (ne-eqb i nobody thread) (mark-finished-same k i h)
+
+    pub finished-answer : finished k i m d .answer ≡ k .answer
+    unfolding finished
+    finished-answer = rw (ne-eqb i nobody thread)
+
+-- ---- what cannot be had at once
+
+module _ (k : Kernel) (i s p : ℕ) (c : Call) where
+  -- "a timeout of 0 answers -1 at once, changing nothing else"
+  pub blocked-immediate : c .timeout ≡ 0 → blocked k i s p c ≡ finished k i timedOut 0
+  unfolding blocked
+  blocked-immediate e = rw (eq-eqb (c .timeout) 0 e)
+
+  -- any other timeout goes to sleep
+  pub blocked-sleeps : c .timeout ≢ 0 → blocked k i s p c ≡ slept k i s p c
+  unfolding blocked
+  blocked-sleeps n = rw (ne-eqb (c .timeout) 0 n)
+
+  -- one of the two
+  pub blocked-cases : (P : Kernel → Type 0) → (c .timeout ≡ 0 → P (finished k i timedOut 0)) → (c .timeout ≢ 0 → P (slept k i s p c))
+      → P (blocked k i s p c)
+  blocked-cases P f g =
+      same-or (c .timeout) 0 (λ e. rw (blocked-immediate e) (f e)) (λ n. rw (blocked-sleeps n) (g n))
