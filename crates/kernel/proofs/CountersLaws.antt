@@ -1,7 +1,7 @@
 -- A counter below 0 owes a waking to as many as are queued: one more takes one off that debt, one less puts one on. By the signs.
 use Prim.Native.Nat.{ℕ, zero, suc, _+_, _-_, _≤_, _<_}
 use native.Mathlib.Omega.{arith}
-use mathlib.Core.Path.{_≡_, refl, sym, _∙_}
+use mathlib.Core.Path.{_≡_, refl, sym, ap, _∙_}
 use mathlib.Core.Bool.{Bool, true, false, cond}
 use lib.Dec.{eqb, ltb}
 use lib.ListN.{length}
@@ -30,6 +30,15 @@ pub debt-some : (c : ℤ) → ltZ c (pos 0) ≡ true → 1 ≤ debt c
 debt-some (pos n) e = contrary e (le-ltb n 0 (omega arith))
 debt-some (negsuc n) e = omega arith
 
+-- a counter that owes is below 0, and one that neither owes nor is above 0 is 0
+pub debt-below : (c : ℤ) → 1 ≤ debt c → ltZ c (pos 0) ≡ true
+debt-below (pos n) h = absurd (omega arith)
+debt-below (negsuc n) h = refl
+
+pub debt-exact : (c : ℤ) → ltZ (pos 0) c ≡ false → debt c ≡ 0 → c ≡ pos 0
+debt-exact (pos n) e h = ap pos (omega (arith, ltb-false 0 n e))
+debt-exact (negsuc n) e h = absurd (omega arith)
+
 -- no counter is both above and below 0
 pub above-not-below : (c : ℤ) → ltZ (pos 0) c ≡ true → ltZ c (pos 0) ≡ false
 above-not-below (pos n) e = le-ltb n 0 (omega arith)
@@ -47,6 +56,18 @@ pub up-debt : (c : ℤ) → debt (up c) ≡ debt c - 1
 up-debt (pos n) = split (ltb n 2147483647) (λ e. rw e) (λ e. rw e)
 up-debt (negsuc zero) = refl
 up-debt (negsuc (suc n)) = rw +ℤ-one (omega arith)
+
+-- one more than a counter below 0 is not above it
+pub up-not-above : (c : ℤ) → ltZ c (pos 0) ≡ true → ltZ (pos 0) (up c) ≡ false
+up-not-above (pos n) e = contrary e (le-ltb n 0 (omega arith))
+up-not-above (negsuc zero) e = refl
+up-not-above (negsuc (suc n)) e = rw +ℤ-one
+
+-- one less than a counter that is not above 0 is not above it either
+pub down-not-above : (c : ℤ) → ltZ (pos 0) c ≡ false → ltZ (pos 0) (down c) ≡ false
+down-not-above (pos zero) e = refl
+down-not-above (pos (suc n)) e = absurd (omega (arith, ltb-false 0 (suc n) e))
+down-not-above (negsuc n) e = split (ltb n 2147483647) (λ b. rw b) (λ b. rw b)
 
 -- one less than a counter that is not above 0 owes one more
 pub down-debt : (c : ℤ) → ltZ (pos 0) c ≡ false → debt c < 2147483648 → debt (down c) ≡ debt c + 1

@@ -9,3 +9,5 @@ pub mod WalkLaws
 pub mod TablesLaws
 pub mod CountersLaws
 pub mod MovesLaws
+pub mod Rounds
+pub mod QueueLaws

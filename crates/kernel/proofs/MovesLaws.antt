@@ -47,6 +47,7 @@ use Rattle.kernel.proofs.TablesLaws.{
   thread-blank,
   thread-same,
   thread-other,
+  thread-kept,
   counter-same,
   counter-other,
   holder-same,
@@ -137,6 +138,11 @@ given-holder k true p r x h =
     (λ n. rw (ne-eqb p r (λ e. n (sym e))) (holder-other k p x r n))
 given-holder k false p r x h = refl
 
+as-held : (k : Kernel) (b : Bool) (p r x : ℕ) → b && eqb p r ≡ false
+    → getD (cond b (withHolder k p x .references) (k .references)) r nobody ≡ holderAt k r
+as-held k true p r x z = holder-other k p x r (λ e. eqb-false p r z (sym e))
+as-held k false p r x z = refl
+
 emptied : (k : Kernel) (b : Bool) (p r : ℕ)
     → getD (cond b (withHolder k p nobody .references) (k .references)) r nobody ≡ cond (b && eqb p r) nobody (holderAt k r)
 emptied k b p r = in-or-out r (length (k .references)) (given-holder k b p r nobody) (λ h. past b h)
@@ -151,207 +157,231 @@ emptied k b p r = in-or-out r (length (k .references)) (given-holder k b p r nob
 -- ---- to be made ready
 
 module _ (k : Kernel) (i : ℕ) (m : ℤ) where
-  pub woken-threads : woken k i m .threads ≡ withThread k i (readied (threadAt k i) m) .threads
+  pub wake-threads : woken k i m .threads ≡ withThread k i (readied (threadAt k i) m) .threads
   unfolding woken
-  woken-threads = rw (off-beside k (threadAt k i .state) (threadAt k i .place) .threads)
+  wake-threads = rw (off-beside k (threadAt k i .state) (threadAt k i .place) .threads)
 
   -- ""Made ready" stores the message and sets remaining ticks to 0"
-  pub woken-row : i < length (k .threads) → threadAt (woken k i m) i ≡ readied (threadAt k i) m
-  woken-row h = rw woken-threads (getD-set-same (k .threads) i (readied (threadAt k i) m) blank h)
+  pub wake-row : i < length (k .threads) → threadAt (woken k i m) i ≡ readied (threadAt k i) m
+  wake-row h = rw wake-threads (getD-set-same (k .threads) i (readied (threadAt k i) m) blank h)
 
   -- nobody else's row changes
-  pub woken-others : (j : ℕ) → j ≢ i → threadAt (woken k i m) j ≡ threadAt k j
-  woken-others j n = rw woken-threads (getD-set-other (k .threads) i j (readied (threadAt k i) m) blank n)
+  pub wake-others : (j : ℕ) → j ≢ i → threadAt (woken k i m) j ≡ threadAt k j
+  wake-others j n = rw wake-threads (getD-set-other (k .threads) i j (readied (threadAt k i) m) blank n)
 
   -- "taken off its queue (counter +1)": at its place, and nowhere else
-  pub woken-counter : (q : ℕ) → q < length (k .counters)
+  pub wake-counter : (q : ℕ) → q < length (k .counters)
       → counterAt (woken k i m) q ≡ cond (queuedAt q (threadAt k i)) (up (counterAt k q)) (counterAt k q)
   unfolding woken
-  woken-counter q h =
+  wake-counter q h =
       rw (off-counters k (threadAt k i .state) (threadAt k i .place))
       (changed k up (eqb (threadAt k i .state) queued) (threadAt k i .place) q h)
 
-  pub woken-counter-others : (q : ℕ) → queuedAt q (threadAt k i) ≡ false → counterAt (woken k i m) q ≡ counterAt k q
+  pub wake-counter-others : (q : ℕ) → queuedAt q (threadAt k i) ≡ false → counterAt (woken k i m) q ≡ counterAt k q
   unfolding woken
-  woken-counter-others q z =
+  wake-counter-others q z =
       rw (off-counters k (threadAt k i .state) (threadAt k i .place))
       (unchanged k up (eqb (threadAt k i .state) queued) (threadAt k i .place) q z)
 
   -- its place owes one waking less, and no other place does
-  pub woken-debt : (q : ℕ) → debt (counterAt (woken k i m) q) ≡ debt (counterAt k q) - bit (queuedAt q (threadAt k i))
+  pub wake-debt : (q : ℕ) → debt (counterAt (woken k i m) q) ≡ debt (counterAt k q) - bit (queuedAt q (threadAt k i))
   unfolding woken
-  woken-debt q =
+  wake-debt q =
       rw (off-counters k (threadAt k i .state) (threadAt k i .place))
       (split (eqb (threadAt k i .state) queued) (λ e. rw e (raised-debt k (threadAt k i .place) q)) (λ e. rw e (omega arith)))
 
   -- "or reference (emptied)"
-  pub woken-holder : (r : ℕ) → holderAt (woken k i m) r ≡ cond (suspendedAt r (threadAt k i)) nobody (holderAt k r)
+  pub wake-holder : (r : ℕ) → holderAt (woken k i m) r ≡ cond (suspendedAt r (threadAt k i)) nobody (holderAt k r)
   unfolding woken
-  woken-holder r =
+  wake-holder r =
       rw (off-references k (threadAt k i .state) (threadAt k i .place))
       (emptied k (eqb (threadAt k i .state) suspended) (threadAt k i .place) r)
 
   -- its woken flag is set, and no other changes
-  pub woken-woken : woken k i m .woken ≡ withWoken k i .woken
+  pub wake-woken : woken k i m .woken ≡ withWoken k i .woken
   unfolding woken
-  woken-woken = rw (off-beside k (threadAt k i .state) (threadAt k i .place) .woken)
+  wake-woken = rw (off-beside k (threadAt k i .state) (threadAt k i .place) .woken)
 
-  pub woken-flag : i < length (k .woken) → wokenAt (woken k i m) i ≡ true
-  woken-flag h = rw woken-woken (mark-woken-same k i h)
+  pub wake-flag : i < length (k .woken) → wokenAt (woken k i m) i ≡ true
+  wake-flag h = rw wake-woken (mark-woken-same k i h)
 
-  pub woken-flag-others : (j : ℕ) → j ≢ i → wokenAt (woken k i m) j ≡ wokenAt k j
-  woken-flag-others j n = rw woken-woken (mark-woken-other k i j n)
+  pub wake-flag-others : (j : ℕ) → j ≢ i → wokenAt (woken k i m) j ≡ wokenAt k j
+  wake-flag-others j n = rw wake-woken (mark-woken-other k i j n)
 
   -- no call is finished by a waking
-  pub woken-finished : woken k i m .finished ≡ k .finished
+  pub wake-finished : woken k i m .finished ≡ k .finished
   unfolding woken
-  woken-finished = off-beside k (threadAt k i .state) (threadAt k i .place) .finished
+  wake-finished = off-beside k (threadAt k i .state) (threadAt k i .place) .finished
 
-  pub woken-answer : woken k i m .answer ≡ k .answer
+  pub wake-answer : woken k i m .answer ≡ k .answer
   unfolding woken
-  woken-answer = off-beside k (threadAt k i .state) (threadAt k i .place) .answer
+  wake-answer = off-beside k (threadAt k i .state) (threadAt k i .place) .answer
 
-  pub woken-sizes : SameSizes k (woken k i m)
+  pub wake-sizes : SameSizes k (woken k i m)
   unfolding woken
-  woken-sizes =
+  wake-sizes =
       let off = takenOff k (threadAt k i .state) (threadAt k i .place) in
       let set = withThread off i (readied (threadAt k i) m) in
       sizes-trans (off-beside k (threadAt k i .state) (threadAt k i .place) .sizes)
       (sizes-trans (thread-sizes off i (readied (threadAt k i) m)) (mark-woken-sizes set i))
 
   -- nothing changes where there is no thread i
-  pub woken-past : length (k .threads) ≤ i → length (k .woken) ≤ i → woken k i m ≡ k
+  pub wake-past : length (k .threads) ≤ i → length (k .woken) ≤ i → woken k i m ≡ k
   unfolding woken takenOff
-  woken-past h w = rw (thread-blank k i h, set-out (k .threads) i (readied blank m) h, set-out (k .woken) i true w)
+  wake-past h w = rw (thread-blank k i h, set-out (k .threads) i (readied blank m) h, set-out (k .woken) i true w)
 
 -- ---- to go to sleep
 
 module _ (k : Kernel) (i s p : ℕ) (c : Call) where
   -- only a thread of the table sleeps
-  pub slept-past : 16 ≤ i → slept k i s p c ≡ k
+  pub sleep-past : 16 ≤ i → slept k i s p c ≡ k
   unfolding slept
-  slept-past h = rw (le-ltb i 16 h)
+  sleep-past h = rw (le-ltb i 16 h)
 
-  pub slept-woken : slept k i s p c .woken ≡ k .woken
+  pub sleep-woken : slept k i s p c .woken ≡ k .woken
   unfolding slept
-  slept-woken = chosen (λ (h : Kernel). h .woken ≡ k .woken) (ltb i 16) (λ e. on-beside k i s p .woken) (λ e. refl)
+  sleep-woken = chosen (λ (h : Kernel). h .woken ≡ k .woken) (ltb i 16) (λ e. on-beside k i s p .woken) (λ e. refl)
 
-  pub slept-finished : slept k i s p c .finished ≡ k .finished
+  pub sleep-finished : slept k i s p c .finished ≡ k .finished
   unfolding slept
-  slept-finished = chosen (λ (h : Kernel). h .finished ≡ k .finished) (ltb i 16) (λ e. on-beside k i s p .finished) (λ e. refl)
+  sleep-finished = chosen (λ (h : Kernel). h .finished ≡ k .finished) (ltb i 16) (λ e. on-beside k i s p .finished) (λ e. refl)
 
-  pub slept-answer : slept k i s p c .answer ≡ k .answer
+  pub sleep-answer : slept k i s p c .answer ≡ k .answer
   unfolding slept
-  slept-answer = chosen (λ (h : Kernel). h .answer ≡ k .answer) (ltb i 16) (λ e. on-beside k i s p .answer) (λ e. refl)
+  sleep-answer = chosen (λ (h : Kernel). h .answer ≡ k .answer) (ltb i 16) (λ e. on-beside k i s p .answer) (λ e. refl)
 
-  pub slept-sizes : SameSizes k (slept k i s p c)
+  pub sleep-sizes : SameSizes k (slept k i s p c)
   unfolding slept
-  slept-sizes =
+  sleep-sizes =
       chosen (SameSizes k) (ltb i 16)
       (λ e. sizes-trans (on-beside k i s p .sizes) (thread-sizes (putOn k i s p) i (asleep (threadAt k i) s p c)))
       (λ e. sizes-refl k)
 
   -- nobody else's row changes
-  pub slept-others : (j : ℕ) → j ≢ i → threadAt (slept k i s p c) j ≡ threadAt k j
+  pub sleep-others : (j : ℕ) → j ≢ i → threadAt (slept k i s p c) j ≡ threadAt k j
   unfolding slept
-  slept-others j n =
+  sleep-others j n =
       chosen (λ (h : Kernel). threadAt h j ≡ threadAt k j) (ltb i 16)
       (λ e. rw (on-beside k i s p .threads) (getD-set-other (k .threads) i j (asleep (threadAt k i) s p c) blank n)) (λ e. refl)
 
+  -- no other counter, and no other reference, changes
+  pub sleep-counter-others : (q : ℕ) → eqb s queued && eqb p q ≡ false → counterAt (slept k i s p c) q ≡ counterAt k q
+  unfolding slept
+  sleep-counter-others q z =
+      chosen (λ (h : Kernel). counterAt h q ≡ counterAt k q) (ltb i 16)
+      (λ e. rw (on-counters k i s p) (unchanged k down (eqb s queued) p q z)) (λ e. refl)
+
+  pub sleep-holder-others : (r : ℕ) → eqb s suspended && eqb p r ≡ false → holderAt (slept k i s p c) r ≡ holderAt k r
+  unfolding slept
+  sleep-holder-others r z =
+      chosen (λ (h : Kernel). holderAt h r ≡ holderAt k r) (ltb i 16)
+      (λ e. rw (on-references k i s p) (as-held k (eqb s suspended) p r i z)) (λ e. refl)
+
   module _ (here : i < 16) where
     -- "one that sleeps sets its last answer to 0 and 0", and keeps its call's fields
-    pub slept-row : i < length (k .threads) → threadAt (slept k i s p c) i ≡ asleep (threadAt k i) s p c
+    pub sleep-row : i < length (k .threads) → threadAt (slept k i s p c) i ≡ asleep (threadAt k i) s p c
     unfolding slept
-    slept-row h =
+    sleep-row h =
         rw (lt-ltb i 16 here, on-beside k i s p .threads) (getD-set-same (k .threads) i (asleep (threadAt k i) s p c) blank h)
 
     -- "counter less 1 and sleep": at the place it sleeps on if queued, and nowhere else
-    pub slept-counter : (q : ℕ) → q < length (k .counters)
+    pub sleep-counter : (q : ℕ) → q < length (k .counters)
         → counterAt (slept k i s p c) q ≡ cond (eqb s queued && eqb p q) (down (counterAt k q)) (counterAt k q)
     unfolding slept
-    slept-counter q h = rw (lt-ltb i 16 here, on-counters k i s p) (changed k down (eqb s queued) p q h)
+    sleep-counter q h = rw (lt-ltb i 16 here, on-counters k i s p) (changed k down (eqb s queued) p q h)
 
-    pub slept-counter-others : (q : ℕ) → eqb s queued && eqb p q ≡ false → counterAt (slept k i s p c) q ≡ counterAt k q
+    -- the place owes one waking more, and no other place does
+    pub sleep-debt : s ≡ queued → p < length (k .counters) → ltZ (pos 0) (counterAt k p) ≡ false → debt (counterAt k p) < 2147483648
+        → (q : ℕ) → debt (counterAt (slept k i s p c) q) ≡ debt (counterAt k q) + bit (eqb p q)
     unfolding slept
-    slept-counter-others q z = rw (lt-ltb i 16 here, on-counters k i s p) (unchanged k down (eqb s queued) p q z)
+    sleep-debt e h z l q = rw (lt-ltb i 16 here, on-counters k i s p, e) (lowered-debt k p q h z l)
 
     -- "Reference r holds i exactly if i is suspended on r"
-    pub slept-holder : (r : ℕ) → r < length (k .references)
+    pub sleep-holder : (r : ℕ) → r < length (k .references)
         → holderAt (slept k i s p c) r ≡ cond (eqb s suspended && eqb p r) i (holderAt k r)
     unfolding slept
-    slept-holder r h = rw (lt-ltb i 16 here, on-references k i s p) (given-holder k (eqb s suspended) p r i h)
+    sleep-holder r h = rw (lt-ltb i 16 here, on-references k i s p) (given-holder k (eqb s suspended) p r i h)
 
 -- ---- the end of a call
 
 module _ (k : Kernel) (i : ℕ) (m : ℤ) (d : ℕ) where
   -- "For an interrupt they are the step's answer, and no finished bit stands for it"
-  pub finished-interrupt : i ≡ nobody → finished k i m d ≡ withAnswer k (record { message = m; datum = d })
+  pub finish-interrupt : i ≡ nobody → finished k i m d ≡ withAnswer k (record { message = m; datum = d })
   unfolding finished
-  finished-interrupt e = rw (eq-eqb i nobody e)
+  finish-interrupt e = rw (eq-eqb i nobody e)
 
-  pub finished-counters : finished k i m d .counters ≡ k .counters
+  pub finish-counters : finished k i m d .counters ≡ k .counters
   unfolding finished
-  finished-counters = chosen (λ (h : Kernel). h .counters ≡ k .counters) (eqb i nobody) (λ e. refl) (λ e. refl)
+  finish-counters = chosen (λ (h : Kernel). h .counters ≡ k .counters) (eqb i nobody) (λ e. refl) (λ e. refl)
 
-  pub finished-references : finished k i m d .references ≡ k .references
+  pub finish-references : finished k i m d .references ≡ k .references
   unfolding finished
-  finished-references = chosen (λ (h : Kernel). h .references ≡ k .references) (eqb i nobody) (λ e. refl) (λ e. refl)
+  finish-references = chosen (λ (h : Kernel). h .references ≡ k .references) (eqb i nobody) (λ e. refl) (λ e. refl)
 
-  pub finished-woken : finished k i m d .woken ≡ k .woken
+  pub finish-woken : finished k i m d .woken ≡ k .woken
   unfolding finished
-  finished-woken = chosen (λ (h : Kernel). h .woken ≡ k .woken) (eqb i nobody) (λ e. refl) (λ e. refl)
+  finish-woken = chosen (λ (h : Kernel). h .woken ≡ k .woken) (eqb i nobody) (λ e. refl) (λ e. refl)
 
-  pub finished-sizes : SameSizes k (finished k i m d)
+  pub finish-sizes : SameSizes k (finished k i m d)
   unfolding finished
-  finished-sizes =
+  finish-sizes =
       let a : Answer = record { message = m; datum = d } in
       let set = withThread k i (answered (threadAt k i) a) in
       chosen (SameSizes k) (eqb i nobody) (λ e. answer-sizes k a)
       (λ e. sizes-trans (thread-sizes k i (answered (threadAt k i) a)) (mark-finished-sizes set i))
 
   -- nobody else's row, nor finished flag, changes
-  pub finished-others : (j : ℕ) → j ≢ i → threadAt (finished k i m d) j ≡ threadAt k j
+  pub finish-others : (j : ℕ) → j ≢ i → threadAt (finished k i m d) j ≡ threadAt k j
   unfolding finished
-  finished-others j n =
+  finish-others j n =
       chosen (λ (h : Kernel). threadAt h j ≡ threadAt k j) (eqb i nobody) (λ e. refl)
       (λ e. thread-other k i (answered (threadAt k i) (record { message = m; datum = d })) j n)
 
-  pub finished-flag-others : (j : ℕ) → j ≢ i → finishedAt (finished k i m d) j ≡ finishedAt k j
+  pub finish-flag-others : (j : ℕ) → j ≢ i → finishedAt (finished k i m d) j ≡ finishedAt k j
   unfolding finished
-  finished-flag-others j n =
+  finish-flag-others j n =
       chosen (λ (h : Kernel). finishedAt h j ≡ finishedAt k j) (eqb i nobody) (λ e. refl) (λ e. mark-finished-other k i j n)
+
+  -- what an answer keeps of a row, every row keeps: state, place, ticks, pending flags and message
+  pub finish-kept : {A : Type 0} (f : Thread → A) → ((a : Answer) → f (answered (threadAt k i) a) ≡ f (threadAt k i))
+      → (j : ℕ) → f (threadAt (finished k i m d) j) ≡ f (threadAt k j)
+  unfolding finished
+  finish-kept f e j =
+      let a : Answer = record { message = m; datum = d } in
+      chosen (λ (h : Kernel). f (threadAt h j) ≡ f (threadAt k j)) (eqb i nobody) (λ n. refl)
+      (λ n. thread-kept k i (answered (threadAt k i) a) f (e a) j)
 
   module _ (thread : i ≢ nobody) where
     -- a finished call is no more: its fields are 0, and its answer is the last answer
-    pub finished-row : i < length (k .threads)
+    pub finish-row : i < length (k .threads)
         → threadAt (finished k i m d) i ≡ answered (threadAt k i) (record { message = m; datum = d })
     unfolding finished
-    finished-row h =
+    finish-row h =
         rw (ne-eqb i nobody thread) (thread-same k i (answered (threadAt k i) (record { message = m; datum = d })) h)
 
-    pub finished-flag : i < length (k .finished) → finishedAt (finished k i m d) i ≡ true
+    pub finish-flag : i < length (k .finished) → finishedAt (finished k i m d) i ≡ true
     unfolding finished
-    finished-flag h = rw (ne-eqb i nobody thread) (mark-finished-same k i h)
+    finish-flag h = rw (ne-eqb i nobody thread) (mark-finished-same k i h)
 
-    pub finished-answer : finished k i m d .answer ≡ k .answer
+    pub finish-answer : finished k i m d .answer ≡ k .answer
     unfolding finished
-    finished-answer = rw (ne-eqb i nobody thread)
+    finish-answer = rw (ne-eqb i nobody thread)
 
 -- ---- what cannot be had at once
 
 module _ (k : Kernel) (i s p : ℕ) (c : Call) where
   -- "a timeout of 0 answers -1 at once, changing nothing else"
-  pub blocked-immediate : c .timeout ≡ 0 → blocked k i s p c ≡ finished k i timedOut 0
+  pub block-immediate : c .timeout ≡ 0 → blocked k i s p c ≡ finished k i timedOut 0
   unfolding blocked
-  blocked-immediate e = rw (eq-eqb (c .timeout) 0 e)
+  block-immediate e = rw (eq-eqb (c .timeout) 0 e)
 
   -- any other timeout goes to sleep
-  pub blocked-sleeps : c .timeout ≢ 0 → blocked k i s p c ≡ slept k i s p c
+  pub block-sleeps : c .timeout ≢ 0 → blocked k i s p c ≡ slept k i s p c
   unfolding blocked
-  blocked-sleeps n = rw (ne-eqb (c .timeout) 0 n)
+  block-sleeps n = rw (ne-eqb (c .timeout) 0 n)
 
   -- one of the two
-  pub blocked-cases : (P : Kernel → Type 0) → (c .timeout ≡ 0 → P (finished k i timedOut 0)) → (c .timeout ≢ 0 → P (slept k i s p c))
+  pub block-cases : (P : Kernel → Type 0) → (c .timeout ≡ 0 → P (finished k i timedOut 0)) → (c .timeout ≢ 0 → P (slept k i s p c))
       → P (blocked k i s p c)
-  blocked-cases P f g =
-      same-or (c .timeout) 0 (λ e. rw (blocked-immediate e) (f e)) (λ n. rw (blocked-sleeps n) (g n))
+  block-cases P f g =
+      same-or (c .timeout) 0 (λ e. rw (block-immediate e) (f e)) (λ n. rw (block-sleeps n) (g n))

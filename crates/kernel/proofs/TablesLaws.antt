@@ -27,7 +27,7 @@ use Rattle.kernel.specs.Tables.{
   withFinished,
   withAnswer,
 }
-use Rattle.kernel.proofs.Cases.{in-or-out}
+use Rattle.kernel.proofs.Cases.{same-or, in-or-out}
 use Rattle.kernel.proofs.Loops.{used-le}
 
 -- whether thread i was made ready in this step, and whether its call finished
@@ -120,6 +120,14 @@ module _ (k : Kernel) (i : ℕ) (t : Thread) where
 
   pub thread-past : length (k .threads) ≤ i → withThread k i t ≡ k
   thread-past h = rw (set-out (k .threads) i t h)
+
+  -- what a written row keeps, every row keeps
+  pub thread-kept : {A : Type 0} (f : Thread → A) → f t ≡ f (threadAt k i) → (j : ℕ) → f (threadAt (withThread k i t) j) ≡ f (threadAt k j)
+  thread-kept f e j =
+      same-or j i
+      (λ s. rw s
+      (in-or-out i (length (k .threads)) (λ h. rw (thread-same h) e) (λ h. rw (set-out (k .threads) i t h))))
+      (λ n. rw (thread-other j n))
 
 -- past the end a thread is the blank
 pub thread-blank : (k : Kernel) (i : ℕ) → length (k .threads) ≤ i → threadAt k i ≡ blank

@@ -126,20 +126,24 @@ pub each-keeps : {A : Type 0} (P : A → Type 0) (f : ℕ → A → A) (n : ℕ)
 each-keeps P f zero h a p = p
 each-keeps P f (suc n) h a p = h n (omega arith) (each n f a) (each-keeps P f n (λ i l. h i (omega arith)) a p)
 
--- a body that changes only its own row, by g: at a j reads row j, and P is a fact that the body needs and keeps
-module _ {A B : Type 0} (P : A → Type 0) (at : A → ℕ → B) (f : ℕ → A → A) (g : B → B)
-    (keeps : (i : ℕ) (a : A) → P a → P (f i a))
-    (own : (i : ℕ) (a : A) → P a → at (f i a) i ≡ g (at a i))
-    (other : (i j : ℕ) (a : A) → j ≢ i → at (f i a) j ≡ at a j) where
-  -- the rows that the walk does not come to are as they were
+-- bodies that agree walk alike
+pub each-agree : {A : Type 0} (f g : ℕ → A → A) (n : ℕ) → ((i : ℕ) (a : A) → f i a ≡ g i a) → (a : A) → each n f a ≡ each n g a
+each-agree f g zero h a = refl
+each-agree f g (suc n) h a = h n (each n f a) ∙ ap (g n) (each-agree f g n h a)
+
+-- a body that changes no row but its own; at a j reads row j
+module _ {A B : Type 0} (at : A → ℕ → B) (f : ℕ → A → A) (other : (i j : ℕ) (a : A) → j ≢ i → at (f i a) j ≡ at a j) where
+  -- a row that the walk does not come to is as it was
   pub each-later : (n j : ℕ) (a : A) → n ≤ j → at (each n f a) j ≡ at a j
   each-later zero j a h = refl
   each-later (suc n) j a h = other n j (each n f a) (omega arith) ∙ each-later n j a (omega arith)
 
-  -- the others are changed by g, once
-  pub each-row : (n j : ℕ) (a : A) → P a → j < n → at (each n f a) j ≡ g (at a j)
-  each-row zero j a p h = absurd (not-suc-le-zero h)
-  each-row (suc n) j a p h =
-      same-or j n
-      (λ e. rw e (own n (each n f a) (each-keeps P f n (λ i l. keeps i) a p) ∙ ap g (each-later n n a (le-refl n))))
-      (λ e. other n j (each n f a) e ∙ each-row n j a p (omega arith))
+  -- where the body changes its own row by g, the walk does so to each, once; P is what the body needs for that, and keeps
+  module _ (P : A → Type 0) (g : B → B) (keeps : (i : ℕ) (a : A) → P a → P (f i a))
+      (own : (i : ℕ) (a : A) → P a → at (f i a) i ≡ g (at a i)) where
+    pub each-row : (n j : ℕ) (a : A) → P a → j < n → at (each n f a) j ≡ g (at a j)
+    each-row zero j a p h = absurd (not-suc-le-zero h)
+    each-row (suc n) j a p h =
+        same-or j n
+        (λ e. rw e (own n (each n f a) (each-keeps P f n (λ i l. keeps i) a p) ∙ ap g (each-later n n a (le-refl n))))
+        (λ e. other n j (each n f a) e ∙ each-row n j a p (omega arith))
