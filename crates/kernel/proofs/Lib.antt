@@ -11,3 +11,5 @@ pub mod CountersLaws
 pub mod MovesLaws
 pub mod Rounds
 pub mod QueueLaws
+pub mod SemaphoreLaws
+pub mod ReferenceLaws

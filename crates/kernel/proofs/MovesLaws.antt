@@ -183,6 +183,11 @@ module _ (k : Kernel) (i : ℕ) (m : ℤ) where
       rw (off-counters k (threadAt k i .state) (threadAt k i .place))
       (unchanged k up (eqb (threadAt k i .state) queued) (threadAt k i .place) q z)
 
+  -- none changes if it was not queued
+  pub wake-counters : eqb (threadAt k i .state) queued ≡ false → woken k i m .counters ≡ k .counters
+  unfolding woken
+  wake-counters e = off-counters k (threadAt k i .state) (threadAt k i .place) ∙ rw e
+
   -- its place owes one waking less, and no other place does
   pub wake-debt : (q : ℕ) → debt (counterAt (woken k i m) q) ≡ debt (counterAt k q) - bit (queuedAt q (threadAt k i))
   unfolding woken
@@ -385,3 +390,6 @@ module _ (k : Kernel) (i s p : ℕ) (c : Call) where
       → P (blocked k i s p c)
   block-cases P f g =
       same-or (c .timeout) 0 (λ e. rw (block-immediate e) (f e)) (λ n. rw (block-sleeps n) (g n))
+
+  pub block-sizes : SameSizes k (blocked k i s p c)
+  block-sizes = block-cases (SameSizes k) (λ e. finish-sizes k i timedOut 0) (λ n. sleep-sizes k i s p c)

@@ -23,7 +23,7 @@ use Rattle.kernel.specs.Moves.{readied, woken, slept, finished}
 use Rattle.kernel.specs.Waiters.{queuedAt, firstWaiter}
 use Rattle.kernel.specs.Queue.{enqueued, releasedFirst, releasedOne, releasedAll}
 use Rattle.kernel.specs.Semaphore.{taken, waited, signalled, resetTo}
-use Rattle.kernel.proofs.Cases.{split, same-or, in-or-out, chosen, both-means, first-fails}
+use Rattle.kernel.proofs.Cases.{split, same-or, in-or-out, chosen, contrary, both-means, first-fails}
 use Rattle.kernel.proofs.WalkLaws.{
   First,
   None,
@@ -108,6 +108,10 @@ pub queued-place : (p q : ℕ) (t : Thread) → queuedAt p t ≡ true → queued
 queued-place p q t e =
     let both = both-means (eqb (t .state) queued) (eqb (t .place) p) e in
     rw (both .0, eqb-true (t .place) p (both .1))
+
+-- who waits has a row
+pub waits-within : (k : Kernel) (p i : ℕ) → waits k p i ≡ true → i < length (k .threads)
+waits-within k p i e = in-or-out i (length (k .threads)) (λ h. h) (λ h. contrary e (rw (thread-blank k i h)))
 
 -- the rule stays where nobody's wait and no debt changes
 pub same-tallied : (k h : Kernel) (n : ℕ) → ((p i : ℕ) → waits h p i ≡ waits k p i)
