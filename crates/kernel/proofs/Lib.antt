@@ -13,3 +13,5 @@ pub mod Rounds
 pub mod QueueLaws
 pub mod SemaphoreLaws
 pub mod ReferenceLaws
+pub mod TickingLaws
+pub mod EventLaws

@@ -202,6 +202,10 @@ module _ (k : Kernel) (i : ℕ) (m : ℤ) where
       rw (off-references k (threadAt k i .state) (threadAt k i .place))
       (emptied k (eqb (threadAt k i .state) suspended) (threadAt k i .place) r)
 
+  pub wake-references : eqb (threadAt k i .state) suspended ≡ false → woken k i m .references ≡ k .references
+  unfolding woken
+  wake-references e = off-references k (threadAt k i .state) (threadAt k i .place) ∙ rw e
+
   -- its woken flag is set, and no other changes
   pub wake-woken : woken k i m .woken ≡ withWoken k i .woken
   unfolding woken
