@@ -1,26 +1,24 @@
 -- Event flags: a signal and a wait touch one thread's row, its flags and its call. Flags found are cleared and are the datum, so that
 -- none is lost: what stays pending and the datum together are what was pending before.
-use Prim.Native.Nat.{ℕ, _+_, _-_, _≤_, _<_}
+use Prim.Native.Nat.{ℕ, _+_, _-_, _<_}
 use native.Mathlib.Omega.{arith}
 use mathlib.Core.Path.{_≡_, refl, sym, ap, _∙_}
 use mathlib.Core.Logic.{_≢_}
-use mathlib.Core.Bool.{Bool, true, false, cond, not, _&&_}
+use mathlib.Core.Bool.{true, false, not}
 use lib.Dec.{eqb}
 use lib.Bits.{bitAnd, bitOr, and-le-l}
 use lib.ListN.{length}
-use lib.IntN.{ℤ, pos}
 use borrow.Author.Tests.{eqb-true, eq-eqb, ne-eqb}
 use Rattle.kernel.specs.declared.records.Call.{Call}
-use Rattle.kernel.specs.declared.records.Answer.{Answer}
 use Rattle.kernel.specs.declared.records.Thread.{Thread}
 use Rattle.kernel.specs.declared.records.Kernel.{Kernel}
-use Rattle.kernel.specs.Numbers.{nobody, nowhere, ready, suspended, queued, awaiting, ok, timedOut}
-use Rattle.kernel.specs.Records.{blank, noCall}
+use Rattle.kernel.specs.Numbers.{nobody, nowhere, ready, awaiting, ok, timedOut}
+use Rattle.kernel.specs.Records.{noCall}
 use Rattle.kernel.specs.Tables.{threadAt, withThread}
 use Rattle.kernel.specs.Moves.{readied, answered, woken, finished, blocked}
 use Rattle.kernel.specs.Waiters.{queuedAt}
 use Rattle.kernel.specs.Event.{withPending, flagged, tookFlags, isMet, eventSignalled, eventWaited}
-use Rattle.kernel.proofs.Cases.{split, same-or, in-or-out, chosen, contrary, both-means}
+use Rattle.kernel.proofs.Cases.{same-or, in-or-out, chosen, both-means}
 use Rattle.kernel.proofs.TablesLaws.{
   wokenAt,
   finishedAt,
@@ -32,30 +30,8 @@ use Rattle.kernel.proofs.TablesLaws.{
   thread-kept,
   thread-blank,
 }
-use Rattle.kernel.proofs.MovesLaws.{
-  suspendedAt,
-  wake-row,
-  wake-others,
-  wake-flag,
-  wake-flag-others,
-  wake-finished,
-  wake-counters,
-  wake-references,
-  wake-sizes,
-  sleep-others,
-  finish-row,
-  finish-others,
-  finish-flag,
-  finish-flag-others,
-  finish-kept,
-  finish-counters,
-  finish-references,
-  finish-woken,
-  finish-sizes,
-  block-cases,
-  block-sizes,
-}
-use Rattle.kernel.proofs.QueueLaws.{Tallied, Level, same-tallied, wake-unqueued-tallied, finish-tallied, sleep-unqueued-tallied}
+use Rattle.kernel.proofs.MovesLaws.{suspendedAt, wake-row, wake-others, wake-flag, wake-flag-others, wake-finished, wake-counters, wake-references, wake-sizes, sleep-others, finish-row, finish-others, finish-flag, finish-flag-others, finish-counters, finish-references, finish-woken, finish-sizes, block-cases, block-sizes}
+use Rattle.kernel.proofs.QueueLaws.{Tallied, same-tallied, wake-unqueued-tallied, finish-tallied, sleep-unqueued-tallied}
 use Rattle.kernel.proofs.ReferenceLaws.{Held, same-held, wake-unsuspended-held, finish-held, sleep-unsuspended-held}
 
 -- other pending flags of a thread leave the two rules

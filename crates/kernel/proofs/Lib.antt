@@ -6,12 +6,16 @@ pub mod Loops
 pub mod Products
 pub mod Cases
 pub mod WalkLaws
+pub mod TimeLaws
+pub mod UnitsLaws
 pub mod TablesLaws
 pub mod CountersLaws
 pub mod MovesLaws
 pub mod Rounds
+pub mod WaitersLaws
 pub mod QueueLaws
 pub mod SemaphoreLaws
 pub mod ReferenceLaws
+pub mod DelayLaws
 pub mod TickingLaws
 pub mod EventLaws

@@ -1,11 +1,11 @@
 -- A move changes one thread's row, and the one counter or reference that the thread leaves or joins; all else stands as it stood.
 use Prim.Native.Nat.{ℕ, _+_, _-_, _≤_, _<_}
 use native.Mathlib.Omega.{arith}
-use mathlib.Core.Path.{_≡_, refl, sym, ap, _∙_}
+use mathlib.Core.Path.{_≡_, refl, sym, _∙_}
 use mathlib.Core.Logic.{_≢_}
 use mathlib.Core.Bool.{Bool, true, false, cond, _&&_}
 use lib.Dec.{eqb, ltb}
-use lib.ListN.{length, getD, set, length-set, List·getD-eq-default}
+use lib.ListN.{length, getD, set, length-set}
 use lib.Seq.{set-out, getD-set-same, getD-set-other}
 use lib.IntN.{ℤ, pos}
 use lib.Signed.{ltZ}
@@ -18,17 +18,7 @@ use Rattle.kernel.specs.Numbers.{nobody, suspended, queued, timedOut}
 use Rattle.kernel.specs.Records.{blank}
 use Rattle.kernel.specs.Walk.{bit}
 use Rattle.kernel.specs.Counters.{up, down}
-use Rattle.kernel.specs.Tables.{
-  threadAt,
-  counterAt,
-  holderAt,
-  withThread,
-  withCounter,
-  withHolder,
-  withWoken,
-  withFinished,
-  withAnswer,
-}
+use Rattle.kernel.specs.Tables.{threadAt, counterAt, holderAt, withThread, withCounter, withHolder, withWoken, withAnswer}
 use Rattle.kernel.specs.Moves.{readied, asleep, answered, takenOff, putOn, woken, slept, finished, blocked}
 use Rattle.kernel.specs.Waiters.{queuedAt}
 use Rattle.kernel.proofs.Cases.{split, same-or, in-or-out, chosen}

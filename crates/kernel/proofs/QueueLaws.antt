@@ -1,56 +1,31 @@
 -- The counter rule: of the first n threads as many are queued at each place as its counter owes. A waking takes its thread off the
 -- one side and raises the counter on the other, a sleep does the reverse, and every operation is made of the two.
-use Prim.Native.Nat.{ℕ, _+_, _-_, _≤_, _<_}
+use Prim.Native.Nat.{ℕ, _+_, _≤_, _<_}
 use native.Mathlib.Omega.{arith}
 use mathlib.Core.Path.{_≡_, refl, sym, ap, _∙_}
-use mathlib.Core.Logic.{_≢_, _⊎_, inl, inr}
-use mathlib.Core.Bool.{Bool, true, false, cond, _&&_, _||_}
+use mathlib.Core.Logic.{_≢_, inl, inr}
+use mathlib.Core.Bool.{true, false, cond, _&&_, _||_}
 use lib.Dec.{eqb}
 use lib.ListN.{length}
 use lib.Seq.{set-getD}
 use lib.IntN.{ℤ, pos}
 use lib.Signed.{ltZ}
-use borrow.Author.Tests.{eqb-true, eq-eqb, ne-eqb}
+use borrow.Author.Tests.{ne-eqb}
 use Rattle.kernel.specs.declared.records.Call.{Call}
 use Rattle.kernel.specs.declared.records.Thread.{Thread}
 use Rattle.kernel.specs.declared.records.Kernel.{Kernel}
-use Rattle.kernel.specs.Numbers.{nobody, ready, queued, ok, wasReset}
+use Rattle.kernel.specs.Numbers.{nobody, ready, queued}
 use Rattle.kernel.specs.Records.{blank}
-use Rattle.kernel.specs.Walk.{each, bit, countOf}
-use Rattle.kernel.specs.Tables.{usedRows, threadAt, counterAt, withThread, withCounter}
-use Rattle.kernel.specs.Counters.{up, down}
+use Rattle.kernel.specs.Walk.{each, bit}
+use Rattle.kernel.specs.Tables.{usedRows, threadAt, counterAt}
 use Rattle.kernel.specs.Moves.{readied, woken, slept, finished}
 use Rattle.kernel.specs.Waiters.{queuedAt, firstWaiter}
-use Rattle.kernel.specs.Queue.{enqueued, releasedFirst, releasedOne, releasedAll}
-use Rattle.kernel.specs.Semaphore.{taken, waited, signalled, resetTo}
-use Rattle.kernel.proofs.Cases.{split, same-or, in-or-out, chosen, contrary, both-means, first-fails}
-use Rattle.kernel.proofs.WalkLaws.{
-  First,
-  None,
-  first-cases,
-  first-nobody,
-  counted-first,
-  count-le,
-  count-agree,
-  count-change,
-  count-some,
-  count-none,
-  each-keeps,
-  each-agree,
-}
-use Rattle.kernel.proofs.TablesLaws.{
-  wokenAt,
-  Sized,
-  SameSizes,
-  sizes-refl,
-  sizes-trans,
-  used-all,
-  used-le-given,
-  thread-kept,
-  thread-blank,
-  counter-zero,
-}
+use Rattle.kernel.specs.Queue.{releasedFirst, releasedOne, releasedAll}
+use Rattle.kernel.proofs.Cases.{split, same-or, in-or-out, chosen, first-fails}
+use Rattle.kernel.proofs.WalkLaws.{None, count-le, count-agree, count-change, count-some, count-none, each-keeps, each-agree}
+use Rattle.kernel.proofs.TablesLaws.{wokenAt, SameSizes, used-le-given, thread-blank, counter-zero}
 use Rattle.kernel.proofs.CountersLaws.{debt, debt-below, debt-exact, up-not-above, down-not-above}
+use Rattle.kernel.proofs.WaitersLaws.{waits, waiters, queued-place, first-waiter-cases, first-waiter-nobody}
 use Rattle.kernel.proofs.Rounds.{
   turn,
   round-row,
@@ -61,35 +36,7 @@ use Rattle.kernel.proofs.Rounds.{
   round-answer,
   round-sizes,
 }
-use Rattle.kernel.proofs.MovesLaws.{
-  wake-threads,
-  wake-row,
-  wake-others,
-  wake-counter,
-  wake-counter-others,
-  wake-debt,
-  wake-flag,
-  wake-flag-others,
-  wake-sizes,
-  wake-past,
-  sleep-past,
-  sleep-row,
-  sleep-others,
-  sleep-counter,
-  sleep-debt,
-  sleep-counter-others,
-  sleep-sizes,
-  finish-kept,
-  finish-counters,
-}
-
--- thread i waits at the place p
-abbrev pub waits : Kernel → ℕ → ℕ → Bool
-waits k p i = queuedAt p (threadAt k i)
-
--- how many of the first n threads wait at p
-abbrev pub waiters : Kernel → ℕ → ℕ → ℕ
-waiters k n p = countOf (waits k p) n
+use Rattle.kernel.proofs.MovesLaws.{wake-row, wake-others, wake-counter, wake-counter-others, wake-debt, wake-sizes, wake-past, sleep-past, sleep-row, sleep-others, sleep-counter, sleep-debt, sleep-counter-others, sleep-sizes, finish-kept, finish-counters}
 
 -- "A semaphore (a pool's too) or queue with n > 0 threads queued has counter -n; with none, .. at least 0"
 abbrev pub Tallied : ℕ → Kernel → Type 0
@@ -102,16 +49,6 @@ Level p k = ltZ (pos 0) (counterAt k p) ≡ false
 -- ".. and a queue exactly 0" with none queued
 pub level-zero : (k : Kernel) (n p : ℕ) → Tallied n k → Level p k → None (waits k p) n → counterAt k p ≡ pos 0
 level-zero k n p g l w = debt-exact (counterAt k p) l (sym (g p) ∙ count-none (waits k p) n w)
-
--- who waits at p waits nowhere else
-pub queued-place : (p q : ℕ) (t : Thread) → queuedAt p t ≡ true → queuedAt q t ≡ eqb p q
-queued-place p q t e =
-    let both = both-means (eqb (t .state) queued) (eqb (t .place) p) e in
-    rw (both .0, eqb-true (t .place) p (both .1))
-
--- who waits has a row
-pub waits-within : (k : Kernel) (p i : ℕ) → waits k p i ≡ true → i < length (k .threads)
-waits-within k p i e = in-or-out i (length (k .threads)) (λ h. h) (λ h. contrary e (rw (thread-blank k i h)))
 
 -- the rule stays where nobody's wait and no debt changes
 pub same-tallied : (k h : Kernel) (n : ℕ) → ((p i : ℕ) → waits h p i ≡ waits k p i)
@@ -207,24 +144,6 @@ sleep-level k i s p c q l =
 pub finish-tallied : (k : Kernel) (i : ℕ) (m : ℤ) (d n : ℕ) → Tallied n k → Tallied n (finished k i m d)
 finish-tallied k i m d n =
     same-tallied k (finished k i m d) n (λ p j. finish-kept k i m d (queuedAt p) (λ a. refl) j) (λ p. rw (finish-counters k i m d))
-
--- ---- who is first
-
-module _ (k : Kernel) (n p : ℕ) where
-  -- the first waiter is the one with the least index; or it is nobody, and none waits
-  pub first-waiter-cases : First (waits k p) (usedRows n) (firstWaiter k n p)
-      ⊎ ((firstWaiter k n p ≡ nobody) × None (waits k p) (usedRows n))
-  unfolding firstWaiter
-  first-waiter-cases = first-cases (waits k p) (usedRows n)
-
-  -- where any is counted there is a first
-  pub first-waiter-counted : n ≤ 16 → 1 ≤ waiters k n p → First (waits k p) n (firstWaiter k n p)
-  unfolding firstWaiter
-  first-waiter-counted l h = rw (used-all n l) (counted-first (waits k p) n h)
-
-  pub first-waiter-nobody : None (waits k p) (usedRows n) → firstWaiter k n p ≡ nobody
-  unfolding firstWaiter
-  first-waiter-nobody h = first-nobody (waits k p) (usedRows n) h
 
 -- ---- release of the first
 

@@ -3,50 +3,31 @@
 use Prim.Native.Nat.{ℕ, _≤_, _<_}
 use native.Mathlib.Omega.{arith}
 use mathlib.Core.Path.{_≡_, refl, sym, ap, _∙_}
-use mathlib.Core.Logic.{_≢_, _⊎_, inl, inr}
-use mathlib.Core.Bool.{Bool, true, false, cond, _&&_}
+use mathlib.Core.Logic.{_≢_, inl, inr}
+use mathlib.Core.Bool.{true, false, cond}
 use lib.Dec.{eqb}
 use lib.ListN.{length}
 use lib.IntN.{ℤ, pos}
 use lib.Signed.{ltZ}
-use borrow.Author.Tests.{eqb-true, eqb-false, eq-eqb, ne-eqb}
+use borrow.Author.Tests.{eqb-true, eq-eqb, ne-eqb}
 use Rattle.kernel.specs.declared.records.Call.{Call}
-use Rattle.kernel.specs.declared.records.Answer.{Answer}
 use Rattle.kernel.specs.declared.records.Thread.{Thread}
 use Rattle.kernel.specs.declared.records.Kernel.{Kernel}
 use Rattle.kernel.specs.Numbers.{nobody, ready, suspended, queued, ok, timedOut, wasReset}
 use Rattle.kernel.specs.Tables.{threadAt, counterAt, holderAt, withCounter}
-use Rattle.kernel.specs.Moves.{readied, asleep, woken, slept, finished, blocked}
+use Rattle.kernel.specs.Moves.{readied, woken, slept, finished}
 use Rattle.kernel.specs.Counters.{up, down}
 use Rattle.kernel.specs.Waiters.{queuedAt, firstWaiter}
 use Rattle.kernel.specs.Queue.{enqueued, releasedFirst, releasedAll}
 use Rattle.kernel.specs.Semaphore.{taken, waited, signalled, resetTo}
 use Rattle.kernel.specs.Reference.{suspendedOn, resumed}
 use Rattle.kernel.proofs.Cases.{split, same-or, in-or-out, chosen, contrary, both-means, first-fails}
-use Rattle.kernel.proofs.TablesLaws.{SameSizes, used-le-given, thread-blank}
-use Rattle.kernel.proofs.MovesLaws.{
-  suspendedAt,
-  wake-row,
-  wake-others,
-  wake-holder,
-  wake-counters,
-  wake-sizes,
-  wake-past,
-  sleep-past,
-  sleep-row,
-  sleep-others,
-  sleep-holder,
-  sleep-holder-others,
-  sleep-sizes,
-  finish-kept,
-  finish-references,
-  block-cases,
-  block-sizes,
-}
+use Rattle.kernel.proofs.TablesLaws.{SameSizes, thread-blank}
+use Rattle.kernel.proofs.MovesLaws.{suspendedAt, wake-row, wake-others, wake-holder, wake-counters, wake-sizes, wake-past, sleep-past, sleep-row, sleep-others, sleep-holder, sleep-holder-others, sleep-sizes, finish-kept, finish-references, block-cases}
+use Rattle.kernel.proofs.WaitersLaws.{first-waiter-cases}
 use Rattle.kernel.proofs.QueueLaws.{
   Tallied,
   Level,
-  first-waiter-cases,
   wake-unqueued-tallied,
   sleep-unqueued-tallied,
   finish-tallied,

@@ -2,57 +2,31 @@
 -- counter not above 0; a reset leaves no waiter, so that any counter not below 0 is right.
 use Prim.Native.Nat.{ℕ, _≤_, _<_}
 use native.Mathlib.Omega.{arith}
-use mathlib.Core.Path.{_≡_, refl, sym, ap, _∙_}
+use mathlib.Core.Path.{_≡_, refl, sym, _∙_}
 use mathlib.Core.Logic.{_≢_}
-use mathlib.Core.Bool.{Bool, true, false, cond}
+use mathlib.Core.Bool.{true, false, cond}
 use lib.Dec.{eqb}
 use lib.ListN.{length}
 use lib.Seq.{set-out}
 use lib.IntN.{ℤ, pos}
 use lib.Signed.{ltZ}
-use borrow.Author.Tests.{eqb-true, eq-eqb, ne-eqb}
+use borrow.Author.Tests.{eq-eqb, ne-eqb}
 use Rattle.kernel.specs.declared.records.Call.{Call}
 use Rattle.kernel.specs.declared.records.Kernel.{Kernel}
 use Rattle.kernel.specs.Numbers.{nobody, ready, queued, ok, timedOut, wasReset}
 use Rattle.kernel.specs.Tables.{usedRows, threadAt, counterAt, withCounter}
 use Rattle.kernel.specs.Counters.{up, down}
-use Rattle.kernel.specs.Moves.{readied, woken, slept, finished, blocked}
+use Rattle.kernel.specs.Moves.{readied, woken, finished, blocked}
 use Rattle.kernel.specs.Waiters.{firstWaiter}
 use Rattle.kernel.specs.Queue.{enqueued, releasedFirst, releasedAll}
 use Rattle.kernel.specs.Semaphore.{taken, waited, signalled, resetTo}
 use Rattle.kernel.proofs.Cases.{split, same-or, in-or-out, chosen}
 use Rattle.kernel.proofs.WalkLaws.{First, None, count-none}
-use Rattle.kernel.proofs.TablesLaws.{
-  SameSizes,
-  sizes-trans,
-  used-all,
-  thread-blank,
-  counter-same,
-  counter-other,
-  counter-sizes,
-}
-use Rattle.kernel.proofs.CountersLaws.{debt, debt-none, debt-some, raised-none, lowered-none}
-use Rattle.kernel.proofs.MovesLaws.{wake-row, wake-others, wake-counter, finish-sizes, block-cases, block-sizes}
-use Rattle.kernel.proofs.QueueLaws.{
-  waits,
-  waiters,
-  Tallied,
-  queued-place,
-  waits-within,
-  first-waiter-counted,
-  finish-tallied,
-  sleep-tallied,
-  release-first-tallied,
-  release-first-others,
-  release-first-none,
-  release-first-sizes,
-  release-all-row,
-  release-all-later,
-  release-all-empties,
-  release-all-tallied,
-  release-all-counter-others,
-  release-all-sizes,
-}
+use Rattle.kernel.proofs.TablesLaws.{SameSizes, sizes-trans, used-all, counter-same, counter-other, counter-sizes}
+use Rattle.kernel.proofs.CountersLaws.{debt-none, debt-some, raised-none, lowered-none}
+use Rattle.kernel.proofs.MovesLaws.{wake-row, wake-counter, finish-sizes, block-cases, block-sizes}
+use Rattle.kernel.proofs.WaitersLaws.{waits, queued-place, waits-within, first-waiter-counted}
+use Rattle.kernel.proofs.QueueLaws.{Tallied, finish-tallied, sleep-tallied, release-first-tallied, release-first-others, release-first-none, release-first-sizes, release-all-empties, release-all-tallied, release-all-counter-others, release-all-sizes}
 
 -- ---- signal
 

@@ -1,8 +1,8 @@
 -- A tick is a round: whose last tick it is, is made ready with -1, and of everyone else one tick is counted off. A row with one tick
 -- less waits where it waited, so the counters' and the references' rules stay.
-use Prim.Native.Nat.{ℕ, _-_, _≤_, _<_}
+use Prim.Native.Nat.{ℕ, _≤_, _<_}
 use native.Mathlib.Omega.{arith}
-use mathlib.Core.Path.{_≡_, refl, ap}
+use mathlib.Core.Path.{_≡_, refl}
 use mathlib.Core.Logic.{_≢_}
 use mathlib.Core.Bool.{Bool, cond, _||_}
 use lib.Dec.{eqb}

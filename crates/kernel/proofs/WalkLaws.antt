@@ -4,7 +4,7 @@ use native.Mathlib.Nat.{not-suc-le-zero, le-refl}
 use native.Mathlib.Omega.{arith}
 use mathlib.Core.Path.{_≡_, refl, sym, ap, _∙_}
 use mathlib.Core.Logic.{_≢_, _⊎_, inl, inr}
-use mathlib.Core.Bool.{Bool, true, false, cond}
+use mathlib.Core.Bool.{Bool, true, false}
 use Rattle.kernel.specs.Numbers.{nobody}
 use Rattle.kernel.specs.Walk.{each, firstFrom, bit, countOf}
 use Rattle.kernel.proofs.Cases.{split, same-or, in-or-out, contrary}
