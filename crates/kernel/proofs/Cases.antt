@@ -37,10 +37,11 @@ pub both-means : (a b : Bool) → a && b ≡ true → (a ≡ true) × (b ≡ tru
 both-means true b e = (refl, e)
 both-means false b e = contrary e refl
 
--- two tests fail together if the first does, or the second
+-- two tests fail together if the first does
 pub first-fails : {a : Bool} (b : Bool) → a ≡ false → a && b ≡ false
 first-fails b e = rw e
 
+-- or if the second does
 pub second-fails : (a : Bool) {b : Bool} → b ≡ false → a && b ≡ false
 second-fails true e = e
 second-fails false e = refl

@@ -21,20 +21,22 @@ abbrev pub debt : ℤ → ℕ
 debt (pos m) = 0
 debt (negsuc m) = suc m
 
--- a counter owes exactly if it is below 0
+-- a counter that is not below 0 owes nothing
 pub debt-none : (c : ℤ) → ltZ c (pos 0) ≡ false → debt c ≡ 0
 debt-none (pos n) e = refl
 debt-none (negsuc n) e = contrary refl e
 
+-- a counter below 0 owes at least one
 pub debt-some : (c : ℤ) → ltZ c (pos 0) ≡ true → 1 ≤ debt c
 debt-some (pos n) e = contrary e (le-ltb n 0 (omega arith))
 debt-some (negsuc n) e = omega arith
 
--- a counter that owes is below 0, and one that neither owes nor is above 0 is 0
+-- a counter that owes is below 0
 pub debt-below : (c : ℤ) → 1 ≤ debt c → ltZ c (pos 0) ≡ true
 debt-below (pos n) h = absurd (omega arith)
 debt-below (negsuc n) h = refl
 
+-- one that neither owes nor is above 0 is 0
 pub debt-exact : (c : ℤ) → ltZ (pos 0) c ≡ false → debt c ≡ 0 → c ≡ pos 0
 debt-exact (pos n) e h = ap pos (omega (arith, ltb-false 0 n e))
 debt-exact (negsuc n) e h = absurd (omega arith)
@@ -44,10 +46,11 @@ pub above-not-below : (c : ℤ) → ltZ (pos 0) c ≡ true → ltZ c (pos 0) ≡
 above-not-below (pos n) e = le-ltb n 0 (omega arith)
 above-not-below (negsuc n) e = contrary e refl
 
--- exact values: "counter +1", "counter less 1", within the ends
+-- "counter +1", below the top
 pub up-exact : (c : ℤ) → ltZ c (pos 2147483647) ≡ true → up c ≡ c +ℤ pos 1
 up-exact c e = rw e
 
+-- "counter less 1", above the bottom
 pub down-exact : (c : ℤ) → ltZ (negsuc 2147483647) c ≡ true → down c ≡ c -ℤ pos 1
 down-exact c e = rw e
 
@@ -100,13 +103,14 @@ module _ (k : Kernel) (p q : ℕ) where
       (λ e. rw (e, eq-eqb p p refl, counter-same k p (down (counterAt k p)) h) (down-debt (counterAt k p) z l))
       (λ n. rw (ne-eqb p q (λ e. n (sym e)), counter-other k p (down (counterAt k p)) q n) (omega arith))
 
-  -- one more where nothing is owed, and one less where the counter is above 0, change no debt
+  -- one more where nothing is owed changes no debt
   pub raised-none : ltZ (counterAt k p) (pos 0) ≡ false
       → debt (counterAt (withCounter k p (up (counterAt k p))) q) ≡ debt (counterAt k q)
   raised-none z =
       raised-debt
       ∙ same-or q p (λ e. rw (e, debt-none (counterAt k p) z) (omega arith)) (λ n. rw (ne-eqb p q (λ e. n (sym e))) (omega arith))
 
+  -- one less where the counter is above 0 changes no debt
   pub lowered-none : ltZ (pos 0) (counterAt k p) ≡ true
       → debt (counterAt (withCounter k p (down (counterAt k p))) q) ≡ debt (counterAt k q)
   lowered-none z =

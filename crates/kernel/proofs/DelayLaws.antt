@@ -15,10 +15,11 @@ use Rattle.kernel.proofs.MovesLaws.{sleep-row}
 use Rattle.kernel.proofs.QueueLaws.{Tallied, sleep-unqueued-tallied}
 use Rattle.kernel.proofs.ReferenceLaws.{Held, sleep-unsuspended-held}
 
--- the calls that sleep: "12's full timeout is the interval slept"
+-- the call of a sleep for an interval
 abbrev pub forCall : Interval → Call
 forCall d = record { kind = sleepFor; object = 0; operand = 0; timeout = d .0 }
 
+-- the call of a sleep until a time: "12's full timeout is the interval slept"
 abbrev pub untilCall : SystemTime → SystemTime → Call
 untilCall now until = record { kind = sleepUntil; object = 0; operand = until .0; timeout = differed now until .0 }
 
@@ -28,10 +29,12 @@ module _ (k : Kernel) (i : ℕ) (d : Interval) where
   unfolding sleptFor
   sleep-for-row h t = sleep-row k i sleeping nowhere (forCall d) h t
 
+  -- the counter rule is kept
   pub sleep-for-tallied : (n : ℕ) → threadAt k i .state ≡ ready → Tallied n k → Tallied n (sleptFor k i d)
   unfolding sleptFor
   sleep-for-tallied n r = sleep-unqueued-tallied k i nowhere (forCall d) n r sleeping refl
 
+  -- the references' rule is kept
   pub sleep-for-held : (n : ℕ) → threadAt k i .state ≡ ready → Held n k → Held n (sleptFor k i d)
   unfolding sleptFor
   sleep-for-held n r = sleep-unsuspended-held k i nowhere (forCall d) n r sleeping refl
@@ -43,10 +46,12 @@ module _ (k : Kernel) (i : ℕ) (now until : SystemTime) where
   unfolding sleptUntil
   sleep-until-row h t = sleep-row k i sleeping nowhere (untilCall now until) h t
 
+  -- the counter rule is kept
   pub sleep-until-tallied : (n : ℕ) → threadAt k i .state ≡ ready → Tallied n k → Tallied n (sleptUntil k i now until)
   unfolding sleptUntil
   sleep-until-tallied n r = sleep-unqueued-tallied k i nowhere (untilCall now until) n r sleeping refl
 
+  -- the references' rule is kept
   pub sleep-until-held : (n : ℕ) → threadAt k i .state ≡ ready → Held n k → Held n (sleptUntil k i now until)
   unfolding sleptUntil
   sleep-until-held n r = sleep-unsuspended-held k i nowhere (untilCall now until) n r sleeping refl

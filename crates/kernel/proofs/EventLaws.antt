@@ -48,10 +48,11 @@ module _ (k : Kernel) (i flags n : ℕ) where
 
 -- ---- flags taken: "pending flags in a are cleared and are the datum"
 
--- the flags of a mask that are pending, and the row without them
+-- the flags of a mask that are pending
 abbrev pub found : Thread → ℕ → ℕ
 found t mask = bitAnd (t .pending) mask
 
+-- the row without them
 abbrev pub cleared : Thread → ℕ → Thread
 cleared t mask = withPending t (t .pending - found t mask)
 
@@ -70,6 +71,7 @@ module _ (k : Kernel) (i mask : ℕ) where
   abbrev datum : ℕ
   datum = found (threadAt k i) mask
 
+  -- its pending flags in the mask are cleared and are the datum, with message 0
   pub take-row : i ≢ nobody → i < length (k .threads)
       → threadAt (tookFlags k i mask) i ≡ took (threadAt k i) mask
   unfolding tookFlags
@@ -77,41 +79,48 @@ module _ (k : Kernel) (i mask : ℕ) where
       finish-row without i ok datum d (rw (thread-sizes k i (cleared (threadAt k i) mask) .threads) h)
       ∙ ap (λ (t : Thread). answered t (record { message = ok; datum = datum })) (thread-same k i (cleared (threadAt k i) mask) h)
 
-  -- nobody else's row, nor finished flag, changes
+  -- nobody else's row changes
   pub take-others : (j : ℕ) → j ≢ i → threadAt (tookFlags k i mask) j ≡ threadAt k j
   unfolding tookFlags
   take-others j d = finish-others without i ok datum j d ∙ thread-other k i (cleared (threadAt k i) mask) j d
 
+  -- its finished flag is set
   pub take-flag : i ≢ nobody → i < length (k .finished) → finishedAt (tookFlags k i mask) i ≡ true
   unfolding tookFlags
   take-flag d h = finish-flag without i ok datum d h
 
+  -- no other finished flag changes
   pub take-flag-others : (j : ℕ) → j ≢ i → finishedAt (tookFlags k i mask) j ≡ finishedAt k j
   unfolding tookFlags
   take-flag-others j d = finish-flag-others without i ok datum j d
 
-  -- nobody is woken, and no counter or reference changes
+  -- nobody is woken
   pub take-woken : tookFlags k i mask .woken ≡ k .woken
   unfolding tookFlags
   take-woken = finish-woken without i ok datum
 
+  -- no counter changes
   pub take-counters : tookFlags k i mask .counters ≡ k .counters
   unfolding tookFlags
   take-counters = finish-counters without i ok datum
 
+  -- no reference changes
   pub take-references : tookFlags k i mask .references ≡ k .references
   unfolding tookFlags
   take-references = finish-references without i ok datum
 
+  -- the tables keep their lengths
   pub take-sizes : SameSizes k (tookFlags k i mask)
   unfolding tookFlags
   take-sizes = sizes-trans (thread-sizes k i (cleared (threadAt k i) mask)) (finish-sizes without i ok datum)
 
+  -- the counter rule is kept
   pub take-tallied : (n : ℕ) → Tallied n k → Tallied n (tookFlags k i mask)
   unfolding tookFlags
   take-tallied n g =
       finish-tallied without i ok datum n (pending-tallied k i (threadAt k i .pending - datum) n g)
 
+  -- the references' rule is kept
   pub take-held : (n : ℕ) → Held n k → Held n (tookFlags k i mask)
   unfolding tookFlags
   take-held n g = finish-held without i ok datum n (pending-held k i (threadAt k i .pending - datum) n g)
@@ -171,6 +180,7 @@ module _ (k : Kernel) (i mask : ℕ) where
       (λ e. take-others (woken told i ok) i (threadAt k i .awaited) j d ∙ wake-others told i ok j d ∙ thread-other k i row j d)
       (λ e. thread-other k i row j d)
 
+  -- a thread whose flags came: ready, message 0, those flags cleared and its datum, its call finished
   pub event-signal-row : isMet row ≡ true → i ≢ nobody
       → threadAt (eventSignalled k i mask) i ≡ metBy (threadAt k i) (bitOr (threadAt k i .pending) mask)
   event-signal-row e d =
@@ -180,7 +190,7 @@ module _ (k : Kernel) (i mask : ℕ) where
       ∙ ap (λ (t : Thread). took t (threadAt k i .awaited))
       (wake-row told i ok h ∙ ap (λ (t : Thread). readied t ok) (thread-same k i row (met-within e))))
 
-  -- no counter and no reference changes
+  -- no counter changes
   pub event-signal-counters : eventSignalled k i mask .counters ≡ k .counters
   unfolding eventSignalled
   event-signal-counters =
@@ -188,6 +198,7 @@ module _ (k : Kernel) (i mask : ℕ) where
       (λ e. take-counters (woken told i ok) i (threadAt k i .awaited) ∙ wake-counters told i ok (rw (told-awaiting e)))
       (λ e. refl)
 
+  -- no reference changes
   pub event-signal-references : eventSignalled k i mask .references ≡ k .references
   unfolding eventSignalled
   event-signal-references =
@@ -195,7 +206,7 @@ module _ (k : Kernel) (i mask : ℕ) where
       (λ e. take-references (woken told i ok) i (threadAt k i .awaited) ∙ wake-references told i ok (rw (told-awaiting e)))
       (λ e. refl)
 
-  -- a thread whose flags came is woken, and its call is finished; nobody else is woken, and no other call finished
+  -- a thread whose flags came is woken, and its call is finished
   pub event-signal-flags : isMet row ≡ true → i ≢ nobody → i < length (k .woken) → i < length (k .finished)
       → (wokenAt (eventSignalled k i mask) i ≡ true) × (finishedAt (eventSignalled k i mask) i ≡ true)
   event-signal-flags e d w f = rw (event-signal-met e) (
@@ -203,18 +214,21 @@ module _ (k : Kernel) (i mask : ℕ) where
     take-flag (woken told i ok) i (threadAt k i .awaited) d (rw (wake-finished told i ok) f),
   )
 
+  -- nobody else is woken
   pub event-signal-woken-others : (j : ℕ) → j ≢ i → wokenAt (eventSignalled k i mask) j ≡ wokenAt k j
   unfolding eventSignalled
   event-signal-woken-others j d =
       chosen (λ (h : Kernel). wokenAt h j ≡ wokenAt k j) (isMet row)
       (λ e. rw (take-woken (woken told i ok) i (threadAt k i .awaited)) (wake-flag-others told i ok j d)) (λ e. refl)
 
+  -- no other call is finished
   pub event-signal-finished-others : (j : ℕ) → j ≢ i → finishedAt (eventSignalled k i mask) j ≡ finishedAt k j
   unfolding eventSignalled
   event-signal-finished-others j d =
       chosen (λ (h : Kernel). finishedAt h j ≡ finishedAt k j) (isMet row)
       (λ e. take-flag-others (woken told i ok) i (threadAt k i .awaited) j d ∙ rw (wake-finished told i ok)) (λ e. refl)
 
+  -- the tables keep their lengths
   pub event-signal-sizes : SameSizes k (eventSignalled k i mask)
   unfolding eventSignalled
   event-signal-sizes =
@@ -223,7 +237,7 @@ module _ (k : Kernel) (i mask : ℕ) where
       (sizes-trans (wake-sizes told i ok) (take-sizes (woken told i ok) i (threadAt k i .awaited))))
       (λ e. thread-sizes k i row)
 
-  -- the counter rule and the references' rule are kept
+  -- the counter rule is kept
   pub event-signal-tallied : (n : ℕ) → Tallied n k → Tallied n (eventSignalled k i mask)
   unfolding eventSignalled
   event-signal-tallied n g =
@@ -233,6 +247,7 @@ module _ (k : Kernel) (i mask : ℕ) where
       (wake-unqueued-tallied told i ok n (rw (told-awaiting e)) kept))
       (λ e. kept)
 
+  -- the references' rule is kept
   pub event-signal-held : (n : ℕ) → Held n k → Held n (eventSignalled k i mask)
   unfolding eventSignalled
   event-signal-held n g =
@@ -267,15 +282,18 @@ module _ (k : Kernel) (i : ℕ) (call : Call) where
       (block-cases k i awaiting nowhere call (λ h. threadAt h j ≡ threadAt k j) (λ z. finish-others k i timedOut 0 j d)
       (λ z. sleep-others k i awaiting nowhere call j d))
 
+  -- the tables keep their lengths
   pub event-wait-sizes : SameSizes k (eventWaited k i call)
   event-wait-sizes = event-wait-cases (SameSizes k) (take-sizes k i (call .operand)) (block-sizes k i awaiting nowhere call)
 
+  -- the counter rule is kept
   pub event-wait-tallied : (n : ℕ) → threadAt k i .state ≡ ready → Tallied n k → Tallied n (eventWaited k i call)
   event-wait-tallied n r g =
       event-wait-cases (Tallied n) (take-tallied k i (call .operand) n g)
       (block-cases k i awaiting nowhere call (Tallied n) (λ z. finish-tallied k i timedOut 0 n g)
       (λ z. sleep-unqueued-tallied k i nowhere call n r awaiting refl g))
 
+  -- the references' rule is kept
   pub event-wait-held : (n : ℕ) → threadAt k i .state ≡ ready → Held n k → Held n (eventWaited k i call)
   event-wait-held n r g =
       event-wait-cases (Held n) (take-held k i (call .operand) n g)

@@ -147,6 +147,7 @@ emptied k b p r = in-or-out r (length (k .references)) (given-holder k b p r nob
 -- ---- to be made ready
 
 module _ (k : Kernel) (i : ℕ) (m : ℤ) where
+  -- one row is written
   pub wake-threads : woken k i m .threads ≡ withThread k i (readied (threadAt k i) m) .threads
   unfolding woken
   wake-threads = rw (off-beside k (threadAt k i .state) (threadAt k i .place) .threads)
@@ -167,6 +168,7 @@ module _ (k : Kernel) (i : ℕ) (m : ℤ) where
       rw (off-counters k (threadAt k i .state) (threadAt k i .place))
       (changed k up (eqb (threadAt k i .state) queued) (threadAt k i .place) q h)
 
+  -- no other counter changes
   pub wake-counter-others : (q : ℕ) → queuedAt q (threadAt k i) ≡ false → counterAt (woken k i m) q ≡ counterAt k q
   unfolding woken
   wake-counter-others q z =
@@ -192,18 +194,21 @@ module _ (k : Kernel) (i : ℕ) (m : ℤ) where
       rw (off-references k (threadAt k i .state) (threadAt k i .place))
       (emptied k (eqb (threadAt k i .state) suspended) (threadAt k i .place) r)
 
+  -- no reference changes if it was not suspended
   pub wake-references : eqb (threadAt k i .state) suspended ≡ false → woken k i m .references ≡ k .references
   unfolding woken
   wake-references e = off-references k (threadAt k i .state) (threadAt k i .place) ∙ rw e
 
-  -- its woken flag is set, and no other changes
+  -- one woken flag is set
   pub wake-woken : woken k i m .woken ≡ withWoken k i .woken
   unfolding woken
   wake-woken = rw (off-beside k (threadAt k i .state) (threadAt k i .place) .woken)
 
+  -- its woken flag is set
   pub wake-flag : i < length (k .woken) → wokenAt (woken k i m) i ≡ true
   wake-flag h = rw wake-woken (mark-woken-same k i h)
 
+  -- no other woken flag changes
   pub wake-flag-others : (j : ℕ) → j ≢ i → wokenAt (woken k i m) j ≡ wokenAt k j
   wake-flag-others j n = rw wake-woken (mark-woken-other k i j n)
 
@@ -212,10 +217,12 @@ module _ (k : Kernel) (i : ℕ) (m : ℤ) where
   unfolding woken
   wake-finished = off-beside k (threadAt k i .state) (threadAt k i .place) .finished
 
+  -- an interrupt's answer stays
   pub wake-answer : woken k i m .answer ≡ k .answer
   unfolding woken
   wake-answer = off-beside k (threadAt k i .state) (threadAt k i .place) .answer
 
+  -- the tables keep their lengths
   pub wake-sizes : SameSizes k (woken k i m)
   unfolding woken
   wake-sizes =
@@ -237,18 +244,22 @@ module _ (k : Kernel) (i s p : ℕ) (c : Call) where
   unfolding slept
   sleep-past h = rw (le-ltb i 16 h)
 
+  -- nobody is woken
   pub sleep-woken : slept k i s p c .woken ≡ k .woken
   unfolding slept
   sleep-woken = chosen (λ (h : Kernel). h .woken ≡ k .woken) (ltb i 16) (λ e. on-beside k i s p .woken) (λ e. refl)
 
+  -- no call is finished
   pub sleep-finished : slept k i s p c .finished ≡ k .finished
   unfolding slept
   sleep-finished = chosen (λ (h : Kernel). h .finished ≡ k .finished) (ltb i 16) (λ e. on-beside k i s p .finished) (λ e. refl)
 
+  -- an interrupt's answer stays
   pub sleep-answer : slept k i s p c .answer ≡ k .answer
   unfolding slept
   sleep-answer = chosen (λ (h : Kernel). h .answer ≡ k .answer) (ltb i 16) (λ e. on-beside k i s p .answer) (λ e. refl)
 
+  -- the tables keep their lengths
   pub sleep-sizes : SameSizes k (slept k i s p c)
   unfolding slept
   sleep-sizes =
@@ -263,13 +274,14 @@ module _ (k : Kernel) (i s p : ℕ) (c : Call) where
       chosen (λ (h : Kernel). threadAt h j ≡ threadAt k j) (ltb i 16)
       (λ e. rw (on-beside k i s p .threads) (getD-set-other (k .threads) i j (asleep (threadAt k i) s p c) blank n)) (λ e. refl)
 
-  -- no other counter, and no other reference, changes
+  -- no other counter changes
   pub sleep-counter-others : (q : ℕ) → eqb s queued && eqb p q ≡ false → counterAt (slept k i s p c) q ≡ counterAt k q
   unfolding slept
   sleep-counter-others q z =
       chosen (λ (h : Kernel). counterAt h q ≡ counterAt k q) (ltb i 16)
       (λ e. rw (on-counters k i s p) (unchanged k down (eqb s queued) p q z)) (λ e. refl)
 
+  -- no other reference changes
   pub sleep-holder-others : (r : ℕ) → eqb s suspended && eqb p r ≡ false → holderAt (slept k i s p c) r ≡ holderAt k r
   unfolding slept
   sleep-holder-others r z =
@@ -309,18 +321,22 @@ module _ (k : Kernel) (i : ℕ) (m : ℤ) (d : ℕ) where
   unfolding finished
   finish-interrupt e = rw (eq-eqb i nobody e)
 
+  -- no counter changes
   pub finish-counters : finished k i m d .counters ≡ k .counters
   unfolding finished
   finish-counters = chosen (λ (h : Kernel). h .counters ≡ k .counters) (eqb i nobody) (λ e. refl) (λ e. refl)
 
+  -- no reference changes
   pub finish-references : finished k i m d .references ≡ k .references
   unfolding finished
   finish-references = chosen (λ (h : Kernel). h .references ≡ k .references) (eqb i nobody) (λ e. refl) (λ e. refl)
 
+  -- nobody is woken
   pub finish-woken : finished k i m d .woken ≡ k .woken
   unfolding finished
   finish-woken = chosen (λ (h : Kernel). h .woken ≡ k .woken) (eqb i nobody) (λ e. refl) (λ e. refl)
 
+  -- the tables keep their lengths
   pub finish-sizes : SameSizes k (finished k i m d)
   unfolding finished
   finish-sizes =
@@ -329,13 +345,14 @@ module _ (k : Kernel) (i : ℕ) (m : ℤ) (d : ℕ) where
       chosen (SameSizes k) (eqb i nobody) (λ e. answer-sizes k a)
       (λ e. sizes-trans (thread-sizes k i (answered (threadAt k i) a)) (mark-finished-sizes set i))
 
-  -- nobody else's row, nor finished flag, changes
+  -- nobody else's row changes
   pub finish-others : (j : ℕ) → j ≢ i → threadAt (finished k i m d) j ≡ threadAt k j
   unfolding finished
   finish-others j n =
       chosen (λ (h : Kernel). threadAt h j ≡ threadAt k j) (eqb i nobody) (λ e. refl)
       (λ e. thread-other k i (answered (threadAt k i) (record { message = m; datum = d })) j n)
 
+  -- no other finished flag changes
   pub finish-flag-others : (j : ℕ) → j ≢ i → finishedAt (finished k i m d) j ≡ finishedAt k j
   unfolding finished
   finish-flag-others j n =
@@ -358,10 +375,12 @@ module _ (k : Kernel) (i : ℕ) (m : ℤ) (d : ℕ) where
     finish-row h =
         rw (ne-eqb i nobody thread) (thread-same k i (answered (threadAt k i) (record { message = m; datum = d })) h)
 
+    -- its finished flag is set
     pub finish-flag : i < length (k .finished) → finishedAt (finished k i m d) i ≡ true
     unfolding finished
     finish-flag h = rw (ne-eqb i nobody thread) (mark-finished-same k i h)
 
+    -- an interrupt's answer stays
     pub finish-answer : finished k i m d .answer ≡ k .answer
     unfolding finished
     finish-answer = rw (ne-eqb i nobody thread)
@@ -385,5 +404,6 @@ module _ (k : Kernel) (i s p : ℕ) (c : Call) where
   block-cases P f g =
       same-or (c .timeout) 0 (λ e. rw (block-immediate e) (f e)) (λ n. rw (block-sleeps n) (g n))
 
+  -- the tables keep their lengths
   pub block-sizes : SameSizes k (blocked k i s p c)
   block-sizes = block-cases (SameSizes k) (λ e. finish-sizes k i timedOut 0) (λ n. sleep-sizes k i s p c)

@@ -72,6 +72,7 @@ module _ (k : Kernel) (i : ℕ) (m : ℤ) where
         rw (wake-unqueued p) at (count-change (waits (woken k i m) p) (waits k p) n i h (λ j l e. ap (queuedAt p) (wake-others k i m j e))),
       )
 
+  -- the counter rule is kept, whoever of the first n is woken
   pub wake-tallied : (n : ℕ) → i < n → Tallied n k → Tallied n (woken k i m)
   wake-tallied n h g p = omega (arith, wake-waiters n p h, g p, wake-debt k i m p)
 
@@ -148,6 +149,7 @@ finish-tallied k i m d n =
 -- ---- release of the first
 
 module _ (k : Kernel) (n p : ℕ) (m : ℤ) where
+  -- the counter rule is kept
   pub release-first-tallied : length (k .threads) ≤ nobody → Tallied n k → Tallied n (releasedFirst k n p m)
   unfolding releasedFirst
   release-first-tallied l g =
@@ -156,6 +158,7 @@ module _ (k : Kernel) (n p : ℕ) (m : ℤ) where
         | inr c ↦ rw (c .0) (wake-unqueued-tallied k nobody m n (rw (thread-blank k nobody l)) g)
       ]
 
+  -- a counter that is not above 0 stays so
   pub release-first-level : (q : ℕ) → length (k .threads) ≤ nobody → Tallied n k → Level q k → Level q (releasedFirst k n p m)
   unfolding releasedFirst
   release-first-level q l g z =
@@ -175,6 +178,7 @@ module _ (k : Kernel) (n p : ℕ) (m : ℤ) where
   unfolding releasedFirst
   release-first-none t w h = rw (first-waiter-nobody k n p h) (wake-past k nobody m t w)
 
+  -- the tables keep their lengths
   pub release-first-sizes : SameSizes k (releasedFirst k n p m)
   unfolding releasedFirst
   release-first-sizes = wake-sizes k (firstWaiter k n p) m
@@ -197,22 +201,28 @@ module _ (k : Kernel) (n p : ℕ) (m : ℤ) where
   pub release-all-row : (j : ℕ) → j < usedRows n → threadAt (releasedAll k n p m) j ≡ released p m (threadAt k j)
   release-all-row j h = rw release-all-round (round-row (queuedAt p) (λ t. t) m refl refl (usedRows n) j k h)
 
+  -- rows from n on are as they were
   pub release-all-later : (j : ℕ) → usedRows n ≤ j → threadAt (releasedAll k n p m) j ≡ threadAt k j
   release-all-later j h = rw release-all-round (round-later (queuedAt p) (λ t. t) m (usedRows n) j k h)
 
+  -- exactly those who waited there are woken
   pub release-all-flag : (j : ℕ) → length (k .threads) ≤ length (k .woken) → j < usedRows n
       → wokenAt (releasedAll k n p m) j ≡ waits k p j || wokenAt k j
   release-all-flag j l h = rw release-all-round (round-flag (queuedAt p) (λ t. t) m refl refl (usedRows n) j k l h)
 
+  -- nobody from n on is woken
   pub release-all-flag-later : (j : ℕ) → usedRows n ≤ j → wokenAt (releasedAll k n p m) j ≡ wokenAt k j
   release-all-flag-later j h = rw release-all-round (round-flag-later (queuedAt p) (λ t. t) m (usedRows n) j k h)
 
+  -- no call is finished
   pub release-all-finished : releasedAll k n p m .finished ≡ k .finished
   release-all-finished = rw release-all-round (round-finished (queuedAt p) (λ t. t) m (usedRows n) k)
 
+  -- an interrupt's answer stays
   pub release-all-answer : releasedAll k n p m .answer ≡ k .answer
   release-all-answer = rw release-all-round (round-answer (queuedAt p) (λ t. t) m (usedRows n) k)
 
+  -- the tables keep their lengths
   pub release-all-sizes : SameSizes k (releasedAll k n p m)
   release-all-sizes = rw release-all-round (round-sizes (queuedAt p) (λ t. t) m (usedRows n) k)
 
@@ -236,9 +246,11 @@ module _ (k : Kernel) (n p : ℕ) (m : ℤ) where
       each-keeps P (releasedOne p m) (usedRows n)
       (λ i l h t. chosen P (waits h p i) (λ e. w i (omega (arith, used-le-given n)) h e t) (λ e. t)) k g
 
+  -- the counter rule is kept
   pub release-all-tallied : Tallied n k → Tallied n (releasedAll k n p m)
   release-all-tallied = release-all-keeps (Tallied n) (λ i l h e. wake-tallied h i m n l)
 
+  -- a counter that is not above 0 stays so
   pub release-all-level : (q : ℕ) → Tallied n k → Level q k → Level q (releasedAll k n p m)
   release-all-level q g l =
       release-all-keeps (λ h. Tallied n h × Level q h) (λ i b h e t. (wake-tallied h i m n b (t .0), wake-level h i m n q b (t .0) (t .1))) (g, l) .1

@@ -54,6 +54,7 @@ module _ (k : Kernel) (i : ℕ) (m : ℤ) where
       in-or-out i (length (k .threads)) (λ h. rw (wake-row k i m h))
       (λ h. rw (thread-blank (woken k i m) i (rw (wake-sizes k i m .threads) h)))
 
+  -- the references' rule is kept, whoever of the first n is woken
   pub wake-held : (n : ℕ) → n ≤ nobody → i < n → Held n k → Held n (woken k i m)
   wake-held n few hi g = record { holds = λ r j hj. rw (wake-holder k i m r) (at r j hj); within = λ r. rw (wake-holder k i m r) (some r) }
     where
@@ -138,11 +139,12 @@ module _ (k : Kernel) (i p : ℕ) (c : Call) (n : ℕ) (is-ready : threadAt k i 
           (λ t. rw (thread-blank (slept k i s p c) i (rw (sleep-sizes k i s p c .threads) t))))
           (λ h. rw (sleep-past k i s p c h) (not-suspended r))
 
--- the end of a call, and a change of counters alone
+-- the end of a call keeps the rule
 pub finish-held : (k : Kernel) (i : ℕ) (m : ℤ) (d n : ℕ) → Held n k → Held n (finished k i m d)
 finish-held k i m d n =
     same-held k (finished k i m d) n (λ r j. finish-kept k i m d (suspendedAt r) (λ a. refl) j) (λ r. rw (finish-references k i m d))
 
+-- a change of counters alone keeps the rule
 pub counter-held : (k : Kernel) (p : ℕ) (c : ℤ) (n : ℕ) → Held n k → Held n (withCounter k p c)
 counter-held k p c n = same-held k (withCounter k p c) n (λ r j. refl) (λ r. refl)
 
@@ -151,6 +153,7 @@ counter-held k p c n = same-held k (withCounter k p c) n (λ r j. refl) (λ r. r
 unsuspended : (p : ℕ) (t : Thread) → queuedAt p t ≡ true → eqb (t .state) suspended ≡ false
 unsuspended p t e = rw (eqb-true (t .state) queued (both-means (eqb (t .state) queued) (eqb (t .place) p) e .0))
 
+-- a release of the first keeps the references' rule
 pub release-first-held : (k : Kernel) (n p : ℕ) (m : ℤ) (h : ℕ) → length (k .threads) ≤ nobody → Held h k → Held h (releasedFirst k n p m)
 unfolding releasedFirst
 release-first-held k n p m h l =
@@ -159,20 +162,24 @@ release-first-held k n p m h l =
       | inr c ↦ rw (c .0) (wake-unsuspended-held k nobody m h (rw (thread-blank k nobody l)))
     ]
 
+-- a release of all keeps it
 pub release-all-held : (k : Kernel) (n p : ℕ) (m : ℤ) (h : ℕ) → Held h k → Held h (releasedAll k n p m)
 release-all-held k n p m h =
     release-all-keeps k n p m (Held h) (λ i l j e. wake-unsuspended-held j i m h (unsuspended p (threadAt j i) e))
 
+-- a signal keeps it
 pub signal-held : (k : Kernel) (n p h : ℕ) → length (k .threads) ≤ nobody → Held h k → Held h (signalled k n p)
 unfolding signalled
 signal-held k n p h l g =
     chosen (Held h) (ltZ (counterAt k p) (pos 0)) (λ e. release-first-held k n p ok h l g)
     (λ e. counter-held k p (up (counterAt k p)) h g)
 
+-- a reset keeps it
 pub reset-held : (k : Kernel) (n p : ℕ) (c : ℤ) (h : ℕ) → Held h k → Held h (resetTo k n p c)
 unfolding resetTo
 reset-held k n p c h g = counter-held (releasedAll k n p wasReset) p c h (release-all-held k n p wasReset h g)
 
+-- a wait keeps it
 pub wait-held : (k : Kernel) (i p : ℕ) (call : Call) (n : ℕ) → threadAt k i .state ≡ ready → Held n k → Held n (waited k i p call)
 unfolding waited enqueued taken
 wait-held k i p call n r g =
@@ -184,12 +191,14 @@ wait-held k i p call n r g =
 -- ---- suspend
 
 module _ (k : Kernel) (i r : ℕ) (call : Call) (n : ℕ) (is-ready : threadAt k i .state ≡ ready) where
+  -- the counter rule is kept
   pub suspend-tallied : Tallied n k → Tallied n (suspendedOn k i r call)
   unfolding suspendedOn
   suspend-tallied g =
       block-cases k i suspended r call (Tallied n) (λ z. finish-tallied k i timedOut 0 n g)
       (λ z. sleep-unqueued-tallied k i r call n is-ready suspended refl g)
 
+  -- the references' rule is kept, on an empty reference
   pub suspend-held : n ≤ 16 → i < n → i < length (k .threads) → r < length (k .references) → holderAt k r ≡ nobody
       → Held n k → Held n (suspendedOn k i r call)
   unfolding suspendedOn
@@ -210,6 +219,7 @@ module _ (k : Kernel) (r : ℕ) (m : ℤ) where
   unfolding resumed
   resume-others j d = wake-others k (holderAt k r) m j d
 
+  -- the tables keep their lengths
   pub resume-sizes : SameSizes k (resumed k r m)
   unfolding resumed
   resume-sizes = wake-sizes k (holderAt k r) m
@@ -221,7 +231,7 @@ module _ (k : Kernel) (r : ℕ) (m : ℤ) where
     resume-suspended d =
         sym (g .holds r (holderAt k r) (g .within r d)) ∙ eq-eqb (holderAt k r) (holderAt k r) refl
 
-    -- it is made ready with m, and the reference is empty
+    -- it is made ready with m
     pub resume-row : holderAt k r ≢ nobody → threadAt (resumed k r m) (holderAt k r) ≡ readied (threadAt k (holderAt k r)) m
     unfolding resumed
     resume-row d =
@@ -229,6 +239,7 @@ module _ (k : Kernel) (r : ℕ) (m : ℤ) where
         (in-or-out (holderAt k r) (length (k .threads)) (λ h. h)
         (λ h. contrary (resume-suspended d) (rw (thread-blank k (holderAt k r) h))))
 
+    -- the reference is empty afterwards
     pub resume-empties : holderAt (resumed k r m) r ≡ nobody
     unfolding resumed
     resume-empties =
@@ -242,14 +253,17 @@ module _ (k : Kernel) (r : ℕ) (m : ℤ) where
         same-or (holderAt k r) nobody (λ e. rw (e, thread-blank k nobody l))
         (λ d. rw (eqb-true (t .state) suspended (both-means (eqb (t .state) suspended) (eqb (t .place) r) (resume-suspended d) .0)))
 
+    -- the counter rule is kept
     pub resume-tallied : (h : ℕ) → length (k .threads) ≤ nobody → Tallied h k → Tallied h (resumed k r m)
     unfolding resumed
     resume-tallied h l = wake-unqueued-tallied k (holderAt k r) m h (holder-unqueued l)
 
+    -- a counter that is not above 0 stays so
     pub resume-level : (p : ℕ) → length (k .threads) ≤ nobody → Level p k → Level p (resumed k r m)
     unfolding resumed
     resume-level p l z = rw (wake-counters k (holderAt k r) m (holder-unqueued l)) z
 
+    -- the references' rule is kept
     pub resume-held : n ≤ nobody → length (k .threads) ≤ nobody → Held n (resumed k r m)
     unfolding resumed
     resume-held few l =

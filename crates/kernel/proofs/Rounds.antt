@@ -37,10 +37,11 @@ use Rattle.kernel.proofs.MovesLaws.{
 }
 
 module _ (test : Thread → Bool) (rest : Thread → Thread) (m : ℤ) where
-  -- one turn, and what it makes of its row
+  -- one turn
   abbrev pub turn : ℕ → Kernel → Kernel
   turn i k = cond (test (threadAt k i)) (woken k i m) (withThread k i (rest (threadAt k i)))
 
+  -- and what it makes of its row
   abbrev pub turned : Thread → Thread
   turned t = cond (test t) (readied t m) (rest t)
 
@@ -57,6 +58,7 @@ module _ (test : Thread → Bool) (rest : Thread → Thread) (m : ℤ) where
       chosen (SameSizes k) (test (threadAt k i)) (λ e. wake-sizes k i m) (λ e. thread-sizes k i (rest (threadAt k i)))
 
   module _ (n : ℕ) (k : Kernel) where
+    -- the tables keep their lengths
     pub round-sizes : SameSizes k (each n turn k)
     round-sizes = each-keeps (SameSizes k) turn n (λ i l h s. sizes-trans s (turn-sizes i h)) k (sizes-refl k)
 
@@ -65,6 +67,7 @@ module _ (test : Thread → Bool) (rest : Thread → Thread) (m : ℤ) where
     round-finished =
         round-keeps (λ (h : Kernel). h .finished ≡ k .finished) n (λ i l h s. wake-finished h i m ∙ s) (λ i l h s. s) k refl
 
+    -- an interrupt's answer stays
     pub round-answer : each n turn k .answer ≡ k .answer
     round-answer = round-keeps (λ (h : Kernel). h .answer ≡ k .answer) n (λ i l h s. wake-answer h i m ∙ s) (λ i l h s. s) k refl
 
@@ -77,10 +80,11 @@ module _ (test : Thread → Bool) (rest : Thread → Thread) (m : ℤ) where
   turn-flag-others i j k d =
       chosen (λ (h : Kernel). wokenAt h j ≡ wokenAt k j) (test (threadAt k i)) (λ e. wake-flag-others k i m j d) (λ e. refl)
 
-  -- rows past the n-th, and their woken flags, are as they were
+  -- rows from n on are as they were
   pub round-later : (n j : ℕ) (k : Kernel) → n ≤ j → threadAt (each n turn k) j ≡ threadAt k j
   round-later = each-later threadAt turn turn-others
 
+  -- nor is anyone of them woken
   pub round-flag-later : (n j : ℕ) (k : Kernel) → n ≤ j → wokenAt (each n turn k) j ≡ wokenAt k j
   round-flag-later = each-later wokenAt turn turn-flag-others
 

@@ -36,6 +36,7 @@ module _ (k : Kernel) (n p : ℕ) where
   unfolding signalled
   signal-below e = rw e
 
+  -- otherwise the counter is raised, and that is all
   pub signal-not-below : ltZ (counterAt k p) (pos 0) ≡ false → signalled k n p ≡ withCounter k p (up (counterAt k p))
   unfolding signalled
   signal-not-below e = rw e
@@ -55,12 +56,14 @@ module _ (k : Kernel) (n p : ℕ) where
       chosen (λ (h : Kernel). (h .threads ≡ k .threads) × (h .woken ≡ k .woken)) (ltZ (counterAt k p) (pos 0))
       (λ e. rw (release-first-none k n p ok t w z) (refl, refl)) (λ e. (refl, refl))
 
+  -- the tables keep their lengths
   pub signal-sizes : SameSizes k (signalled k n p)
   unfolding signalled
   signal-sizes =
       chosen (SameSizes k) (ltZ (counterAt k p) (pos 0)) (λ e. release-first-sizes k n p ok)
       (λ e. counter-sizes k p (up (counterAt k p)))
 
+  -- the counter rule is kept
   pub signal-tallied : length (k .threads) ≤ nobody → Tallied n k → Tallied n (signalled k n p)
   unfolding signalled
   signal-tallied l g =
@@ -104,6 +107,7 @@ module _ (k : Kernel) (i p : ℕ) (call : Call) where
   unfolding waited enqueued
   wait-not-above e = rw e
 
+  -- the tables keep their lengths
   pub wait-sizes : SameSizes k (waited k i p call)
   unfolding waited taken enqueued
   wait-sizes =
@@ -111,6 +115,7 @@ module _ (k : Kernel) (i p : ℕ) (call : Call) where
       (λ e. sizes-trans (counter-sizes k p (down (counterAt k p))) (finish-sizes (taken k p) i ok 0))
       (λ e. block-sizes k i queued p call)
 
+  -- the counter rule is kept
   pub wait-tallied : (n : ℕ) → n ≤ 16 → i < n → i < length (k .threads) → threadAt k i .state ≡ ready → p < length (k .counters)
       → Tallied n k → Tallied n (waited k i p call)
   unfolding taken
@@ -132,23 +137,27 @@ module _ (k : Kernel) (n p : ℕ) (c : ℤ) where
   unfolding resetTo
   reset-threads = refl
 
+  -- and they are woken
   pub reset-woken : resetTo k n p c .woken ≡ releasedAll k n p wasReset .woken
   unfolding resetTo
   reset-woken = refl
 
-  -- "counter becomes a"; no other counter changes
+  -- "counter becomes a"
   pub reset-counter : p < length (k .counters) → counterAt (resetTo k n p c) p ≡ c
   unfolding resetTo
   reset-counter h = counter-same (releasedAll k n p wasReset) p c (rw (release-all-sizes k n p wasReset .counters) h)
 
+  -- no other counter changes
   pub reset-counter-others : (q : ℕ) → q ≢ p → counterAt (resetTo k n p c) q ≡ counterAt k q
   unfolding resetTo
   reset-counter-others q d = counter-other (releasedAll k n p wasReset) p c q d ∙ release-all-counter-others k n p wasReset q d
 
+  -- the tables keep their lengths
   pub reset-sizes : SameSizes k (resetTo k n p c)
   unfolding resetTo
   reset-sizes = sizes-trans (release-all-sizes k n p wasReset) (counter-sizes (releasedAll k n p wasReset) p c)
 
+  -- the counter rule is kept by a reset to 0 or above
   pub reset-tallied : n ≤ 16 → ltZ c (pos 0) ≡ false → Tallied n k → Tallied n (resetTo k n p c)
   unfolding resetTo
   reset-tallied few e g q =

@@ -34,13 +34,15 @@ use Rattle.kernel.proofs.ReferenceLaws.{Held, same-held, wake-held}
 abbrev pub aged : Thread → Thread
 aged t = cond (eqb (t .remaining) 1) (readied t timedOut) (countedOff t)
 
--- the last tick makes ready with -1, any other is counted off, and without one nothing changes
+-- the last tick makes ready with -1
 pub aged-last : (t : Thread) → t .remaining ≡ 1 → aged t ≡ readied t timedOut
 aged-last t e = rw (eq-eqb (t .remaining) 1 e)
 
+-- any other is counted off
 pub aged-counted : (t : Thread) → t .remaining ≢ 1 → aged t ≡ countedOff t
 aged-counted t d = rw (ne-eqb (t .remaining) 1 d)
 
+-- without one nothing changes
 pub aged-idle : (t : Thread) → t .remaining ≡ 0 → aged t ≡ t
 aged-idle t e = rw e
 
@@ -59,11 +61,12 @@ counted-held n i k =
     same-held k (withThread k i t) n (λ r j. thread-kept k i t (suspendedAt r) refl j) (λ r. refl)
 
 module _ (k : Kernel) (n : ℕ) where
-  -- each of the first n rows is aged, once; the others are as they were
+  -- each of the first n rows is aged, once
   pub tick-row : (j : ℕ) → j < usedRows n → threadAt (ticked k n) j ≡ aged (threadAt k j)
   unfolding ticked
   tick-row j h = round-row ends countedOff timedOut refl refl (usedRows n) j k h
 
+  -- rows from n on are as they were
   pub tick-later : (j : ℕ) → usedRows n ≤ j → threadAt (ticked k n) j ≡ threadAt k j
   unfolding ticked
   tick-later j h = round-later ends countedOff timedOut (usedRows n) j k h
@@ -74,6 +77,7 @@ module _ (k : Kernel) (n : ℕ) where
   unfolding ticked
   tick-flag j l h = round-flag ends countedOff timedOut refl refl (usedRows n) j k l h
 
+  -- nobody from n on is woken
   pub tick-flag-later : (j : ℕ) → usedRows n ≤ j → wokenAt (ticked k n) j ≡ wokenAt k j
   unfolding ticked
   tick-flag-later j h = round-flag-later ends countedOff timedOut (usedRows n) j k h
@@ -83,10 +87,12 @@ module _ (k : Kernel) (n : ℕ) where
   unfolding ticked
   tick-finished = round-finished ends countedOff timedOut (usedRows n) k
 
+  -- an interrupt's answer stays
   pub tick-answer : ticked k n .answer ≡ k .answer
   unfolding ticked
   tick-answer = round-answer ends countedOff timedOut (usedRows n) k
 
+  -- the tables keep their lengths
   pub tick-sizes : SameSizes k (ticked k n)
   unfolding ticked
   tick-sizes = round-sizes ends countedOff timedOut (usedRows n) k
@@ -98,15 +104,17 @@ module _ (k : Kernel) (n : ℕ) where
   tick-keeps P w c =
       round-keeps ends countedOff timedOut P (usedRows n) (λ i l. w i (omega (arith, used-le-given n))) (λ i l. c i) k
 
-  -- no counter is left behind by a timeout: the counter rule is kept, and the references' rule
+  -- no counter is left behind by a timeout: the counter rule is kept
   pub tick-tallied : Tallied n k → Tallied n (ticked k n)
   tick-tallied = tick-keeps (Tallied n) (λ i l h. wake-tallied h i timedOut n l) (counted-tallied n)
 
+  -- a counter that is not above 0 stays so
   pub tick-level : (p : ℕ) → Tallied n k → Level p k → Level p (ticked k n)
   tick-level p g l =
       tick-keeps (λ h. Tallied n h × Level p h)
       (λ i b h t. (wake-tallied h i timedOut n b (t .0), wake-level h i timedOut n p b (t .0) (t .1)))
       (λ i h t. (counted-tallied n i h (t .0), t .1)) (g, l) .1
 
+  -- the references' rule is kept
   pub tick-held : n ≤ nobody → Held n k → Held n (ticked k n)
   tick-held few = tick-keeps (Held n) (λ i l h. wake-held h i timedOut n few l) (counted-held n)

@@ -34,9 +34,10 @@ in-range-after s x y hs hx hy =
 pub in-range-empty : (t start : SystemTime) → start .0 < 2 ^ 32 → inRange t start start ≡ false
 in-range-empty t s h = le-ltb (differed s t .0) (differed s s .0) (omega arith)
 
--- "After a tick, system time goes from 4294967295 to 0", and from any other to the next
+-- "After a tick, system time goes from 4294967295 to 0"
 pub advance-wraps : (t : SystemTime) → t .0 ≡ 4294967295 → advanced t .0 ≡ 0
 advance-wraps t e = rw e
 
+-- and from any other to the next
 pub advance-next : (t : SystemTime) → t .0 < 4294967295 → advanced t .0 ≡ t .0 + 1
 advance-next t h = omega arith

@@ -52,6 +52,7 @@ module _ (k : Kernel) (n p : ℕ) where
   unfolding firstWaiter
   first-waiter-counted l h = rw (used-all n l) (counted-first (waits k p) n h)
 
+  -- where none waits the first is nobody
   pub first-waiter-nobody : None (waits k p) (usedRows n) → firstWaiter k n p ≡ nobody
   unfolding firstWaiter
   first-waiter-nobody h = first-nobody (waits k p) (usedRows n) h

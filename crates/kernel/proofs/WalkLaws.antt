@@ -57,10 +57,11 @@ module _ (f : ℕ → Bool) (n : ℕ) where
   pub first-le : (i : ℕ) → i < n → f i ≡ true → firstFrom f 0 n ≤ i
   first-le i h t = in-or-out i (firstFrom f 0 n) (λ l. contrary t (first-least i h l)) (λ l. l)
 
-  -- none passes exactly if the first is nobody
+  -- if none passes, the first is nobody
   pub first-nobody : None f n → firstFrom f 0 n ≡ nobody
   first-nobody e = elim first-cases [ inl c ↦ contrary (c .passes) (e (firstFrom f 0 n) (c .below)) | inr c ↦ c .0 ]
 
+  -- and if the first of at most 255 is nobody, none passes
   pub nobody-none : n ≤ 255 → firstFrom f 0 n ≡ nobody → None f n
   nobody-none s e = elim first-cases [ inl c ↦ absurd (omega (arith, c .below)) | inr c ↦ c .1 ]
 
@@ -74,6 +75,7 @@ first-agree-from f g i (suc n) h = rw (h i (omega arith), first-agree-from f g (
 pub first-agree : (f g : ℕ → Bool) (n : ℕ) → ((i : ℕ) → i < n → f i ≡ g i) → firstFrom f 0 n ≡ firstFrom g 0 n
 first-agree f g n h = first-agree-from f g 0 n (λ j l. h j (omega arith))
 
+-- a test counts for at most 1
 pub bit-le : (b : Bool) → bit b ≤ 1
 bit-le true = omega arith
 bit-le false = omega arith
@@ -107,12 +109,13 @@ count-some f zero i h t = absurd (not-suc-le-zero h)
 count-some f (suc n) i h t =
     same-or i n (λ e. rw (← e, t) (omega arith)) (λ e. omega (arith, count-some f n i (omega arith) t))
 
--- the count is 0 exactly if none passes
+-- if none passes, the count is 0
 pub count-none : (f : ℕ → Bool) (n : ℕ) → None f n → countOf f n ≡ 0
 unfolding countOf
 count-none f zero e = refl
 count-none f (suc n) e = rw (e n (omega arith), count-none f n (λ i l. e i (omega arith)))
 
+-- and if the count is 0, none passes
 pub none-counted : (f : ℕ → Bool) (n : ℕ) → countOf f n ≡ 0 → None f n
 none-counted f n e i h = split (f i) (λ t. absurd (omega (arith, count-some f n i h t))) (λ t. t)
 
@@ -141,6 +144,7 @@ module _ {A B : Type 0} (at : A → ℕ → B) (f : ℕ → A → A) (other : (i
   -- where the body changes its own row by g, the walk does so to each, once; P is what the body needs for that, and keeps
   module _ (P : A → Type 0) (g : B → B) (keeps : (i : ℕ) (a : A) → P a → P (f i a))
       (own : (i : ℕ) (a : A) → P a → at (f i a) i ≡ g (at a i)) where
+    -- every row that the walk comes to is changed by g
     pub each-row : (n j : ℕ) (a : A) → P a → j < n → at (each n f a) j ≡ g (at a j)
     each-row zero j a p h = absurd (not-suc-le-zero h)
     each-row (suc n) j a p h =
