@@ -30,7 +30,28 @@ use Rattle.kernel.proofs.TablesLaws.{
   thread-kept,
   thread-blank,
 }
-use Rattle.kernel.proofs.MovesLaws.{suspendedAt, wake-row, wake-others, wake-flag, wake-flag-others, wake-finished, wake-counters, wake-references, wake-sizes, sleep-others, finish-row, finish-others, finish-flag, finish-flag-others, finish-counters, finish-references, finish-woken, finish-sizes, block-cases, block-sizes}
+use Rattle.kernel.proofs.MovesLaws.{
+  suspendedAt,
+  wake-row,
+  wake-others,
+  wake-flag,
+  wake-flag-others,
+  wake-finished,
+  wake-counters,
+  wake-references,
+  wake-sizes,
+  sleep-others,
+  finish-row,
+  finish-others,
+  finish-flag,
+  finish-flag-others,
+  finish-counters,
+  finish-references,
+  finish-woken,
+  finish-sizes,
+  block-cases,
+  block-sizes,
+}
 use Rattle.kernel.proofs.QueueLaws.{Tallied, same-tallied, wake-unqueued-tallied, finish-tallied, sleep-unqueued-tallied}
 use Rattle.kernel.proofs.ReferenceLaws.{Held, same-held, wake-unsuspended-held, finish-held, sleep-unsuspended-held}
 

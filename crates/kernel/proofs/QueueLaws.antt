@@ -22,7 +22,16 @@ use Rattle.kernel.specs.Moves.{readied, woken, slept, finished}
 use Rattle.kernel.specs.Waiters.{queuedAt, firstWaiter}
 use Rattle.kernel.specs.Queue.{releasedFirst, releasedOne, releasedAll}
 use Rattle.kernel.proofs.Cases.{split, same-or, in-or-out, chosen, first-fails}
-use Rattle.kernel.proofs.WalkLaws.{None, count-le, count-agree, count-change, count-some, count-none, each-keeps, each-agree}
+use Rattle.kernel.proofs.WalkLaws.{
+  None,
+  count-le,
+  count-agree,
+  count-change,
+  count-some,
+  count-none,
+  each-keeps,
+  each-agree,
+}
 use Rattle.kernel.proofs.TablesLaws.{wokenAt, SameSizes, used-le-given, thread-blank, counter-zero}
 use Rattle.kernel.proofs.CountersLaws.{debt, debt-below, debt-exact, up-not-above, down-not-above}
 use Rattle.kernel.proofs.WaitersLaws.{waits, waiters, queued-place, first-waiter-cases, first-waiter-nobody}
@@ -36,7 +45,24 @@ use Rattle.kernel.proofs.Rounds.{
   round-answer,
   round-sizes,
 }
-use Rattle.kernel.proofs.MovesLaws.{wake-row, wake-others, wake-counter, wake-counter-others, wake-debt, wake-sizes, wake-past, sleep-past, sleep-row, sleep-others, sleep-counter, sleep-debt, sleep-counter-others, sleep-sizes, finish-kept, finish-counters}
+use Rattle.kernel.proofs.MovesLaws.{
+  wake-row,
+  wake-others,
+  wake-counter,
+  wake-counter-others,
+  wake-debt,
+  wake-sizes,
+  wake-past,
+  sleep-past,
+  sleep-row,
+  sleep-others,
+  sleep-counter,
+  sleep-debt,
+  sleep-counter-others,
+  sleep-sizes,
+  finish-kept,
+  finish-counters,
+}
 
 -- "A semaphore (a pool's too) or queue with n > 0 threads queued has counter -n; with none, .. at least 0"
 abbrev pub Tallied : ℕ → Kernel → Type 0

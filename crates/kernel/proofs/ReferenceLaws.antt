@@ -23,7 +23,24 @@ use Rattle.kernel.specs.Semaphore.{taken, waited, signalled, resetTo}
 use Rattle.kernel.specs.Reference.{suspendedOn, resumed}
 use Rattle.kernel.proofs.Cases.{split, same-or, in-or-out, chosen, contrary, both-means, first-fails}
 use Rattle.kernel.proofs.TablesLaws.{SameSizes, thread-blank}
-use Rattle.kernel.proofs.MovesLaws.{suspendedAt, wake-row, wake-others, wake-holder, wake-counters, wake-sizes, wake-past, sleep-past, sleep-row, sleep-others, sleep-holder, sleep-holder-others, sleep-sizes, finish-kept, finish-references, block-cases}
+use Rattle.kernel.proofs.MovesLaws.{
+  suspendedAt,
+  wake-row,
+  wake-others,
+  wake-holder,
+  wake-counters,
+  wake-sizes,
+  wake-past,
+  sleep-past,
+  sleep-row,
+  sleep-others,
+  sleep-holder,
+  sleep-holder-others,
+  sleep-sizes,
+  finish-kept,
+  finish-references,
+  block-cases,
+}
 use Rattle.kernel.proofs.WaitersLaws.{first-waiter-cases}
 use Rattle.kernel.proofs.QueueLaws.{
   Tallied,

@@ -26,7 +26,19 @@ use Rattle.kernel.proofs.TablesLaws.{SameSizes, sizes-trans, used-all, 
 use Rattle.kernel.proofs.CountersLaws.{debt-none, debt-some, raised-none, lowered-none}
 use Rattle.kernel.proofs.MovesLaws.{wake-row, wake-counter, finish-sizes, block-cases, block-sizes}
 use Rattle.kernel.proofs.WaitersLaws.{waits, queued-place, waits-within, first-waiter-counted}
-use Rattle.kernel.proofs.QueueLaws.{Tallied, finish-tallied, sleep-tallied, release-first-tallied, release-first-others, release-first-none, release-first-sizes, release-all-empties, release-all-tallied, release-all-counter-others, release-all-sizes}
+use Rattle.kernel.proofs.QueueLaws.{
+  Tallied,
+  finish-tallied,
+  sleep-tallied,
+  release-first-tallied,
+  release-first-others,
+  release-first-none,
+  release-first-sizes,
+  release-all-empties,
+  release-all-tallied,
+  release-all-counter-others,
+  release-all-sizes,
+}
 
 -- ---- signal
 

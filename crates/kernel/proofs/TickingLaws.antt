@@ -1,6 +1,6 @@
 -- A tick is a round: whose last tick it is, is made ready with -1, and of everyone else one tick is counted off. A row with one tick
 -- less waits where it waited, so the counters' and the references' rules stay.
-use Prim.Native.Nat.{ℕ, _≤_, _<_}
+use Prim.Native.Nat.{ℕ, _-_, _≤_, _<_}
 use native.Mathlib.Omega.{arith}
 use mathlib.Core.Path.{_≡_, refl}
 use mathlib.Core.Logic.{_≢_}
@@ -15,6 +15,7 @@ use Rattle.kernel.specs.Tables.{usedRows, threadAt, withThread}
 use Rattle.kernel.specs.Moves.{readied, woken}
 use Rattle.kernel.specs.Waiters.{queuedAt}
 use Rattle.kernel.specs.Ticking.{countedOff, ticked}
+use Rattle.kernel.proofs.Cases.{same-or}
 use Rattle.kernel.proofs.TablesLaws.{wokenAt, SameSizes, used-le-given, thread-kept}
 use Rattle.kernel.proofs.MovesLaws.{suspendedAt}
 use Rattle.kernel.proofs.Rounds.{
@@ -65,6 +66,12 @@ module _ (k : Kernel) (n : ℕ) where
   pub tick-row : (j : ℕ) → j < usedRows n → threadAt (ticked k n) j ≡ aged (threadAt k j)
   unfolding ticked
   tick-row j h = round-row ends countedOff timedOut refl refl (usedRows n) j k h
+
+  -- "each remaining count above 0 falls by 1"
+  pub tick-remaining : (j : ℕ) → j < usedRows n → threadAt (ticked k n) j .remaining ≡ threadAt k j .remaining - 1
+  tick-remaining j h =
+      rw (tick-row j h)
+      (same-or (threadAt k j .remaining) 1 (λ e. rw (aged-last (threadAt k j) e, e)) (λ d. rw (aged-counted (threadAt k j) d)))
 
   -- rows from n on are as they were
   pub tick-later : (j : ℕ) → usedRows n ≤ j → threadAt (ticked k n) j ≡ threadAt k j
