@@ -9,7 +9,7 @@ use Rattle.kernel.specs.declared.records.Kernel.{Kernel}
 use Rattle.kernel.specs.Numbers.{nowhere, ready, sleeping, sleepFor, sleepUntil}
 use Rattle.kernel.specs.Tables.{threadAt}
 use Rattle.kernel.specs.Time.{differed}
-use Rattle.kernel.specs.Moves.{asleep}
+use Rattle.kernel.specs.Moves.{asleep, slept}
 use Rattle.kernel.specs.Delay.{sleptFor, sleptUntil}
 use Rattle.kernel.proofs.MovesLaws.{sleep-row}
 use Rattle.kernel.proofs.QueueLaws.{Tallied, sleep-unqueued-tallied}
@@ -25,6 +25,11 @@ untilCall now until = record { kind = sleepUntil; object = 0; operand = until .0
 
 module _ (k : Kernel) (i : ℕ) (d : Interval) where
   -- "sleep for the timeout"
+  pub sleep-for-sleeps : sleptFor k i d ≡ slept k i sleeping nowhere (forCall d)
+  unfolding sleptFor
+  sleep-for-sleeps = refl
+
+  -- the row it leaves
   pub sleep-for-row : i < 16 → i < length (k .threads) → threadAt (sleptFor k i d) i ≡ asleep (threadAt k i) sleeping nowhere (forCall d)
   unfolding sleptFor
   sleep-for-row h t = sleep-row k i sleeping nowhere (forCall d) h t
@@ -41,6 +46,11 @@ module _ (k : Kernel) (i : ℕ) (d : Interval) where
 
 module _ (k : Kernel) (i : ℕ) (now until : SystemTime) where
   -- "until sleeps a minus system time, wrapped"
+  pub sleep-until-sleeps : sleptUntil k i now until ≡ slept k i sleeping nowhere (untilCall now until)
+  unfolding sleptUntil
+  sleep-until-sleeps = refl
+
+  -- the row it leaves
   pub sleep-until-row : i < 16 → i < length (k .threads)
       → threadAt (sleptUntil k i now until) i ≡ asleep (threadAt k i) sleeping nowhere (untilCall now until)
   unfolding sleptUntil

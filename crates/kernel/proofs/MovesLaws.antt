@@ -28,8 +28,6 @@ use Rattle.kernel.proofs.TablesLaws.{
   SameSizes,
   sizes-refl,
   sizes-trans,
-  counter-sizes,
-  holder-sizes,
   thread-sizes,
   mark-woken-sizes,
   mark-finished-sizes,
@@ -72,9 +70,9 @@ module _ (k : Kernel) (s p : ℕ) where
   unfolding takenOff
   off-beside =
       chosen (Beside k) (eqb s queued)
-      (λ e. record { threads = refl; woken = refl; finished = refl; answer = refl; sizes = counter-sizes k p (up (counterAt k p)) })
+      (λ e. record { threads = refl; woken = refl; finished = refl; answer = refl; sizes = record { threads = refl; counters = simp length-set; references = refl; woken = refl; finished = refl } })
       (λ e. chosen (Beside k) (eqb s suspended)
-      (λ f. record { threads = refl; woken = refl; finished = refl; answer = refl; sizes = holder-sizes k p nobody })
+      (λ f. record { threads = refl; woken = refl; finished = refl; answer = refl; sizes = record { threads = refl; counters = refl; references = simp length-set; woken = refl; finished = refl } })
       (λ f. record { threads = refl; woken = refl; finished = refl; answer = refl; sizes = sizes-refl k }))
 
   off-counters : takenOff k s p .counters ≡ cond (eqb s queued) (withCounter k p (up (counterAt k p)) .counters) (k .counters)
@@ -92,9 +90,9 @@ module _ (k : Kernel) (i s p : ℕ) where
   unfolding putOn
   on-beside =
       chosen (Beside k) (eqb s queued)
-      (λ e. record { threads = refl; woken = refl; finished = refl; answer = refl; sizes = counter-sizes k p (down (counterAt k p)) })
+      (λ e. record { threads = refl; woken = refl; finished = refl; answer = refl; sizes = record { threads = refl; counters = simp length-set; references = refl; woken = refl; finished = refl } })
       (λ e. chosen (Beside k) (eqb s suspended)
-      (λ f. record { threads = refl; woken = refl; finished = refl; answer = refl; sizes = holder-sizes k p i })
+      (λ f. record { threads = refl; woken = refl; finished = refl; answer = refl; sizes = record { threads = refl; counters = refl; references = simp length-set; woken = refl; finished = refl } })
       (λ f. record { threads = refl; woken = refl; finished = refl; answer = refl; sizes = sizes-refl k }))
 
   on-counters : putOn k i s p .counters ≡ cond (eqb s queued) (withCounter k p (down (counterAt k p)) .counters) (k .counters)

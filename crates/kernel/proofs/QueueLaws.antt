@@ -14,13 +14,13 @@ use borrow.Author.Tests.{ne-eqb}
 use Rattle.kernel.specs.declared.records.Call.{Call}
 use Rattle.kernel.specs.declared.records.Thread.{Thread}
 use Rattle.kernel.specs.declared.records.Kernel.{Kernel}
-use Rattle.kernel.specs.Numbers.{nobody, ready, queued}
+use Rattle.kernel.specs.Numbers.{nobody, ready, queued, timedOut}
 use Rattle.kernel.specs.Records.{blank}
 use Rattle.kernel.specs.Walk.{each, bit}
 use Rattle.kernel.specs.Tables.{usedRows, threadAt, counterAt}
-use Rattle.kernel.specs.Moves.{readied, woken, slept, finished}
+use Rattle.kernel.specs.Moves.{readied, woken, slept, finished, blocked}
 use Rattle.kernel.specs.Waiters.{queuedAt, firstWaiter}
-use Rattle.kernel.specs.Queue.{releasedFirst, releasedOne, releasedAll}
+use Rattle.kernel.specs.Queue.{enqueued, releasedFirst, releasedOne, releasedAll}
 use Rattle.kernel.proofs.Cases.{split, same-or, in-or-out, chosen, first-fails}
 use Rattle.kernel.proofs.WalkLaws.{
   None,
@@ -62,6 +62,7 @@ use Rattle.kernel.proofs.MovesLaws.{
   sleep-sizes,
   finish-kept,
   finish-counters,
+  block-cases,
 }
 
 -- "A semaphore (a pool's too) or queue with n > 0 threads queued has counter -n; with none, .. at least 0"
@@ -167,14 +168,40 @@ sleep-level k i s p c q l =
     (λ h. rw (sleep-past k i s p c h) l))
     (λ e. rw (sleep-counter-others k i s p c q e) l)
 
--- the end of a call
+-- the end of a call keeps the rule
 pub finish-tallied : (k : Kernel) (i : ℕ) (m : ℤ) (d n : ℕ) → Tallied n k → Tallied n (finished k i m d)
 finish-tallied k i m d n =
     same-tallied k (finished k i m d) n (λ p j. finish-kept k i m d (queuedAt p) (λ a. refl) j) (λ p. rw (finish-counters k i m d))
 
+-- ---- queue wait, of a ready thread
+
+module _ (k : Kernel) (i p : ℕ) (call : Call) where
+  -- "queue wait": what cannot be had at once
+  pub enqueue-blocks : enqueued k i p call ≡ blocked k i queued p call
+  unfolding enqueued
+  enqueue-blocks = refl
+
+  -- the counter rule is kept, at a place whose counter is not above 0
+  pub enqueue-tallied : (n : ℕ) → n ≤ 16 → i < n → i < length (k .threads) → threadAt k i .state ≡ ready → p < length (k .counters)
+      → Level p k → Tallied n k → Tallied n (enqueued k i p call)
+  unfolding enqueued
+  enqueue-tallied n few h t r b z g =
+      block-cases k i queued p call (Tallied n) (λ e. finish-tallied k i timedOut 0 n g)
+      (λ e. sleep-tallied k i p call n r few h t b z g)
+
+  -- a counter that is not above 0 stays so
+  pub block-level : (s q : ℕ) → Level q k → Level q (blocked k i s p call)
+  block-level s q l =
+      block-cases k i s p call (Level q) (λ e. rw (finish-counters k i timedOut 0) l) (λ e. sleep-level k i s p call q l)
+
 -- ---- release of the first
 
 module _ (k : Kernel) (n p : ℕ) (m : ℤ) where
+  -- "release first": the first waiter is made ready with m
+  pub release-first-wakes : releasedFirst k n p m ≡ woken k (firstWaiter k n p) m
+  unfolding releasedFirst
+  release-first-wakes = refl
+
   -- the counter rule is kept
   pub release-first-tallied : length (k .threads) ≤ nobody → Tallied n k → Tallied n (releasedFirst k n p m)
   unfolding releasedFirst
@@ -279,7 +306,8 @@ module _ (k : Kernel) (n p : ℕ) (m : ℤ) where
   -- a counter that is not above 0 stays so
   pub release-all-level : (q : ℕ) → Tallied n k → Level q k → Level q (releasedAll k n p m)
   release-all-level q g l =
-      release-all-keeps (λ h. Tallied n h × Level q h) (λ i b h e t. (wake-tallied h i m n b (t .0), wake-level h i m n q b (t .0) (t .1))) (g, l) .1
+      release-all-keeps (λ h. Tallied n h × Level q h)
+      (λ i b h e t. (wake-tallied h i m n b (t .0), wake-level h i m n q b (t .0) (t .1))) (g, l) .1
 
   -- no counter but that of p changes
   pub release-all-counter-others : (q : ℕ) → q ≢ p → counterAt (releasedAll k n p m) q ≡ counterAt k q

@@ -15,10 +15,10 @@ use Rattle.kernel.specs.declared.records.Thread.{Thread}
 use Rattle.kernel.specs.declared.records.Kernel.{Kernel}
 use Rattle.kernel.specs.Numbers.{nobody, ready, suspended, queued, ok, timedOut, wasReset}
 use Rattle.kernel.specs.Tables.{threadAt, counterAt, holderAt, withCounter}
-use Rattle.kernel.specs.Moves.{readied, woken, slept, finished}
+use Rattle.kernel.specs.Moves.{readied, woken, slept, finished, blocked}
 use Rattle.kernel.specs.Counters.{up, down}
 use Rattle.kernel.specs.Waiters.{queuedAt, firstWaiter}
-use Rattle.kernel.specs.Queue.{enqueued, releasedFirst, releasedAll}
+use Rattle.kernel.specs.Queue.{releasedFirst, releasedAll}
 use Rattle.kernel.specs.Semaphore.{taken, waited, signalled, resetTo}
 use Rattle.kernel.specs.Reference.{suspendedOn, resumed}
 use Rattle.kernel.proofs.Cases.{split, same-or, in-or-out, chosen, contrary, both-means, first-fails}
@@ -42,6 +42,7 @@ use Rattle.kernel.proofs.MovesLaws.{
   block-cases,
 }
 use Rattle.kernel.proofs.WaitersLaws.{first-waiter-cases}
+use Rattle.kernel.proofs.SemaphoreLaws.{signal-below, signal-not-below, wait-above, wait-not-above}
 use Rattle.kernel.proofs.QueueLaws.{
   Tallied,
   Level,
@@ -186,10 +187,9 @@ release-all-held k n p m h =
 
 -- a signal keeps it
 pub signal-held : (k : Kernel) (n p h : ℕ) → length (k .threads) ≤ nobody → Held h k → Held h (signalled k n p)
-unfolding signalled
 signal-held k n p h l g =
-    chosen (Held h) (ltZ (counterAt k p) (pos 0)) (λ e. release-first-held k n p ok h l g)
-    (λ e. counter-held k p (up (counterAt k p)) h g)
+    split (ltZ (counterAt k p) (pos 0)) (λ e. rw (signal-below k n p e) (release-first-held k n p ok h l g))
+    (λ e. rw (signal-not-below k n p e) (counter-held k p (up (counterAt k p)) h g))
 
 -- a reset keeps it
 pub reset-held : (k : Kernel) (n p : ℕ) (c : ℤ) (h : ℕ) → Held h k → Held h (resetTo k n p c)
@@ -198,16 +198,22 @@ reset-held k n p c h g = counter-held (releasedAll k n p wasReset) p c h (releas
 
 -- a wait keeps it
 pub wait-held : (k : Kernel) (i p : ℕ) (call : Call) (n : ℕ) → threadAt k i .state ≡ ready → Held n k → Held n (waited k i p call)
-unfolding waited enqueued taken
+unfolding taken
 wait-held k i p call n r g =
-    chosen (Held n) (ltZ (pos 0) (counterAt k p))
-    (λ e. finish-held (taken k p) i ok 0 n (counter-held k p (down (counterAt k p)) n g))
-    (λ e. block-cases k i queued p call (Held n) (λ z. finish-held k i timedOut 0 n g)
-    (λ z. sleep-unsuspended-held k i p call n r queued refl g))
+    split (ltZ (pos 0) (counterAt k p))
+    (λ e. rw (wait-above k i p call e) (finish-held (taken k p) i ok 0 n (counter-held k p (down (counterAt k p)) n g)))
+    (λ e. rw (wait-not-above k i p call e)
+    (block-cases k i queued p call (Held n) (λ z. finish-held k i timedOut 0 n g)
+    (λ z. sleep-unsuspended-held k i p call n r queued refl g)))
 
 -- ---- suspend
 
 module _ (k : Kernel) (i r : ℕ) (call : Call) (n : ℕ) (is-ready : threadAt k i .state ≡ ready) where
+  -- "suspend": what cannot be had at once
+  pub suspend-blocks : suspendedOn k i r call ≡ blocked k i suspended r call
+  unfolding suspendedOn
+  suspend-blocks = refl
+
   -- the counter rule is kept
   pub suspend-tallied : Tallied n k → Tallied n (suspendedOn k i r call)
   unfolding suspendedOn
@@ -226,6 +232,11 @@ module _ (k : Kernel) (i r : ℕ) (call : Call) (n : ℕ) (is-ready : threadAt k
 -- ---- resume
 
 module _ (k : Kernel) (r : ℕ) (m : ℤ) where
+  -- "resume with a": the holder is made ready with it
+  pub resume-wakes : resumed k r m ≡ woken k (holderAt k r) m
+  unfolding resumed
+  resume-wakes = refl
+
   -- "resume of an empty reference does nothing"
   pub resume-none : length (k .threads) ≤ nobody → length (k .woken) ≤ nobody → holderAt k r ≡ nobody → resumed k r m ≡ k
   unfolding resumed

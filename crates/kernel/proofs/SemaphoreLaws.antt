@@ -24,10 +24,13 @@ use Rattle.kernel.proofs.Cases.{split, same-or, in-or-out, chosen}
 use Rattle.kernel.proofs.WalkLaws.{First, None, count-none}
 use Rattle.kernel.proofs.TablesLaws.{SameSizes, sizes-trans, used-all, counter-same, counter-other, counter-sizes}
 use Rattle.kernel.proofs.CountersLaws.{debt-none, debt-some, raised-none, lowered-none}
-use Rattle.kernel.proofs.MovesLaws.{wake-row, wake-counter, finish-sizes, block-cases, block-sizes}
+use Rattle.kernel.proofs.MovesLaws.{wake-row, wake-counter, finish-counters, finish-sizes, block-cases, block-sizes}
 use Rattle.kernel.proofs.WaitersLaws.{waits, queued-place, waits-within, first-waiter-counted}
 use Rattle.kernel.proofs.QueueLaws.{
   Tallied,
+  Level,
+  block-level,
+  release-first-level,
   finish-tallied,
   sleep-tallied,
   release-first-tallied,
@@ -81,6 +84,13 @@ module _ (k : Kernel) (n p : ℕ) where
   signal-tallied l g =
       chosen (Tallied n) (ltZ (counterAt k p) (pos 0)) (λ e. release-first-tallied k n p ok l g)
       (λ e q. g q ∙ sym (raised-none k p q e))
+
+  -- a counter of another place that is not above 0 stays so
+  pub signal-level : (q : ℕ) → q ≢ p → length (k .threads) ≤ nobody → Tallied n k → Level q k → Level q (signalled k n p)
+  unfolding signalled
+  signal-level q d l g z =
+      chosen (Level q) (ltZ (counterAt k p) (pos 0)) (λ e. release-first-level k n p ok q l g z)
+      (λ e. rw (counter-other k p (up (counterAt k p)) q d) z)
 
   -- under the counter rule
   module _ (few : n ≤ 16) (g : Tallied n k) where
@@ -137,6 +147,14 @@ module _ (k : Kernel) (i p : ℕ) (call : Call) where
       (λ e. rw (wait-not-above e)
       (block-cases k i queued p call (Tallied n) (λ z. finish-tallied k i timedOut 0 n g)
       (λ z. sleep-tallied k i p call n r few h t b e g)))
+
+  -- a counter of another place that is not above 0 stays so
+  pub wait-level : (q : ℕ) → q ≢ p → Level q k → Level q (waited k i p call)
+  unfolding waited enqueued taken
+  wait-level q d l =
+      chosen (Level q) (ltZ (pos 0) (counterAt k p))
+      (λ e. rw (finish-counters (taken k p) i ok 0, counter-other k p (down (counterAt k p)) q d) l)
+      (λ e. block-level k i p call queued q l)
 
 -- ---- reset
 
