@@ -1,9 +1,10 @@
 -- A move changes one thread's row, and the one counter or reference that the thread leaves or joins; all else stands as it stood.
 use Prim.Native.Nat.{ℕ, _+_, _-_, _≤_, _<_}
 use native.Mathlib.Omega.{arith}
-use mathlib.Core.Path.{_≡_, refl, sym, _∙_}
+use mathlib.Core.Path.{_≡_, refl, sym, ap, _∙_}
 use mathlib.Core.Logic.{_≢_}
 use mathlib.Core.Bool.{Bool, true, false, cond, _&&_}
+use mathlib.Core.List.{List}
 use lib.Dec.{eqb, ltb}
 use lib.ListN.{length, getD, set, length-set}
 use lib.Seq.{set-out, getD-set-same, getD-set-other}
@@ -62,18 +63,28 @@ record Beside (k h : Kernel) : Type 0 where
   woken : h .woken ≡ k .woken
   finished : h .finished ≡ k .finished
   answer : h .answer ≡ k .answer
-  sizes : SameSizes k h
+
+-- nor do their lengths differ, where one of each may be written
+beside-sizes : (k h : Kernel) (p : ℕ) (x : ℤ) (y : ℕ) (b c : Bool) → Beside k h
+    → h .counters ≡ cond b (withCounter k p x .counters) (k .counters)
+    → h .references ≡ cond c (withHolder k p y .references) (k .references) → SameSizes k h
+beside-sizes k h p x y b c s e f =
+    record {
+      threads = ap length (s .threads);
+      counters = rw e (chosen (λ (l : List ℤ). length l ≡ length (k .counters)) b (λ t. length-set (k .counters) p x) (λ t. refl));
+      references = rw f (chosen (λ (l : List ℕ). length l ≡ length (k .references)) c (λ t. length-set (k .references) p y) (λ t. refl));
+      woken = ap length (s .woken);
+      finished = ap length (s .finished);
+    }
 
 -- to leave a place or a reference
 module _ (k : Kernel) (s p : ℕ) where
   off-beside : Beside k (takenOff k s p)
   unfolding takenOff
   off-beside =
-      chosen (Beside k) (eqb s queued)
-      (λ e. record { threads = refl; woken = refl; finished = refl; answer = refl; sizes = record { threads = refl; counters = simp length-set; references = refl; woken = refl; finished = refl } })
-      (λ e. chosen (Beside k) (eqb s suspended)
-      (λ f. record { threads = refl; woken = refl; finished = refl; answer = refl; sizes = record { threads = refl; counters = refl; references = simp length-set; woken = refl; finished = refl } })
-      (λ f. record { threads = refl; woken = refl; finished = refl; answer = refl; sizes = sizes-refl k }))
+      chosen (Beside k) (eqb s queued) (λ e. record { threads = refl; woken = refl; finished = refl; answer = refl })
+      (λ e. chosen (Beside k) (eqb s suspended) (λ f. record { threads = refl; woken = refl; finished = refl; answer = refl })
+      (λ f. record { threads = refl; woken = refl; finished = refl; answer = refl }))
 
   off-counters : takenOff k s p .counters ≡ cond (eqb s queued) (withCounter k p (up (counterAt k p)) .counters) (k .counters)
   unfolding takenOff
@@ -84,16 +95,18 @@ module _ (k : Kernel) (s p : ℕ) where
   off-references =
       split (eqb s queued) (λ e. rw (e, not-suspended s e)) (λ e. rw e (split (eqb s suspended) (λ f. rw f) (λ f. rw f)))
 
+  off-sizes : SameSizes k (takenOff k s p)
+  off-sizes =
+      beside-sizes k (takenOff k s p) p (up (counterAt k p)) nobody (eqb s queued) (eqb s suspended) off-beside off-counters off-references
+
 -- to join one
 module _ (k : Kernel) (i s p : ℕ) where
   on-beside : Beside k (putOn k i s p)
   unfolding putOn
   on-beside =
-      chosen (Beside k) (eqb s queued)
-      (λ e. record { threads = refl; woken = refl; finished = refl; answer = refl; sizes = record { threads = refl; counters = simp length-set; references = refl; woken = refl; finished = refl } })
-      (λ e. chosen (Beside k) (eqb s suspended)
-      (λ f. record { threads = refl; woken = refl; finished = refl; answer = refl; sizes = record { threads = refl; counters = refl; references = simp length-set; woken = refl; finished = refl } })
-      (λ f. record { threads = refl; woken = refl; finished = refl; answer = refl; sizes = sizes-refl k }))
+      chosen (Beside k) (eqb s queued) (λ e. record { threads = refl; woken = refl; finished = refl; answer = refl })
+      (λ e. chosen (Beside k) (eqb s suspended) (λ f. record { threads = refl; woken = refl; finished = refl; answer = refl })
+      (λ f. record { threads = refl; woken = refl; finished = refl; answer = refl }))
 
   on-counters : putOn k i s p .counters ≡ cond (eqb s queued) (withCounter k p (down (counterAt k p)) .counters) (k .counters)
   unfolding putOn
@@ -103,6 +116,10 @@ module _ (k : Kernel) (i s p : ℕ) where
   unfolding putOn
   on-references =
       split (eqb s queued) (λ e. rw (e, not-suspended s e)) (λ e. rw e (split (eqb s suspended) (λ f. rw f) (λ f. rw f)))
+
+  on-sizes : SameSizes k (putOn k i s p)
+  on-sizes =
+      beside-sizes k (putOn k i s p) p (down (counterAt k p)) i (eqb s queued) (eqb s suspended) on-beside on-counters on-references
 
 -- a counter changed by g where b, read at every place
 changed : (k : Kernel) (g : ℤ → ℤ) (b : Bool) (p q : ℕ) → q < length (k .counters)
@@ -226,7 +243,7 @@ module _ (k : Kernel) (i : ℕ) (m : ℤ) where
   wake-sizes =
       let off = takenOff k (threadAt k i .state) (threadAt k i .place) in
       let set = withThread off i (readied (threadAt k i) m) in
-      sizes-trans (off-beside k (threadAt k i .state) (threadAt k i .place) .sizes)
+      sizes-trans (off-sizes k (threadAt k i .state) (threadAt k i .place))
       (sizes-trans (thread-sizes off i (readied (threadAt k i) m)) (mark-woken-sizes set i))
 
   -- nothing changes where there is no thread i
@@ -262,7 +279,7 @@ module _ (k : Kernel) (i s p : ℕ) (c : Call) where
   unfolding slept
   sleep-sizes =
       chosen (SameSizes k) (ltb i 16)
-      (λ e. sizes-trans (on-beside k i s p .sizes) (thread-sizes (putOn k i s p) i (asleep (threadAt k i) s p c)))
+      (λ e. sizes-trans (on-sizes k i s p) (thread-sizes (putOn k i s p) i (asleep (threadAt k i) s p c)))
       (λ e. sizes-refl k)
 
   -- nobody else's row changes
