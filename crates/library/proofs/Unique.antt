@@ -15,10 +15,6 @@ use Rattle.library.proofs.calls.call_of.Reads as calls-call-of
 use Rattle.library.proofs.calls.call_of.Kinds as calls-call-of-kinds
 use Rattle.library.proofs.fresh.make.Reads as fresh-make
 use Rattle.library.proofs.fresh.make.Kinds as fresh-make-kinds
-use Rattle.library.proofs.hanging.hangs_together.Reads as hanging-hangs-together
-use Rattle.library.proofs.hanging.hangs_together.Kinds as hanging-hangs-together-kinds
-use Rattle.library.proofs.limits.used_of.Reads as limits-used-of
-use Rattle.library.proofs.limits.used_of.Kinds as limits-used-of-kinds
 use Rattle.library.proofs.logic.both.Reads as logic-both
 use Rattle.library.proofs.logic.both.Kinds as logic-both-kinds
 use Rattle.library.proofs.logic.either.Reads as logic-either
@@ -33,10 +29,6 @@ use Rattle.library.proofs.mailbox.reset_mailbox.Reads as mailbox-reset-
 use Rattle.library.proofs.mailbox.reset_mailbox.Kinds as mailbox-reset-mailbox-kinds
 use Rattle.library.proofs.mailbox.resume_mailbox.Reads as mailbox-resume-mailbox
 use Rattle.library.proofs.mailbox.resume_mailbox.Kinds as mailbox-resume-mailbox-kinds
-use Rattle.library.proofs.mailbox_rules.mailboxes_fit.Reads as mailbox-rules-mailboxes-fit
-use Rattle.library.proofs.mailbox_rules.mailboxes_fit.Kinds as mailbox-rules-mailboxes-fit-kinds
-use Rattle.library.proofs.place_rules.counters_fit.Reads as place-rules-counters-fit
-use Rattle.library.proofs.place_rules.counters_fit.Kinds as place-rules-counters-fit-kinds
 use Rattle.library.proofs.pool.listed_at.Reads as pool-listed-at
 use Rattle.library.proofs.pool.listed_at.Kinds as pool-listed-at-kinds
 use Rattle.library.proofs.pool.mark_at.Reads as pool-mark-at
@@ -47,12 +39,6 @@ use Rattle.library.proofs.pool.try_alloc.Reads as pool-try-alloc
 use Rattle.library.proofs.pool.try_alloc.Kinds as pool-try-alloc-kinds
 use Rattle.library.proofs.pool.put_back.Reads as pool-put-back
 use Rattle.library.proofs.pool.put_back.Kinds as pool-put-back-kinds
-use Rattle.library.proofs.pool_rules.pools_fit.Reads as pool-rules-pools-fit
-use Rattle.library.proofs.pool_rules.pools_fit.Kinds as pool-rules-pools-fit-kinds
-use Rattle.library.proofs.reference_rules.references_fit.Reads as reference-rules-references-fit
-use Rattle.library.proofs.reference_rules.references_fit.Kinds as reference-rules-references-fit-kinds
-use Rattle.library.proofs.refusal.refuse.Reads as refusal-refuse
-use Rattle.library.proofs.refusal.refuse.Kinds as refusal-refuse-kinds
 use Rattle.library.proofs.ring.Positions.post.Reads as ring-Positions-post
 use Rattle.library.proofs.ring.Positions.post.Kinds as ring-Positions-post-kinds
 use Rattle.library.proofs.ring.Positions.post_ahead.Reads as ring-Positions-post-ahead
@@ -61,8 +47,6 @@ use Rattle.library.proofs.ring.Positions.fetch.Reads as ring-Positions-
 use Rattle.library.proofs.ring.Positions.fetch.Kinds as ring-Positions-fetch-kinds
 use Rattle.library.proofs.ring.Positions.reset.Reads as ring-Positions-reset
 use Rattle.library.proofs.ring.Positions.reset.Kinds as ring-Positions-reset-kinds
-use Rattle.library.proofs.row_rules.rows_fit.Reads as row-rules-rows-fit
-use Rattle.library.proofs.row_rules.rows_fit.Kinds as row-rules-rows-fit-kinds
 use Rattle.library.proofs.settling.is_box_call.Reads as settling-is-box-call
 use Rattle.library.proofs.settling.is_box_call.Kinds as settling-is-box-call-kinds
 use Rattle.library.proofs.settling.settle.Reads as settling-settle
@@ -81,8 +65,6 @@ use Rattle.library.proofs.sizes.slots_at.Reads as sizes-slots-at
 use Rattle.library.proofs.sizes.slots_at.Kinds as sizes-slots-at-kinds
 use Rattle.library.proofs.sizes.sizes_fit.Reads as sizes-sizes-fit
 use Rattle.library.proofs.sizes.sizes_fit.Kinds as sizes-sizes-fit-kinds
-use Rattle.library.proofs.stepping.step.Reads as stepping-step
-use Rattle.library.proofs.stepping.step.Kinds as stepping-step-kinds
 use Rattle.library.proofs.tables.open.Reads as tables-open
 use Rattle.library.proofs.tables.open.Kinds as tables-open-kinds
 use Rattle.library.proofs.tables.close.Reads as tables-close
@@ -123,12 +105,6 @@ calls-call-of-one κs a e x y = coincide
 pub fresh-make-one : Fixes 0 fresh-make-kinds.ps fresh-make-kinds.r fresh-make.Post
 fresh-make-one κs a e x y = coincide
 
-pub hanging-hangs-together-one : Fixes 0 hanging-hangs-together-kinds.ps hanging-hangs-together-kinds.r hanging-hangs-together.Post
-hanging-hangs-together-one κs a e x y = coincide
-
-pub limits-used-of-one : Fixes 0 limits-used-of-kinds.ps limits-used-of-kinds.r limits-used-of.Post
-limits-used-of-one κs a e x y = coincide
-
 pub logic-both-one : Fixes 0 logic-both-kinds.ps logic-both-kinds.r logic-both.Post
 logic-both-one κs a e x y = coincide
 
@@ -150,12 +126,6 @@ mailbox-reset-mailbox-one κs a e x y = coincide
 pub mailbox-resume-mailbox-one : Fixes 0 mailbox-resume-mailbox-kinds.ps mailbox-resume-mailbox-kinds.r mailbox-resume-mailbox.Post
 mailbox-resume-mailbox-one κs a e x y = coincide
 
-pub mailbox-rules-mailboxes-fit-one : Fixes 0 mailbox-rules-mailboxes-fit-kinds.ps mailbox-rules-mailboxes-fit-kinds.r mailbox-rules-mailboxes-fit.Post
-mailbox-rules-mailboxes-fit-one κs a e x y = coincide
-
-pub place-rules-counters-fit-one : Fixes 0 place-rules-counters-fit-kinds.ps place-rules-counters-fit-kinds.r place-rules-counters-fit.Post
-place-rules-counters-fit-one κs a e x y = coincide
-
 pub pool-listed-at-one : Fixes 0 pool-listed-at-kinds.ps pool-listed-at-kinds.r pool-listed-at.Post
 pool-listed-at-one κs a e x y = coincide
 
@@ -171,15 +141,6 @@ pool-try-alloc-one κs a e x y = coincide
 pub pool-put-back-one : Fixes 0 pool-put-back-kinds.ps pool-put-back-kinds.r pool-put-back.Post
 pool-put-back-one κs a e x y = coincide
 
-pub pool-rules-pools-fit-one : Fixes 0 pool-rules-pools-fit-kinds.ps pool-rules-pools-fit-kinds.r pool-rules-pools-fit.Post
-pool-rules-pools-fit-one κs a e x y = coincide
-
-pub reference-rules-references-fit-one : Fixes 0 reference-rules-references-fit-kinds.ps reference-rules-references-fit-kinds.r reference-rules-references-fit.Post
-reference-rules-references-fit-one κs a e x y = coincide
-
-pub refusal-refuse-one : Fixes 0 refusal-refuse-kinds.ps refusal-refuse-kinds.r refusal-refuse.Post
-refusal-refuse-one κs a e x y = coincide
-
 pub ring-Positions-post-one : Fixes 0 ring-Positions-post-kinds.ps ring-Positions-post-kinds.r ring-Positions-post.Post
 ring-Positions-post-one κs a e x y = coincide
 
@@ -191,9 +152,6 @@ ring-Positions-fetch-one κs a e x y = coincide
 
 pub ring-Positions-reset-one : Fixes 0 ring-Positions-reset-kinds.ps ring-Positions-reset-kinds.r ring-Positions-reset.Post
 ring-Positions-reset-one κs a e x y = coincide
-
-pub row-rules-rows-fit-one : Fixes 0 row-rules-rows-fit-kinds.ps row-rules-rows-fit-kinds.r row-rules-rows-fit.Post
-row-rules-rows-fit-one κs a e x y = coincide
 
 pub settling-is-box-call-one : Fixes 0 settling-is-box-call-kinds.ps settling-is-box-call-kinds.r settling-is-box-call.Post
 settling-is-box-call-one κs a e x y = coincide
@@ -221,9 +179,6 @@ sizes-slots-at-one κs a e x y = coincide
 
 pub sizes-sizes-fit-one : Fixes 0 sizes-sizes-fit-kinds.ps sizes-sizes-fit-kinds.r sizes-sizes-fit.Post
 sizes-sizes-fit-one κs a e x y = coincide
-
-pub stepping-step-one : Fixes 0 stepping-step-kinds.ps stepping-step-kinds.r stepping-step.Post
-stepping-step-one κs a e x y = coincide
 
 pub tables-open-one : Fixes 0 tables-open-kinds.ps tables-open-kinds.r tables-open.Post
 tables-open-one κs a e x y = coincide

@@ -10,12 +10,3 @@ pub mod Mailbox
 pub mod Pool
 pub mod Acting
 pub mod Settling
-pub mod Limits
-pub mod RowRules
-pub mod PlaceRules
-pub mod ReferenceRules
-pub mod MailboxRules
-pub mod PoolRules
-pub mod Hanging
-pub mod Refusal
-pub mod Stepping

@@ -8,9 +8,9 @@ use library::calls::Step;
 use library::fresh::make;
 use library::signs::magnitude;
 use library::sizes::Sizes;
-use library::stepping::Outcome;
-use library::stepping::step;
 use library::tables::Tables;
+use steps::stepping::Outcome;
+use steps::stepping::step;
 
 // A scene under way: the tables, the clock, and the number of the last step, which stays far below its limit.
 struct Scene {

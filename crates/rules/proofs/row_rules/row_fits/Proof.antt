@@ -1,0 +1,51 @@
+-- Each rule counts only where those before it hold.
+use Rattle.rules.specs.RowRules.{rowFits}
+use Rattle.rules.proofs.row_rules.row_fits.Statement.{statement}
+use Rattle.rules.proofs.row_rules.row_fits.Tie as tie
+
+returns : tie.Need-returns
+unfolding rowFits
+returns c =
+    let back = c .before .before .before in
+    let far = back .before .before .before in
+    rw (
+      ← far .call-fits .ensures,
+      back .before .before .if1 .taken,
+      ← back .before .wait-fits .ensures,
+      back .if2 .taken,
+      ← c .before .before .ticks-fit .ensures,
+      c .before .if3 .taken,
+      ← c .flags-fit .ensures,
+    )
+
+returns-2 : tie.Need-returns-2
+unfolding rowFits
+returns-2 c =
+    let back = c .before .before .before in
+    rw (
+      ← back .before .before .call-fits .ensures,
+      back .before .if1 .taken,
+      ← back .wait-fits .ensures,
+      c .before .before .if2 .taken,
+      ← c .before .ticks-fit .ensures,
+      c .if3 .left,
+    )
+
+returns-3 : tie.Need-returns-3
+unfolding rowFits
+returns-3 c =
+    rw (
+      ← c .before .before .before .call-fits .ensures,
+      c .before .before .if1 .taken,
+      ← c .before .wait-fits .ensures,
+      c .if2 .left,
+    )
+
+returns-4 : tie.Need-returns-4
+unfolding rowFits
+returns-4 c = rw (← c .before .call-fits .ensures, c .if1 .left)
+
+pub row-fits-spec : {M : Type 1} → statement M
+row-fits-spec =
+    tie.close
+    (tie.spec (λ c κs. tt) (λ c κs. tt) (λ c κs. tt) (λ c κs. tt) returns returns-2 returns-3 returns-4)

@@ -1,0 +1,8 @@
+-- The meanings that the contracts cite, in the order in which they build on each other.
+pub mod Limits
+pub mod RowRules
+pub mod PlaceRules
+pub mod ReferenceRules
+pub mod MailboxRules
+pub mod PoolRules
+pub mod Hanging

@@ -1,0 +1,44 @@
+// Whether each mailbox's positions hang together.
+use crate::limits::used_of;
+use library::ring::Positions;
+use library::sizes::slots_at;
+use library::tables::Plant;
+ghost use mathlib.Core.Path.{_≡_};
+ghost use Rattle.rules.specs.MailboxRules.{inRing, follows, positionsFit, mailboxesFit};
+
+// Whether the count and both places are in range for a ring of `slots`.
+fn in_ring(q: Positions, slots: u16) -> bool
+    ensures { λ r. ⌜ r ≡ inRing q slots ⌝ }
+{
+    q.count <= slots && (q.read < slots && q.write < slots)
+}
+
+// Whether the write place is the read place plus the count, in a ring of `slots`. The sum may leave 16 bits in damaged tables.
+fn follows(q: Positions, slots: u16) -> bool
+    ensures { λ r. ⌜ r ≡ follows q slots ⌝ }
+{
+    0 < slots && q.write as u32 == (q.read as u32 + q.count as u32) % slots as u32
+}
+
+fn positions_fit(q: Positions, slots: u16) -> bool
+    ensures { λ r. ⌜ r ≡ positionsFit q slots ⌝ }
+{
+    in_ring(q, slots) && follows(q, slots)
+}
+
+// Whether each mailbox's positions hang together.
+pub fn mailboxes_fit(p: Plant) -> bool
+    ensures { λ r. ⌜ r ≡ mailboxesFit p ⌝ }
+{
+    let z = p.sizes;
+    let end = used_of(4, z.mailboxes);
+    let mut m: u16 = 0;
+    while m < end {
+        let b = p.mailboxes[m as usize];
+        if !positions_fit(b.positions, slots_at(z, m)) {
+            return false;
+        }
+        m += 1;
+    }
+    true
+}

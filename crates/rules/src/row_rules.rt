@@ -1,0 +1,244 @@
+// Whether a thread's record hangs together by itself: its call, its wait, its ticks and its flags.
+use kernel::numbers::AWAITING;
+use kernel::numbers::INFINITE;
+use kernel::numbers::NOWHERE;
+use kernel::numbers::QUEUED;
+use kernel::numbers::READY;
+use kernel::numbers::SLEEPING;
+use kernel::numbers::SUSPENDED;
+use kernel::places::pool_place;
+use kernel::places::queue_place;
+use kernel::places::readers_place;
+use kernel::places::semaphore_place;
+use kernel::places::writers_place;
+use kernel::records::Call;
+use kernel::records::Kernel;
+use kernel::records::Thread;
+use kernel::tables::used_rows;
+use library::calls::keeps_operand;
+use library::numbers::ALLOC;
+use library::numbers::EVENT_WAIT;
+use library::numbers::FETCH;
+use library::numbers::POST;
+use library::numbers::POST_AHEAD;
+use library::numbers::QUEUE_WAIT;
+use library::numbers::SEMAPHORE_WAIT;
+use library::numbers::SLEEP_FOR;
+use library::numbers::SLEEP_UNTIL;
+use library::numbers::SUSPEND;
+use library::sizes::Sizes;
+ghost use mathlib.Core.Path.{_≡_};
+ghost use Rattle.rules.specs.RowRules.{
+  isSleep,
+  isPost,
+  isMailing,
+  isQueueing,
+  isAlone,
+  callLimit,
+  callClear,
+  callSound,
+  callFits,
+  waitState,
+  waitPlace,
+  waitFits,
+  ticksFit,
+  awaitedFit,
+  nonePending,
+  flagsFit,
+  rowFits,
+  rowsFit,
+};
+
+// A sleep, for an interval or until a time.
+fn is_sleep(kind: u16) -> bool
+    ensures { λ r. ⌜ r ≡ isSleep kind ⌝ }
+{
+    kind == SLEEP_FOR || kind == SLEEP_UNTIL
+}
+
+fn is_post(kind: u16) -> bool
+    ensures { λ r. ⌜ r ≡ isPost kind ⌝ }
+{
+    kind == POST || kind == POST_AHEAD
+}
+
+// A wait at a mailbox.
+fn is_mailing(kind: u16) -> bool
+    ensures { λ r. ⌜ r ≡ isMailing kind ⌝ }
+{
+    is_post(kind) || kind == FETCH
+}
+
+// A wait at a counter's place.
+fn is_queueing(kind: u16) -> bool
+    ensures { λ r. ⌜ r ≡ isQueueing kind ⌝ }
+{
+    kind == SEMAPHORE_WAIT || (kind == QUEUE_WAIT || (is_mailing(kind) || kind == ALLOC))
+}
+
+// A wait that is on no object.
+fn is_alone(kind: u16) -> bool
+    ensures { λ r. ⌜ r ≡ isAlone kind ⌝ }
+{
+    is_sleep(kind) || kind == EVENT_WAIT
+}
+
+// How many objects there are for an unfinished call: 1 stands for the object 0 of a call that has none, 0 for a kind that
+// never sleeps, so that no object is in range.
+fn call_limit(z: Sizes, kind: u16) -> u16
+    ensures { λ r. ⌜ r ≡ callLimit z kind ⌝ }
+{
+    if kind == SEMAPHORE_WAIT {
+        z.semaphores
+    } else if kind == QUEUE_WAIT {
+        z.queues
+    } else if kind == SUSPEND {
+        z.references
+    } else if is_alone(kind) {
+        1
+    } else if is_mailing(kind) {
+        z.mailboxes
+    } else if kind == ALLOC {
+        z.pools
+    } else {
+        0
+    }
+}
+
+// Without a call its fields are 0.
+fn is_clear(call: Call) -> bool
+    ensures { λ r. ⌜ r ≡ callClear call ⌝ }
+{
+    call.object == 0 && (call.operand == 0 && call.timeout == 0)
+}
+
+// An unfinished call is of a kind that sleeps, its object is in range, its timeout above 0, and an operand that it does not keep is 0.
+fn is_sound(call: Call, z: Sizes) -> bool
+    ensures { λ r. ⌜ r ≡ callSound call z ⌝ }
+{
+    let limit = call_limit(z, call.kind);
+    let keeps = keeps_operand(call.kind);
+    call.object < limit && (1 <= call.timeout && (keeps || call.operand == 0))
+}
+
+fn call_fits(t: Thread, z: Sizes) -> bool
+    ensures { λ r. ⌜ r ≡ callFits t z ⌝ }
+{
+    let call = t.call;
+    if call.kind == 0 {
+        is_clear(call)
+    } else {
+        is_sound(call, z)
+    }
+}
+
+// The state in which a call of this kind sleeps; READY for a kind that never does, which fits no thread that is not ready.
+fn wait_state(kind: u16) -> u16
+    ensures { λ r. ⌜ r ≡ waitState kind ⌝ }
+{
+    if is_queueing(kind) {
+        QUEUED
+    } else if kind == SUSPEND {
+        SUSPENDED
+    } else if is_sleep(kind) {
+        SLEEPING
+    } else if kind == EVENT_WAIT {
+        AWAITING
+    } else {
+        READY
+    }
+}
+
+// Where a call of this kind on this object sleeps.
+fn wait_place(kind: u16, object: u16) -> u16
+    ensures { λ r. ⌜ r ≡ waitPlace kind object ⌝ }
+{
+    if kind == SEMAPHORE_WAIT {
+        semaphore_place(object)
+    } else if kind == QUEUE_WAIT {
+        queue_place(object)
+    } else if kind == SUSPEND {
+        object
+    } else if is_post(kind) {
+        writers_place(object)
+    } else if kind == FETCH {
+        readers_place(object)
+    } else if kind == ALLOC {
+        pool_place(object)
+    } else {
+        NOWHERE
+    }
+}
+
+// A ready thread waits nowhere; any other waits as its call does.
+fn wait_fits(t: Thread) -> bool
+    ensures { λ r. ⌜ r ≡ waitFits t ⌝ }
+{
+    let call = t.call;
+    if t.state == READY {
+        t.place == NOWHERE
+    } else {
+        t.state == wait_state(call.kind) && t.place == wait_place(call.kind, call.object)
+    }
+}
+
+// Ticks are left exactly if the thread waits for a finite time, and no more than its call's timeout.
+fn ticks_fit(t: Thread) -> bool
+    ensures { λ r. ⌜ r ≡ ticksFit t ⌝ }
+{
+    let call = t.call;
+    if t.state == READY {
+        t.remaining == 0
+    } else if call.timeout == INFINITE {
+        t.remaining == 0
+    } else {
+        1 <= t.remaining && t.remaining <= call.timeout
+    }
+}
+
+// The awaited flags are an unfinished event wait's mask.
+fn awaited_fit(t: Thread) -> bool
+    ensures { λ r. ⌜ r ≡ awaitedFit t ⌝ }
+{
+    let call = t.call;
+    if call.kind == EVENT_WAIT {
+        t.awaited == call.operand
+    } else {
+        t.awaited == 0
+    }
+}
+
+// A thread that awaits events has none of its flags pending.
+fn none_pending(t: Thread) -> bool
+    ensures { λ r. ⌜ r ≡ nonePending t ⌝ }
+{
+    t.state != AWAITING || t.pending & t.awaited == 0
+}
+
+fn flags_fit(t: Thread) -> bool
+    ensures { λ r. ⌜ r ≡ flagsFit t ⌝ }
+{
+    awaited_fit(t) && none_pending(t)
+}
+
+fn row_fits(t: Thread, z: Sizes) -> bool
+    ensures { λ r. ⌜ r ≡ rowFits t z ⌝ }
+{
+    call_fits(t, z) && (wait_fits(t) && (ticks_fit(t) && flags_fit(t)))
+}
+
+// Whether each thread's record hangs together by itself.
+pub fn rows_fit(k: Kernel, z: Sizes) -> bool
+    ensures { λ r. ⌜ r ≡ rowsFit k z ⌝ }
+{
+    let end = used_rows(z.threads);
+    let mut i: u8 = 0;
+    while i < end {
+        let t = k.threads[i as usize];
+        if !row_fits(t, z) {
+            return false;
+        }
+        i += 1;
+    }
+    true
+}

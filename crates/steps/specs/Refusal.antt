@@ -1,0 +1,83 @@
+-- The refusals, in document 01's order.
+use Prim.Native.Nat.{ℕ, _%_}
+use mathlib.Core.Bool.{Bool, true, false, cond, not, _&&_, _||_}
+use lib.Dec.{eqb, leb, ltb}
+use lib.IntN.{pos}
+use lib.Signed.{ltZ}
+use Rattle.kernel.specs.declared.time.SystemTime.{SystemTime}
+use Rattle.kernel.specs.declared.records.Kernel.{Kernel}
+use Rattle.kernel.specs.declared.clock.Clock.{Clock}
+use Rattle.kernel.specs.Numbers.{nobody, immediate, infinite}
+use Rattle.kernel.specs.Time.{differed}
+use Rattle.kernel.specs.Places.{semaphorePlace}
+use Rattle.kernel.specs.Tables.{counterAt, holderAt}
+use Rattle.kernel.specs.Waiters.{firstReady}
+use Rattle.library.specs.declared.calls.Step.{Step}
+use Rattle.library.specs.declared.sizes.Sizes.{Sizes}
+use Rattle.library.specs.declared.tables.Plant.{Plant}
+use Rattle.library.specs.Tables.{poolAt}
+use Rattle.library.specs.Pool.{absent, out, markAt}
+use Rattle.library.specs.Acting.{kernelWaits}
+use Rattle.library.specs.Settling.{isBoxCall}
+use Rattle.rules.specs.Hanging.{hangsTogether}
+
+-- 2: "kind not 1 to 22"
+abbrev pub kindFits : ℕ → Bool
+kindFits kind = leb 1 kind && leb kind 22
+
+-- 3: "caller is neither 255 nor the running thread"
+abbrev pub callerFits : Kernel → ℕ → ℕ → Bool
+callerFits k n caller = eqb caller nobody || eqb caller (firstReady k n)
+
+-- 4: "tick from a thread; 2, 6, 9, 11, 12, 14 from an interrupt; 15, 16, 17, 20 from an interrupt with timeout not 0"
+abbrev pub contextFits : Step → Bool
+contextFits s =
+    cond (eqb (s .caller) nobody)
+    (cond (kernelWaits (s .kind)) false (cond (isBoxCall (s .kind)) (eqb (s .timeout) immediate) true))
+    (not (eqb (s .kind) 1))
+
+-- 5: "object not in the configuration (13: no such thread)": how many there are for a kind, or 256 for a kind without an object
+abbrev pub objectLimit : Sizes → ℕ → ℕ
+objectLimit z kind =
+    cond (leb kind 1) 256
+    (cond (leb kind 5) (z .semaphores)
+    (cond (leb kind 8) (z .queues)
+    (cond (leb kind 10) (z .references)
+    (cond (eqb kind 13) (z .threads)
+    (cond (leb kind 14) 256
+    (cond (leb kind 19) (z .mailboxes) (z .pools)))))))
+
+-- neither "0 or 4294967295 ticks"
+abbrev pub isSpan : ℕ → Bool
+isSpan ticks = leb 1 ticks && ltb ticks infinite
+
+-- 6: "reset above 2147483647; pool object above 31; event wait for mask 0; sleep, for or until, of 0 or 4294967295 ticks"
+abbrev pub valueFits : SystemTime → Step → Bool
+valueFits now s =
+    cond (eqb (s .kind) 4) (leb (s .a) 2147483647)
+    (cond (eqb (s .kind) 11) (isSpan (s .timeout))
+    (cond (eqb (s .kind) 12) (isSpan (differed now (record { 0 = s .a }) .0))
+    (cond (eqb (s .kind) 14) (leb 1 (s .a))
+    (cond (eqb (s .kind) 21) (leb (s .a) 31) (cond (eqb (s .kind) 22) (leb (s .a) 31) true)))))
+
+-- 7: "3 at counter 2147483647; suspend on a held reference; free of an object not out; add of one not absent"
+abbrev pub stateFits : Plant → Step → Bool
+stateFits p s =
+    cond (eqb (s .kind) 3) (ltZ (counterAt (p .kernel) (semaphorePlace (s .object))) (pos 2147483647))
+    (cond (eqb (s .kind) 9) (eqb (holderAt (p .kernel) (s .object)) nobody)
+    (cond (eqb (s .kind) 21) (eqb (markAt (poolAt p (s .object)) (s .a % 256)) out)
+    (cond (eqb (s .kind) 22) (eqb (markAt (poolAt p (s .object)) (s .a % 256)) absent) true)))
+
+-- "Refusal numbers, in the order of checking"; 0 is an accepted step
+unfoldable pub refusalOf : Plant → Clock → Step → ℕ
+refusalOf p c s =
+    cond (hangsTogether p c)
+    (cond (kindFits (s .kind))
+    (cond (callerFits (p .kernel) (p .sizes .threads) (s .caller))
+    (cond (contextFits s)
+    (cond (leb (objectLimit (p .sizes) (s .kind)) (s .object)) 5
+    (cond (valueFits (c .time) s) (cond (stateFits p s) 0 7) 6))
+    4)
+    3)
+    2)
+    1

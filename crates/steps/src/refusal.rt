@@ -1,0 +1,150 @@
+// The refusals, in document 01's order: the first test that fails gives its number, and 0 is an accepted step.
+use kernel::clock::Clock;
+use kernel::numbers::IMMEDIATE;
+use kernel::numbers::INFINITE;
+use kernel::numbers::NOBODY;
+use kernel::places::semaphore_place;
+use kernel::records::Kernel;
+use kernel::tables::counter_at;
+use kernel::tables::holder_at;
+use kernel::time::SystemTime;
+use kernel::time::difference;
+use kernel::waiters::first_ready;
+use library::acting::is_kernel_wait;
+use library::calls::Step;
+use library::logic::both;
+use library::logic::either;
+use library::numbers::ABSENT;
+use library::numbers::OUT;
+use library::pool::mark_at;
+use library::settling::is_box_call;
+use library::sizes::Sizes;
+use library::tables::Plant;
+use library::tables::pool_at;
+use rules::hanging::hangs_together;
+ghost use mathlib.Core.Path.{_≡_};
+ghost use Rattle.steps.specs.Refusal.{kindFits, callerFits, contextFits, objectLimit, isSpan, valueFits, stateFits, refusalOf};
+
+// 2: kind not 1 to 22.
+fn kind_fits(kind: u8) -> bool
+    ensures { λ r. ⌜ r ≡ kindFits kind ⌝ }
+{
+    both(1 <= kind, kind <= 22)
+}
+
+// 3: the caller is neither 255 nor the running thread.
+fn caller_fits(k: Kernel, n: u16, caller: u8) -> bool
+    ensures { λ r. ⌜ r ≡ callerFits k n caller ⌝ }
+{
+    let running = first_ready(k, n);
+    either(caller == NOBODY, caller == running)
+}
+
+// 4: a tick is an interrupt's; an interrupt may not wait, and may try a mailbox or pool only with a timeout of 0.
+fn context_fits(s: Step) -> bool
+    ensures { λ r. ⌜ r ≡ contextFits s ⌝ }
+{
+    if s.caller == NOBODY {
+        if is_kernel_wait(s.kind) {
+            false
+        } else if is_box_call(s.kind as u16) {
+            s.timeout == IMMEDIATE
+        } else {
+            true
+        }
+    } else {
+        s.kind != 1
+    }
+}
+
+// 5: how many objects there are for a kind; any object will do for a kind that has none.
+fn object_limit(z: Sizes, kind: u8) -> u16
+    ensures { λ r. ⌜ r ≡ objectLimit z kind ⌝ }
+{
+    if kind <= 1 {
+        256
+    } else if kind <= 5 {
+        z.semaphores
+    } else if kind <= 8 {
+        z.queues
+    } else if kind <= 10 {
+        z.references
+    } else if kind == 13 {
+        z.threads
+    } else if kind <= 14 {
+        256
+    } else if kind <= 19 {
+        z.mailboxes
+    } else {
+        z.pools
+    }
+}
+
+// 6: a sleep of neither 0 nor infinitely many ticks.
+fn is_span(ticks: u32) -> bool
+    ensures { λ r. ⌜ r ≡ isSpan ticks ⌝ }
+{
+    both(1 <= ticks, ticks < INFINITE)
+}
+
+// 6: the operand and timeout are in range.
+fn value_fits(now: SystemTime, s: Step) -> bool
+    ensures { λ r. ⌜ r ≡ valueFits now s ⌝ }
+{
+    let kind = s.kind;
+    match kind {
+        4 => s.a <= 2147483647,
+        11 => is_span(s.timeout),
+        12 => {
+            let d = difference(now, SystemTime(s.a));
+            is_span(d.0)
+        }
+        14 => 1 <= s.a,
+        21 => s.a <= 31,
+        22 => s.a <= 31,
+        _ => true,
+    }
+}
+
+// 7: the object is in the state that the step needs.
+fn state_fits(p: Plant, s: Step) -> bool
+    ensures { λ r. ⌜ r ≡ stateFits p s ⌝ }
+{
+    let kind = s.kind;
+    let object = s.object as u16;
+    match kind {
+        3 => counter_at(p.kernel, semaphore_place(object)) < 2147483647,
+        9 => holder_at(p.kernel, object) == NOBODY,
+        21 => mark_at(pool_at(p, object), (s.a % 256) as u8) == OUT,
+        22 => mark_at(pool_at(p, object), (s.a % 256) as u8) == ABSENT,
+        _ => true,
+    }
+}
+
+// The refusal number of a step, or 0.
+pub fn refuse(p: Plant, clock: Clock, s: Step) -> u8
+    ensures { λ r. ⌜ r ≡ refusalOf p clock s ⌝ }
+{
+    if !hangs_together(p, clock) {
+        return 1;
+    }
+    if !kind_fits(s.kind) {
+        return 2;
+    }
+    if !caller_fits(p.kernel, p.sizes.threads, s.caller) {
+        return 3;
+    }
+    if !context_fits(s) {
+        return 4;
+    }
+    if object_limit(p.sizes, s.kind) <= s.object as u16 {
+        return 5;
+    }
+    if !value_fits(clock.time, s) {
+        return 6;
+    }
+    if !state_fits(p, s) {
+        return 7;
+    }
+    0
+}
