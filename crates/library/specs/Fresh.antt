@@ -9,20 +9,8 @@ use Rattle.kernel.specs.Units.{frequencyOf, frequencyFits}
 use Rattle.library.specs.declared.sizes.Sizes.{Sizes}
 use Rattle.library.specs.declared.tables.Tables.{Tables}
 use Rattle.library.specs.declared.fresh.Made.{Made}
-use Rattle.library.specs.Sizes.{sizesFit}
+use Rattle.library.specs.Sizes.{sizesFit, noSizes}
 use Rattle.library.specs.Tables.{blankMailbox, blankPool}
-
-abbrev pub noSizes : Sizes
-noSizes =
-    record {
-      threads = 0;
-      semaphores = 0;
-      queues = 0;
-      references = 0;
-      mailboxes = 0;
-      pools = 0;
-      slots = replicate 4 0;
-    }
 
 abbrev pub freshTables : Sizes → Tables
 freshTables z =

@@ -3,7 +3,7 @@
 use Prim.Native.Nat.{ℕ}
 use mathlib.Core.Bool.{Bool, _&&_, _||_}
 use lib.Dec.{leb}
-use lib.ListN.{getD}
+use lib.ListN.{getD, replicate}
 use Rattle.library.specs.declared.sizes.Sizes.{Sizes}
 
 -- the slots of mailbox i
@@ -24,3 +24,16 @@ sizesFit s =
     && (leb (s .references) 8
     && (leb (s .mailboxes) 4
     && (leb (s .pools) 4 && (slotsFit s 0 && (slotsFit s 1 && (slotsFit s 2 && slotsFit s 3)))))))))
+
+-- no threads and no objects
+abbrev pub noSizes : Sizes
+noSizes =
+    record {
+      threads = 0;
+      semaphores = 0;
+      queues = 0;
+      references = 0;
+      mailboxes = 0;
+      pools = 0;
+      slots = replicate 4 0;
+    }

@@ -1,5 +1,6 @@
 // Fresh tables: all threads ready, references and mailboxes empty, pool objects absent, all else 0.
 use crate::sizes::Sizes;
+use crate::sizes::no_sizes;
 use crate::sizes::sizes_fit;
 use crate::tables::Tables;
 use crate::tables::blank_mailbox;
@@ -10,28 +11,13 @@ use kernel::units::Rate;
 use kernel::units::frequency_fits;
 use kernel::units::frequency_of;
 ghost use mathlib.Core.Path.{_≡_};
-ghost use Rattle.library.specs.Fresh.{noSizes, freshTables, freshClock, notMade, made};
+ghost use Rattle.library.specs.Fresh.{freshTables, freshClock, notMade, made};
 
 // Code 0 with the tables and their clock, or a refusal with the tables of no sizes and a clock of no frequency.
 pub struct Made {
     pub code: u8,
     pub tables: Tables,
     pub clock: Clock,
-}
-
-fn no_sizes() -> Sizes
-    ensures { λ r. ⌜ r ≡ noSizes ⌝ }
-{
-    let slots = [0; 4];
-    Sizes {
-        threads: 0,
-        semaphores: 0,
-        queues: 0,
-        references: 0,
-        mailboxes: 0,
-        pools: 0,
-        slots: slots,
-    }
 }
 
 fn tables_of(sizes: Sizes) -> Tables

@@ -2,7 +2,7 @@
 use crate::logic::both;
 use crate::logic::either;
 ghost use mathlib.Core.Path.{_≡_};
-ghost use Rattle.library.specs.Sizes.{slotsAt, slotsFit, sizesFit};
+ghost use Rattle.library.specs.Sizes.{slotsAt, slotsFit, sizesFit, noSizes};
 
 #[repr(C)]
 pub struct Sizes {
@@ -45,4 +45,20 @@ pub fn sizes_fit(s: Sizes) -> bool
         1 <= s.threads,
         both(s.threads <= 16, both(s.semaphores <= 16, queues)),
     )
+}
+
+// No threads and no objects.
+pub fn no_sizes() -> Sizes
+    ensures { λ r. ⌜ r ≡ noSizes ⌝ }
+{
+    let slots = [0; 4];
+    Sizes {
+        threads: 0,
+        semaphores: 0,
+        queues: 0,
+        references: 0,
+        mailboxes: 0,
+        pools: 0,
+        slots: slots,
+    }
 }

@@ -1,0 +1,75 @@
+-- Two answers that satisfy one public statement coincide: each contract of the crate fixes its function's whole result.
+-- `Fixes P` is about the very statement P that the contract is read as, so no line here can say less than the contract.
+use mathlib.Core.Path.{_≡_}
+use contract.Lifetimes.{Lfts}
+use denote.Ref.{now}
+use denote.Triple.Clauses.{AtExit}
+use borrow.Fn.Kinds.{Dens, resT, endedOf}
+use Rattle.kernel.proofs.Unique.{coincide, Fixes}
+use Rattle.trace.proofs.ordered.byte_at.Reads as ordered-byte-at
+use Rattle.trace.proofs.ordered.byte_at.Kinds as ordered-byte-at-kinds
+use Rattle.trace.proofs.ordered.read_u16.Reads as ordered-read-u16
+use Rattle.trace.proofs.ordered.read_u16.Kinds as ordered-read-u16-kinds
+use Rattle.trace.proofs.ordered.read_u32.Reads as ordered-read-u32
+use Rattle.trace.proofs.ordered.read_u32.Kinds as ordered-read-u32-kinds
+use Rattle.trace.proofs.ordered.write_u16.Reads as ordered-write-u16
+use Rattle.trace.proofs.ordered.write_u16.Kinds as ordered-write-u16-kinds
+use Rattle.trace.proofs.ordered.write_u32.Reads as ordered-write-u32
+use Rattle.trace.proofs.ordered.write_u32.Kinds as ordered-write-u32-kinds
+use Rattle.trace.proofs.reader.number_at.Reads as reader-number-at
+use Rattle.trace.proofs.reader.number_at.Kinds as reader-number-at-kinds
+use Rattle.trace.proofs.reader.decode_sizes.Reads as reader-decode-sizes
+use Rattle.trace.proofs.reader.decode_sizes.Kinds as reader-decode-sizes-kinds
+use Rattle.trace.proofs.reader.decode_step.Reads as reader-decode-step
+use Rattle.trace.proofs.reader.decode_step.Kinds as reader-decode-step-kinds
+use Rattle.trace.proofs.reader.next_record.Reads as reader-next-record
+use Rattle.trace.proofs.reader.next_record.Kinds as reader-next-record-kinds
+use Rattle.trace.proofs.writer.write_sizes.Reads as writer-write-sizes
+use Rattle.trace.proofs.writer.write_sizes.Kinds as writer-write-sizes-kinds
+use Rattle.trace.proofs.writer.write_step.Reads as writer-write-step
+use Rattle.trace.proofs.writer.write_step.Kinds as writer-write-step-kinds
+
+pub ordered-byte-at-one : Fixes 1 ordered-byte-at-kinds.ps ordered-byte-at-kinds.r ordered-byte-at.Post
+ordered-byte-at-one κs a e x y = coincide
+
+pub ordered-read-u16-one : Fixes 1 ordered-read-u16-kinds.ps ordered-read-u16-kinds.r ordered-read-u16.Post
+ordered-read-u16-one κs a e x y = coincide
+
+pub ordered-read-u32-one : Fixes 1 ordered-read-u32-kinds.ps ordered-read-u32-kinds.r ordered-read-u32.Post
+ordered-read-u32-one κs a e x y = coincide
+
+pub reader-number-at-one : Fixes 0 reader-number-at-kinds.ps reader-number-at-kinds.r reader-number-at.Post
+reader-number-at-one κs a e x y = coincide
+
+pub reader-decode-sizes-one : Fixes 1 reader-decode-sizes-kinds.ps reader-decode-sizes-kinds.r reader-decode-sizes.Post
+reader-decode-sizes-one κs a e x y = coincide
+
+pub reader-decode-step-one : Fixes 1 reader-decode-step-kinds.ps reader-decode-step-kinds.r reader-decode-step.Post
+reader-decode-step-one κs a e x y = coincide
+
+pub reader-next-record-one : Fixes 1 reader-next-record-kinds.ps reader-next-record-kinds.r reader-next-record.Post
+reader-next-record-one κs a e x y = coincide
+
+module _ (κs : Lfts 1) (a : Dens κs ordered-write-u16-kinds.ps) (x y : resT ordered-write-u16-kinds.r κs .Denot)
+    (e f : AtExit (endedOf 1 ordered-write-u16-kinds.ps ordered-write-u16-kinds.r) κs) where
+  -- and what the lent slice holds in the end
+  pub ordered-write-u16-one : ordered-write-u16.Post κs a x e → ordered-write-u16.Post κs a y f → now (e .0) ≡ now (f .0)
+  ordered-write-u16-one p q = coincide p q
+
+module _ (κs : Lfts 1) (a : Dens κs ordered-write-u32-kinds.ps) (x y : resT ordered-write-u32-kinds.r κs .Denot)
+    (e f : AtExit (endedOf 1 ordered-write-u32-kinds.ps ordered-write-u32-kinds.r) κs) where
+  -- and what the lent slice holds in the end
+  pub ordered-write-u32-one : ordered-write-u32.Post κs a x e → ordered-write-u32.Post κs a y f → now (e .0) ≡ now (f .0)
+  ordered-write-u32-one p q = coincide p q
+
+module _ (κs : Lfts 1) (a : Dens κs writer-write-sizes-kinds.ps) (x y : resT writer-write-sizes-kinds.r κs .Denot)
+    (e f : AtExit (endedOf 1 writer-write-sizes-kinds.ps writer-write-sizes-kinds.r) κs) where
+  -- and what the lent slice holds in the end
+  pub writer-write-sizes-one : writer-write-sizes.Post κs a x e → writer-write-sizes.Post κs a y f → (x ≡ y) × (now (e .0) ≡ now (f .0))
+  writer-write-sizes-one p q = (coincide (p .0) (q .0), coincide (p .1) (q .1))
+
+module _ (κs : Lfts 1) (a : Dens κs writer-write-step-kinds.ps) (x y : resT writer-write-step-kinds.r κs .Denot)
+    (e f : AtExit (endedOf 1 writer-write-step-kinds.ps writer-write-step-kinds.r) κs) where
+  -- and what the lent slice holds in the end
+  pub writer-write-step-one : writer-write-step.Post κs a x e → writer-write-step.Post κs a y f → (x ≡ y) × (now (e .0) ≡ now (f .0))
+  writer-write-step-one p q = (coincide (p .0) (q .0), coincide (p .1) (q .1))

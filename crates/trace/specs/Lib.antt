@@ -1,0 +1,6 @@
+-- The meanings that the contracts cite, in the order in which they build on each other.
+pub mod Ordered
+pub mod TraceBytes
+pub mod Reader
+pub mod Writer
+pub mod Traces

@@ -1,0 +1,5 @@
+// Traces: a version byte, then records, length first. The reader and the writer, on slices and numbers.
+pub mod numbers;
+pub mod ordered;
+pub mod reader;
+pub mod writer;
