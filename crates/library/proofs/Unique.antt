@@ -65,6 +65,8 @@ use Rattle.library.proofs.sizes.slots_at.Reads as sizes-slots-at
 use Rattle.library.proofs.sizes.slots_at.Kinds as sizes-slots-at-kinds
 use Rattle.library.proofs.sizes.sizes_fit.Reads as sizes-sizes-fit
 use Rattle.library.proofs.sizes.sizes_fit.Kinds as sizes-sizes-fit-kinds
+use Rattle.library.proofs.sizes.no_sizes.Reads as sizes-no-sizes
+use Rattle.library.proofs.sizes.no_sizes.Kinds as sizes-no-sizes-kinds
 use Rattle.library.proofs.tables.open.Reads as tables-open
 use Rattle.library.proofs.tables.open.Kinds as tables-open-kinds
 use Rattle.library.proofs.tables.close.Reads as tables-close
@@ -179,6 +181,9 @@ sizes-slots-at-one κs a e x y = coincide
 
 pub sizes-sizes-fit-one : Fixes 0 sizes-sizes-fit-kinds.ps sizes-sizes-fit-kinds.r sizes-sizes-fit.Post
 sizes-sizes-fit-one κs a e x y = coincide
+
+pub sizes-no-sizes-one : Fixes 0 sizes-no-sizes-kinds.ps sizes-no-sizes-kinds.r sizes-no-sizes.Post
+sizes-no-sizes-one κs a e x y = coincide
 
 pub tables-open-one : Fixes 0 tables-open-kinds.ps tables-open-kinds.r tables-open.Post
 tables-open-one κs a e x y = coincide
