@@ -1,5 +1,5 @@
 -- Signed numbers of 32 bits: read back from their bits, and one more and one less of them.
-use Prim.Native.Nat.{ℕ, suc, _<_, _-_}
+use Prim.Native.Nat.{suc, _<_, _-_}
 use native.Mathlib.Omega.{arith}
 use mathlib.Core.Path.{_≡_}
 use mathlib.Core.Bool.{Bool, true, false, cond}

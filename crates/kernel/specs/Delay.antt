@@ -2,7 +2,6 @@
 use Prim.Native.Nat.{ℕ}
 use Rattle.kernel.specs.declared.time.SystemTime.{SystemTime}
 use Rattle.kernel.specs.declared.time.Interval.{Interval}
-use Rattle.kernel.specs.declared.records.Call.{Call}
 use Rattle.kernel.specs.declared.records.Kernel.{Kernel}
 use Rattle.kernel.specs.Numbers.{nowhere, sleeping, sleepFor, sleepUntil}
 use Rattle.kernel.specs.Time.{differed}

@@ -1,5 +1,5 @@
 -- Fresh records, and the kernel at the beginning and at the end of a step.
-use Prim.Native.Nat.{ℕ}
+
 use mathlib.Core.Bool.{false}
 use lib.ListN.{replicate}
 use lib.IntN.{pos}

@@ -1,5 +1,5 @@
 -- System time and interval: two units over 32 bits, whose sums and differences wrap.
-use Prim.Native.Nat.{ℕ, _+_, _-_, _%_, _^_}
+use Prim.Native.Nat.{_+_, _-_, _%_, _^_}
 use mathlib.Core.Bool.{Bool}
 use lib.Dec.{ltb}
 use Rattle.kernel.specs.declared.time.SystemTime.{SystemTime}

@@ -1,6 +1,6 @@
 -- Seconds, milliseconds and microseconds as ticks, and ticks as these, each rounded upward.
 use Prim.Native.Nat.{ℕ, _+_, _*_, _/_, _%_}
-use mathlib.Core.Bool.{Bool, true, false, cond, _&&_}
+use mathlib.Core.Bool.{Bool, cond, _&&_}
 use lib.Dec.{eqb, leb, ltb}
 use Rattle.kernel.specs.declared.time.Interval.{Interval}
 use Rattle.kernel.specs.declared.units.Unit.{Unit}

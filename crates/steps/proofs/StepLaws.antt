@@ -1,13 +1,12 @@
 -- Demand 1: any tables and any step get an answer. Where its number is not 0, tables and clock are the very ones given,
 -- nobody is woken and no call finishes.
-use Prim.Native.Nat.{ℕ}
 use mathlib.Core.Path.{_≡_, refl}
 use mathlib.Core.Logic.{_≢_}
-use mathlib.Core.Bool.{Bool, true, false}
 use lib.Dec.{eqb}
 use lib.IntN.{pos}
-use borrow.Author.Tests.{eq-eqb, ne-eqb, eqb-true, eqb-false}
+use borrow.Author.Tests.{ne-eqb, eqb-true}
 use Rattle.kernel.specs.declared.clock.Clock.{Clock}
+use Rattle.kernel.proofs.Cases.{split}
 use Rattle.library.specs.declared.calls.Step.{Step}
 use Rattle.library.specs.declared.tables.Tables.{Tables}
 use Rattle.steps.specs.declared.stepping.Stepped.{Stepped}
@@ -25,10 +24,6 @@ pub record Untouched (t : Tables) (c : Clock) (r : Stepped) : Type 0 where
   pub datum : r .outcome .datum ≡ 0
 
 module _ (t : Tables) (c : Clock) (s : Step) where
-  split : {C : Type 0} (b : Bool) → (b ≡ true → C) → (b ≡ false → C) → C
-  split true f g = f refl
-  split false f g = g refl
-
   -- the answer's number is the refusal's number of document 01
   pub step-code : stepped t c s .outcome .code ≡ refusalOf (opened t) c s
   unfolding stepped doneWith refusedWith outcomeOf

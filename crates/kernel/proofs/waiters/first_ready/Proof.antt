@@ -4,7 +4,7 @@ use native.Mathlib.Nat.{sub-zero}
 use native.Mathlib.Omega.{arith}
 use mathlib.Core.Path.{_≡_, sym, _∙_}
 use Rattle.kernel.proofs.Loops.{first-here, first-next, first-none, used-le}
-use Rattle.kernel.specs.Tables.{threadAt, usedRows}
+use Rattle.kernel.specs.Tables.{threadAt}
 use Rattle.kernel.specs.Waiters.{isReady, firstReady}
 use Rattle.kernel.specs.Walk.{firstFrom}
 use Rattle.kernel.proofs.waiters.first_ready.Statement.{statement}
