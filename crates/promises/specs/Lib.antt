@@ -1,0 +1,3 @@
+-- What is promised, in the order in which it builds on itself.
+pub mod Run
+pub mod Facts
