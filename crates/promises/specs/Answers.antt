@@ -16,7 +16,6 @@ use Rattle.library.specs.Tables.{opened}
 use Rattle.library.specs.Acting.{acted}
 use Rattle.library.specs.Settling.{settled}
 use Rattle.rules.specs.Hanging.{hangsTogether}
-use Rattle.steps.specs.declared.stepping.Stepped.{Stepped}
 use Rattle.steps.specs.Refusal.{kindFits, callerFits, contextFits, objectLimit, valueFits, stateFits, refusalOf}
 use Rattle.steps.specs.Stepping.{budgetOf, doneWith, refusedWith, stepped}
 use Rattle.steps.proofs.StepLaws.{Untouched, step-code, step-refused}

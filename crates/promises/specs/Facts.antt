@@ -4,8 +4,6 @@ use Prim.Native.Nat.{ℕ, suc}
 use mathlib.Core.Path.{_≡_, refl}
 use mathlib.Core.List.{List, [], _∷_, _++_}
 use Rattle.kernel.specs.declared.time.SystemTime.{SystemTime}
-use Rattle.kernel.specs.declared.time.Interval.{Interval}
-use Rattle.kernel.specs.declared.units.Unit.{Unit}
 use Rattle.kernel.specs.declared.units.Unit.the-variants.{Milliseconds, Microseconds}
 use Rattle.kernel.specs.declared.units.Rate.the-variants.{Given, Standard}
 use Rattle.kernel.specs.declared.units.Ticks.{Ticks}

@@ -3,3 +3,9 @@ pub mod Run
 pub mod Facts
 pub mod Answers
 pub mod Refusals
+pub mod Tests
+pub mod Good
+pub mod RowTests
+pub mod PlaceTests
+pub mod BoxTests
+pub mod Hanging

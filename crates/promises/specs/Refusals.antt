@@ -1,8 +1,8 @@
 -- A refused step adds nothing to a run: the accepted steps alone leave the same tables and the same clock.
-use Prim.Native.Nat.{ℕ, suc}
-use mathlib.Core.Path.{_≡_, refl, sym, ap, _∙_}
+use Prim.Native.Nat.{suc}
+use mathlib.Core.Path.{_≡_, refl, ap}
 use mathlib.Core.Logic.{_≢_}
-use mathlib.Core.Bool.{Bool, true, false, cond}
+use mathlib.Core.Bool.{Bool, false, cond}
 use mathlib.Core.List.{List, [], _∷_, _++_}
 use lib.Dec.{eqb}
 use lib.ListN.{length}
@@ -12,10 +12,9 @@ use Rattle.kernel.proofs.Cases.{split}
 use Rattle.library.specs.declared.calls.Step.{Step}
 use Rattle.library.specs.declared.tables.Tables.{Tables}
 use Rattle.steps.specs.declared.stepping.Outcome.{Outcome}
-use Rattle.steps.specs.declared.stepping.Stepped.{Stepped}
 use Rattle.steps.specs.Stepping.{stepped}
 use Rattle.steps.proofs.StepLaws.{Untouched, step-refused}
-use Rattle.promises.specs.Run.{Ran, ranOn, ran}
+use Rattle.promises.specs.Run.{ranOn, ran}
 
 -- an accepted step's result
 abbrev pub isAccepted : Outcome → Bool

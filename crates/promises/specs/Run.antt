@@ -4,7 +4,6 @@ use Rattle.kernel.specs.declared.clock.Clock.{Clock}
 use Rattle.library.specs.declared.calls.Step.{Step}
 use Rattle.library.specs.declared.tables.Tables.{Tables}
 use Rattle.steps.specs.declared.stepping.Outcome.{Outcome}
-use Rattle.steps.specs.declared.stepping.Stepped.{Stepped}
 use Rattle.steps.specs.Stepping.{stepped}
 
 -- what a run leaves: tables, clock, and the result of each step
