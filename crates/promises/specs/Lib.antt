@@ -1,0 +1,11 @@
+-- What is promised, in the order in which it builds on itself.
+pub mod Run
+pub mod Facts
+pub mod Answers
+pub mod Refusals
+pub mod Tests
+pub mod Good
+pub mod RowTests
+pub mod PlaceTests
+pub mod BoxTests
+pub mod Hanging

@@ -1,0 +1,1 @@
+// Theorems only: what holds over every run. The statements are in specs/, beside their proofs.
