@@ -1,0 +1,94 @@
+-- The invariant: what is left of the reads, from the place reached, ends where all of them do. A read that moves nothing is the last.
+use native.Mathlib.Omega.{arith}
+use mathlib.Core.Path.{_≡_, refl, _∙_}
+use borrow.Author.Needs.{needs}
+use Rattle.lines.specs.Ending.{placeAfter}
+use Rattle.lines.proofs.EndingLaws.{read-last, read-more, read-none}
+use Rattle.lines.proofs.list_trace.Statement.{statement}
+use Rattle.lines.proofs.list_trace.Tie as tie
+
+abbrev Inv-loop : tie.InvT-loop
+Inv-loop s whole out₀ heading x₀ at₀ left₀ out x at left = placeAfter left s at ≡ placeAfter 5000 s 0
+
+abbrev μ-loop : tie.MeasureT-loop
+μ-loop s whole out₀ heading x₀ at₀ left₀ out x at left = left
+
+large-buffer-requires : tie.Need-large-buffer-requires Inv-loop μ-loop
+large-buffer-requires c κs = tt
+
+slice-aggregate-out : tie.Need-slice-aggregate-out Inv-loop μ-loop
+slice-aggregate-out c = search needs
+
+slice-aggregate-put-text : tie.Need-slice-aggregate-put-text Inv-loop μ-loop
+slice-aggregate-put-text c = search needs
+
+put-text-requires : tie.Need-put-text-requires Inv-loop μ-loop
+put-text-requires c κs = tt
+
+no-sizes-requires : tie.Need-no-sizes-requires Inv-loop μ-loop
+no-sizes-requires c κs = tt
+
+begin-requires : tie.Need-begin-requires Inv-loop μ-loop
+begin-requires c κs = tt
+
+loop-holds : tie.Need-loop-holds Inv-loop μ-loop
+loop-holds c = refl
+
+next-record-requires : tie.Need-next-record-requires Inv-loop μ-loop
+next-record-requires c κs = tt
+
+list-found-requires : tie.Need-list-found-requires Inv-loop μ-loop
+list-found-requires c κs = tt
+
+sub-left : tie.Need-sub-left Inv-loop μ-loop
+sub-left c = omega arith
+
+loop-less : tie.Need-loop-less Inv-loop μ-loop
+loop-less c = omega arith
+
+loop-again : tie.Need-loop-again Inv-loop μ-loop
+loop-again c =
+    let here = c .before .before .before .before .before .before in
+    let at = here .before .before .loop in
+    read-last (at .left) _ (at .at) (here .next-record .result) (here .next-record .ensures) (c .if1 .taken) ∙ at .inv
+
+loop-less-2 : tie.Need-loop-less-2 Inv-loop μ-loop
+loop-less-2 c = omega arith
+
+loop-again-2 : tie.Need-loop-again-2 Inv-loop μ-loop
+loop-again-2 c =
+    let here = c .before .before .before .before .before .before in
+    let at = here .before .before .loop in
+    read-more (at .left) _ (at .at) (here .next-record .result) (here .next-record .ensures) (here .before .loop-test .taken) ∙ at .inv
+
+write-out-requires : tie.Need-write-out-requires Inv-loop μ-loop
+write-out-requires c κs = tt
+
+returns : tie.Need-returns Inv-loop μ-loop
+returns c =
+    let at = c .before .before .before .before .loop in
+    let none : at .left ≡ 0 = omega arith in
+    read-none (at .left) _ (at .at) _ none (at .inv)
+
+pub list-trace-spec : {M : Type 1} → statement M
+list-trace-spec =
+    tie.close
+    (tie.spec
+    Inv-loop
+    μ-loop
+    large-buffer-requires
+    slice-aggregate-out
+    slice-aggregate-put-text
+    put-text-requires
+    no-sizes-requires
+    begin-requires
+    loop-holds
+    next-record-requires
+    list-found-requires
+    sub-left
+    loop-less
+    loop-again
+    loop-less-2
+    loop-again-2
+    write-out-requires
+    returns)

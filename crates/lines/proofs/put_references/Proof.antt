@@ -1,0 +1,57 @@
+-- Each turn goes one row on, no further than the table, and the buffer keeps its length.
+use Prim.Native.Nat.{_≤_, _-_}
+use native.Mathlib.Omega.{arith}
+use mathlib.Core.Path.{_≡_, refl}
+use lib.ListN.{length}
+use borrow.Author.Needs.{needs}
+use Rattle.lines.proofs.put_references.Statement.{statement}
+use Rattle.lines.proofs.put_references.Tie as tie
+
+abbrev Inv-loop : tie.InvT-loop
+Inv-loop out₀ at n references rows end₀ i₀ out end i = (i ≤ rows) × (rows ≤ 8) × (length out ≡ length out₀)
+
+abbrev μ-loop : tie.MeasureT-loop
+μ-loop out₀ at n references rows end₀ i₀ out end i = rows - i
+
+at-most-requires : tie.Need-at-most-requires Inv-loop μ-loop
+at-most-requires c κs = tt
+
+loop-holds : tie.Need-loop-holds Inv-loop μ-loop
+loop-holds c = (omega arith, c .at-most .ensures, refl)
+
+array-read-holder : tie.Need-array-read-holder Inv-loop μ-loop
+array-read-holder c = omega arith
+
+put-reference-requires : tie.Need-put-reference-requires Inv-loop μ-loop
+put-reference-requires c κs = tt
+
+add-i : tie.Need-add-i Inv-loop μ-loop
+add-i c = omega arith
+
+loop-less : tie.Need-loop-less Inv-loop μ-loop
+loop-less c = omega arith
+
+loop-again : tie.Need-loop-again Inv-loop μ-loop
+loop-again c = (omega arith, omega arith, search needs)
+
+same-length : tie.Need-same-length Inv-loop μ-loop
+same-length c = c .before .loop .inv .2
+
+returns : tie.Need-returns Inv-loop μ-loop
+returns c = tt
+
+pub put-references-spec : {M : Type 1} → statement M
+put-references-spec =
+    tie.close
+    (tie.spec
+    Inv-loop
+    μ-loop
+    at-most-requires
+    loop-holds
+    array-read-holder
+    put-reference-requires
+    add-i
+    loop-less
+    loop-again
+    same-length
+    returns)

@@ -1,0 +1,2 @@
+-- The meaning that this crate's contract cites.
+pub mod Ending

@@ -1,0 +1,149 @@
+// listing [--tables] [FILE]: prints the listing of a trace, which it reads from FILE or from standard input.
+// All that it decides itself is which words are options; the reading of a trace, the steps and the lines are libraries.
+use libc::STDERR_FILENO;
+use libc::STDIN_FILENO;
+use libc::STDOUT_FILENO;
+use lines::list_trace;
+
+// What the arguments ask for. `file` is the argument that names the trace, 0 for none.
+struct Options {
+    whole: bool,
+    help: bool,
+    wrong: bool,
+    file: usize,
+}
+
+fn same_from(a: &[u8], b: &[u8]) -> bool {
+    let mut i: usize = 0;
+    while i < a.len() {
+        if i < b.len() {
+            if a[i] != b[i] {
+                return false;
+            }
+        }
+        i += 1;
+    }
+    true
+}
+
+fn is_same(a: &[u8], b: &[u8]) -> bool {
+    if a.len() != b.len() {
+        false
+    } else {
+        same_from(a, b)
+    }
+}
+
+fn is_option(word: &[u8]) -> bool {
+    if 0 < word.len() {
+        word[0] == b'-'
+    } else {
+        false
+    }
+}
+
+// The options with argument i, which is this word.
+fn with_word(o: Options, i: usize, word: &[u8]) -> Options {
+    let mut r = o;
+    if is_same(word, b"--tables") {
+        r.whole = true;
+    } else if is_same(word, b"--help") {
+        r.help = true;
+    } else if is_option(word) {
+        r.wrong = true;
+    } else if o.file != 0 {
+        r.wrong = true;
+    } else {
+        r.file = i;
+    }
+    r
+}
+
+// A word too long to be read counts as a file's name, and is refused as one.
+fn with_argument(o: Options, i: usize) -> Options {
+    let mut word = io::buffer();
+    let n = os::arg(i, &mut word);
+    with_word(o, i, &word[..n])
+}
+
+fn read_options() -> Options {
+    let mut o = Options {
+        whole: false,
+        help: false,
+        wrong: false,
+        file: 0,
+    };
+    let end = os::arg_count();
+    let mut i: usize = 1;
+    while i < end {
+        o = with_argument(o, i);
+        i += 1;
+    }
+    o
+}
+
+fn print_usage(fd: i32) {
+    io::write_all(fd, b"usage: listing [--tables] [FILE]\n");
+    io::write_all(
+        fd,
+        b"Lists the steps of a trace, read from FILE or from standard input.\n",
+    );
+    io::write_all(
+        fd,
+        b"  --tables  print the answer and all tables after each step's line\n",
+    );
+    io::write_all(fd, b"  --help    print this text\n");
+}
+
+// Why what has just failed did.
+fn complain(what: &[u8]) {
+    io::write_all(STDERR_FILENO, b"listing: ");
+    os::fail(what);
+}
+
+// The longest trace and a byte more, to see refusal 15. Nothing is printed before all is read.
+// errno is 0 here: `os::arg` has just set it, and an open that succeeds leaves it.
+fn list_from(fd: i32, what: &[u8], whole: bool) {
+    let mut bytes = [0u8; 60001];
+    let n = io::read_full(fd, &mut bytes);
+    if os::errno() != 0 {
+        complain(what);
+    } else {
+        list_trace(&bytes[..n], whole);
+    }
+}
+
+fn list_file(i: usize, whole: bool) {
+    let mut path = io::buffer();
+    let n = os::arg(i, &mut path);
+    if os::errno() != 0 {
+        complain(b"the file's name");
+        return;
+    }
+    let fd = os::open_read(&path[..n]);
+    if fd < 0 {
+        complain(&path[..n]);
+        return;
+    }
+    list_from(fd, &path[..n], whole);
+    libc::close(fd);
+}
+
+fn list_input(whole: bool) {
+    let mut name = io::buffer();
+    os::arg(0, &mut name);
+    list_from(STDIN_FILENO, b"standard input", whole);
+}
+
+fn main() {
+    let o = read_options();
+    if o.wrong {
+        print_usage(STDERR_FILENO);
+    } else if o.help {
+        print_usage(STDOUT_FILENO);
+    } else if o.file != 0 {
+        list_file(o.file, o.whole);
+    } else {
+        list_input(o.whole);
+    }
+}
