@@ -1,4 +1,4 @@
--- "accepted steps keep it so", the counter rule, kinds 1 to 14: an accepted step's object is in the configuration, so its place is
+-- "accepted steps keep it so", the counters' and the references' rules, kinds 1 to 14: an accepted step's object is in the configuration, so its place is
 -- in use and follows the rule; and a caller that may sleep is the running thread.
 use Prim.Native.Nat.{ℕ, suc, _≤_, _<_}
 use native.Mathlib.Omega.{arith}
@@ -27,9 +27,28 @@ use Rattle.library.proofs.Signed.{lower}
 use Rattle.rules.specs.PlaceRules.{inUse}
 use Rattle.steps.specs.Refusal.{objectLimit, refusalOf}
 use Rattle.promises.specs.Tests.{neither-means}
-use Rattle.promises.specs.Good.{GoodCounters, HangTogether}
+use Rattle.promises.specs.Good.{GoodCounters, GoodReferences, HangTogether}
 use Rattle.promises.specs.Hanging.{test-hangs}
 use Rattle.promises.specs.Tallies.{Tallies, finish-tallies, release-first-tallies, release-all-tallies, enqueue-tallies, wait-tallies, signal-tallies, binary-tallies, reset-tallies, tick-tallies, resume-tallies, event-signal-tallies, event-wait-tallies, suspend-tallies, sleep-for-tallies, sleep-until-tallies}
+use Rattle.promises.specs.Holds.{
+  Holds,
+  finish-holds,
+  release-first-holds,
+  release-all-holds,
+  enqueue-holds,
+  wait-holds,
+  signal-holds,
+  binary-holds,
+  reset-holds,
+  tick-holds,
+  resume-holds,
+  event-signal-holds,
+  event-wait-holds,
+  suspend-holds,
+  sleep-for-holds,
+  sleep-until-holds,
+}
+use Rattle.promises.specs.ReferenceRule.{references-hold, holds-references}
 use Rattle.promises.specs.CounterRule.{counters-tally, tally-counters, semaphore-place, queue-place}
 use Rattle.promises.specs.Accepting.{Accepted, refusal-none, waits-thread, waits-ready}
 
@@ -99,6 +118,25 @@ module _ (p : Plant) (c : Clock) (s : Step) (a : Accepted p c s) (z : Sized (p .
   object-of : (m : ℕ) → eqb (s .kind) m ≡ true → s .object < objectLimit (p .sizes) m
   object-of m e = rw (eqb-true (s .kind) m e) at (a .object)
 
+  -- a reference in the configuration holds a thread, or nobody
+  holder-in : s .object < p .sizes .references → holderAt k (s .object) ≢ nobody → holderAt k (s .object) < n
+  holder-in h d =
+      elim (whole .good .references .holder (s .object) h) [
+        | inl e ↦ absurd (d e)
+        | inr l ↦ l
+      ]
+
+  -- the thread of an event signal is one of the threads
+  signalled-thread : s .kind ≤ 14 → kernelWaits (s .kind) ≡ false → eqb (s .kind) 1 ≡ false → eqb (s .kind) 3 ≡ false
+      → eqb (s .kind) 4 ≡ false → eqb (s .kind) 5 ≡ false → eqb (s .kind) 7 ≡ false → eqb (s .kind) 8 ≡ false
+      → eqb (s .kind) 10 ≡ false → s .object < n
+  signalled-thread h w e1 e3 e4 e5 e7 e8 e10 =
+      let is =
+      left-thirteen (s .kind) h (leb-true 1 (s .kind) (both-means (leb 1 (s .kind)) (leb (s .kind) 22) (a .kind) .0)) w
+      (eqb-false (s .kind) 1 e1) (eqb-false (s .kind) 3 e3) (eqb-false (s .kind) 4 e4) (eqb-false (s .kind) 5 e5)
+      (eqb-false (s .kind) 7 e7) (eqb-false (s .kind) 8 e8) (eqb-false (s .kind) 10 e10)
+      in rw is at (a .object)
+
   module _ (q : ℕ) (g : Tallies n q k) where
     -- 2, 6, 9, 11, 12, 14
     waits-tally : kernelWaits (s .kind) ≡ true → Tallies n q (waitBegun k (c .time) s)
@@ -117,14 +155,6 @@ module _ (p : Plant) (c : Clock) (s : Step) (a : Accepted p c s) (z : Sized (p .
         (λ e9. chosen (Tallies n q) (eqb (s .kind) 11) (λ e. sleep-for-tallies k (s .caller) (record { 0 = s .timeout }) n q i g)
         (λ e11. chosen (Tallies n q) (eqb (s .kind) 12) (λ e. sleep-until-tallies k (s .caller) (c .time) (record { 0 = s .a }) n q i g)
         (λ e12. event-wait-tallies k (s .caller) (callOf s) n q i g)))))
-
-    -- a reference in the configuration holds a thread, or nobody
-    holder-in : s .object < p .sizes .references → holderAt k (s .object) ≢ nobody → holderAt k (s .object) < n
-    holder-in h d =
-        elim (whole .good .references .holder (s .object) h) [
-          | inl e ↦ absurd (d e)
-          | inr l ↦ l
-        ]
 
     -- 4: "reset above 2147483647" is refused
     reset-in : eqb (s .kind) 4 ≡ true → s .a ≤ 2147483647
@@ -148,11 +178,7 @@ module _ (p : Plant) (c : Clock) (s : Step) (a : Accepted p c s) (z : Sized (p .
         (λ e. release-all-tallies k n (queuePlace (s .object)) (messageOf s) q g)
         (λ e8. chosen (Tallies n q) (eqb (s .kind) 10)
         (λ e. resume-tallies k (s .object) (messageOf s) n q short (holder-in (object-of 10 e)) g)
-        (λ e10.
-        let is = left-thirteen (s .kind) h (leb-true 1 (s .kind) (both-means (leb 1 (s .kind)) (leb (s .kind) 22) (a .kind) .0)) w
-        (eqb-false (s .kind) 1 e1) (eqb-false (s .kind) 3 e3) (eqb-false (s .kind) 4 e4) (eqb-false (s .kind) 5 e5)
-        (eqb-false (s .kind) 7 e7) (eqb-false (s .kind) 8 e8) (eqb-false (s .kind) 10 e10) in
-        event-signal-tallies k (s .object) (s .a) n q (rw is at (a .object)) g)))))))
+        (λ e10. event-signal-tallies k (s .object) (s .a) n q (signalled-thread h w e1 e3 e4 e5 e7 e8 e10) g)))))))
 
     -- an accepted step of the kernel part keeps a place's rule
     kernel-tallies : s .kind ≤ 14 → Tallies n q (actedOnKernel k n (c .time) s)
@@ -160,6 +186,51 @@ module _ (p : Plant) (c : Clock) (s : Step) (a : Accepted p c s) (z : Sized (p .
     kernel-tallies h =
         chosen (Tallies n q) (kernelWaits (s .kind)) waits-tally
         (λ w. finish-tallies (effected k n s) (s .caller) ok 0 n q (effect-tallies h w))
+
+  module _ (r : ℕ) (g : Holds n r k) where
+    many : n ≤ nobody
+    many = omega (arith, few)
+
+    -- 2, 6, 9, 11, 12, 14
+    waits-hold : kernelWaits (s .kind) ≡ true → Holds n r (waitBegun k (c .time) s)
+    unfolding waitBegun
+    waits-hold w =
+        let i = waits-ready p c s a z few (waits-thread p c s a w) in
+        chosen (Holds n r) (eqb (s .kind) 2) (λ e. wait-holds k (s .caller) (s .object) (callOf s) n r i g)
+        (λ e2. chosen (Holds n r) (eqb (s .kind) 6) (λ e. enqueue-holds k (s .caller) (queuePlace (s .object)) (callOf s) n r i g)
+        (λ e6. chosen (Holds n r) (eqb (s .kind) 9)
+        (λ e.
+        let few-references = whole .good .sizes .references in
+        let in-range = object-of 9 e in
+        suspend-holds k (s .caller) (s .object) (callOf s) n r i (omega (arith, few-references, in-range, z .references)) (empty e) g)
+        (λ e9. chosen (Holds n r) (eqb (s .kind) 11) (λ e. sleep-for-holds k (s .caller) (record { 0 = s .timeout }) n r i g)
+        (λ e11. chosen (Holds n r) (eqb (s .kind) 12) (λ e. sleep-until-holds k (s .caller) (c .time) (record { 0 = s .a }) n r i g)
+        (λ e12. event-wait-holds k (s .caller) (callOf s) n r i g)))))
+      where
+        -- "suspend on a held reference" is refused
+        empty : eqb (s .kind) 9 ≡ true → holderAt k (s .object) ≡ nobody
+        empty e = eqb-true (holderAt k (s .object)) nobody (rw (eqb-true (s .kind) 9 e) at (a .state))
+
+    -- 1, 3, 4, 5, 7, 8, 10, 13
+    effect-holds : s .kind ≤ 14 → kernelWaits (s .kind) ≡ false → Holds n r (effected k n s)
+    unfolding effected
+    effect-holds h w =
+        chosen (Holds n r) (eqb (s .kind) 1) (λ e. tick-holds k n r many g)
+        (λ e1. chosen (Holds n r) (eqb (s .kind) 3) (λ e. signal-holds k n (s .object) n r short g)
+        (λ e3. chosen (Holds n r) (eqb (s .kind) 4) (λ e. reset-holds k n (s .object) n r (messageOf s) g)
+        (λ e4. chosen (Holds n r) (eqb (s .kind) 5) (λ e. binary-holds k n (s .object) n r short g)
+        (λ e5. chosen (Holds n r) (eqb (s .kind) 7) (λ e. release-first-holds k n (queuePlace (s .object)) (messageOf s) n r short g)
+        (λ e7. chosen (Holds n r) (eqb (s .kind) 8) (λ e. release-all-holds k n (queuePlace (s .object)) (messageOf s) n r g)
+        (λ e8. chosen (Holds n r) (eqb (s .kind) 10)
+        (λ e. resume-holds k (s .object) (messageOf s) n r many short (holder-in (object-of 10 e)) g)
+        (λ e10. event-signal-holds k (s .object) (s .a) n r many (signalled-thread h w e1 e3 e4 e5 e7 e8 e10) g)))))))
+
+    -- an accepted step of the kernel part keeps a reference's rule
+    kernel-holds : s .kind ≤ 14 → Holds n r (actedOnKernel k n (c .time) s)
+    unfolding actedOnKernel
+    kernel-holds h =
+        chosen (Holds n r) (kernelWaits (s .kind)) waits-hold
+        (λ w. finish-holds (effected k n s) (s .caller) ok 0 n r (effect-holds h w))
 
 -- "A semaphore .. or queue with n > 0 threads queued has counter -n; with none, ..": an accepted step of kinds 1 to 14 leaves it so
 pub kernel-step-counters : (p : Plant) (c : Clock) (s : Step) → refusalOf p c s ≡ 0 → Sized (p .kernel) → s .kind ≤ 14
@@ -171,3 +242,14 @@ kernel-step-counters p c s e z h =
     rw (le-leb (s .kind) 14 h)
     (tally-counters (actedOnKernel (p .kernel) (p .sizes .threads) (c .time) s) (p .sizes) (g .good .sizes)
     (λ q l u. kernel-tallies p c s a z q (tallies p c s a z q l u) h))
+
+-- "Reference r holds i exactly if i is suspended on r": an accepted step of kinds 1 to 14 leaves it so
+pub kernel-step-references : (p : Plant) (c : Clock) (s : Step) → refusalOf p c s ≡ 0 → Sized (p .kernel) → s .kind ≤ 14
+    → GoodReferences (acted p (c .time) s .kernel) (p .sizes)
+unfolding acted
+kernel-step-references p c s e z h =
+    let a = refusal-none p c s e in
+    let g = whole p c s a z in
+    rw (le-leb (s .kind) 14 h)
+    (holds-references (actedOnKernel (p .kernel) (p .sizes .threads) (c .time) s) (p .sizes)
+    (λ r l. kernel-holds p c s a z r (references-hold (p .kernel) (p .sizes) (g .good .references) r l) h))

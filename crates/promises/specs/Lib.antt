@@ -12,4 +12,6 @@ pub mod Hanging
 pub mod Tallies
 pub mod CounterRule
 pub mod Accepting
+pub mod Holds
+pub mod ReferenceRule
 pub mod KernelSteps

@@ -236,12 +236,12 @@ module _ (k : Kernel) (z : Sizes) where
 -- ---- references
 
 -- the test of "i is suspended on r"
-suspended-of : (r : ℕ) (t : Thread) → suspendedAt r t ≡ true → SuspendedOn r t
+pub suspended-of : (r : ℕ) (t : Thread) → suspendedAt r t ≡ true → SuspendedOn r t
 suspended-of r t e =
     let x = both-means (eqb (t .state) suspended) (eqb (t .place) r) e in
     (eqb-true (t .state) suspended (x .0), eqb-true (t .place) r (x .1))
 
-of-suspended : (r : ℕ) (t : Thread) → SuspendedOn r t → suspendedAt r t ≡ true
+pub of-suspended : (r : ℕ) (t : Thread) → SuspendedOn r t → suspendedAt r t ≡ true
 of-suspended r t x = both-true (eq-eqb (t .state) suspended (x .0)) (eq-eqb (t .place) r (x .1))
 
 holds-of : (holder r i : ℕ) (t : Thread) → holdsRightly holder r i t ≡ true → (holder ≡ i) ↔ SuspendedOn r t
