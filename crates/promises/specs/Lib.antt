@@ -9,3 +9,9 @@ pub mod RowTests
 pub mod PlaceTests
 pub mod BoxTests
 pub mod Hanging
+pub mod Tallies
+pub mod CounterRule
+pub mod Accepting
+pub mod Holds
+pub mod ReferenceRule
+pub mod KernelSteps

@@ -143,19 +143,19 @@ module _ (p : ℕ) (c : ℤ) (n : ℕ) where
 
 -- the places of each kind of object
 module _ (z : Sizes) (p : ℕ) where
-  semaphore-used : p < 16 → inUse z p ≡ ltb p (z .semaphores)
+  pub semaphore-used : p < 16 → inUse z p ≡ ltb p (z .semaphores)
   semaphore-used h = rw (lt-ltb p 16 h)
 
-  pool-used : 16 ≤ p → p < 20 → inUse z p ≡ ltb (p - 16) (z .pools)
+  pub pool-used : 16 ≤ p → p < 20 → inUse z p ≡ ltb (p - 16) (z .pools)
   pool-used l h = rw (le-ltb p 16 l, lt-ltb p 20 h)
 
-  queue-used : 20 ≤ p → p < 28 → inUse z p ≡ ltb (p - 20) (z .queues)
+  pub queue-used : 20 ≤ p → p < 28 → inUse z p ≡ ltb (p - 20) (z .queues)
   queue-used l h = rw (le-ltb p 16 (omega arith), le-ltb p 20 l, lt-ltb p 28 h)
 
-  writers-used : 28 ≤ p → p < 32 → inUse z p ≡ ltb (p - 28) (z .mailboxes)
+  pub writers-used : 28 ≤ p → p < 32 → inUse z p ≡ ltb (p - 28) (z .mailboxes)
   writers-used l h = rw (le-ltb p 16 (omega arith), le-ltb p 20 (omega arith), le-ltb p 28 l, lt-ltb p 32 h)
 
-  readers-used : 32 ≤ p → inUse z p ≡ ltb (p - 32) (z .mailboxes)
+  pub readers-used : 32 ≤ p → inUse z p ≡ ltb (p - 32) (z .mailboxes)
   readers-used l = rw (le-ltb p 16 (omega arith), le-ltb p 20 (omega arith), le-ltb p 28 (omega arith), le-ltb p 32 l)
 
 module _ (k : Kernel) (z : Sizes) where
@@ -236,12 +236,12 @@ module _ (k : Kernel) (z : Sizes) where
 -- ---- references
 
 -- the test of "i is suspended on r"
-suspended-of : (r : ℕ) (t : Thread) → suspendedAt r t ≡ true → SuspendedOn r t
+pub suspended-of : (r : ℕ) (t : Thread) → suspendedAt r t ≡ true → SuspendedOn r t
 suspended-of r t e =
     let x = both-means (eqb (t .state) suspended) (eqb (t .place) r) e in
     (eqb-true (t .state) suspended (x .0), eqb-true (t .place) r (x .1))
 
-of-suspended : (r : ℕ) (t : Thread) → SuspendedOn r t → suspendedAt r t ≡ true
+pub of-suspended : (r : ℕ) (t : Thread) → SuspendedOn r t → suspendedAt r t ≡ true
 of-suspended r t x = both-true (eq-eqb (t .state) suspended (x .0)) (eq-eqb (t .place) r (x .1))
 
 holds-of : (holder r i : ℕ) (t : Thread) → holdsRightly holder r i t ≡ true → (holder ≡ i) ↔ SuspendedOn r t
