@@ -57,7 +57,7 @@ pub record Holds (n r : ℕ) (k : Kernel) : Type 0 where
   pub within : holderAt k r ≢ nobody → holderAt k r < n
 
 -- the rule stays where nobody's wait and no holder changes
-same-holds : (k h : Kernel) (n r : ℕ) → ((i : ℕ) → suspendedAt r (threadAt h i) ≡ suspendedAt r (threadAt k i))
+pub same-holds : (k h : Kernel) (n r : ℕ) → ((i : ℕ) → suspendedAt r (threadAt h i) ≡ suspendedAt r (threadAt k i))
     → holderAt h r ≡ holderAt k r → Holds n r k → Holds n r h
 same-holds k h n r s e g = record { holds = λ i l. rw e (g .holds i l ∙ sym (s i)); within = rw e (g .within) }
 
@@ -213,7 +213,7 @@ module _ (k : Kernel) (i p : ℕ) (call : Call) (n r : ℕ) (w : Waiter k n i) w
 
 -- ---- tick, resume, events, plain sleeps
 
-row-holds : (k : Kernel) (n r i : ℕ) (t : Thread) → suspendedAt r t ≡ suspendedAt r (threadAt k i) → Holds n r k → Holds n r (withThread k i t)
+pub row-holds : (k : Kernel) (n r i : ℕ) (t : Thread) → suspendedAt r t ≡ suspendedAt r (threadAt k i) → Holds n r k → Holds n r (withThread k i t)
 row-holds k n r i t e = same-holds k (withThread k i t) n r (thread-kept k i t (suspendedAt r) e) refl
 
 pub tick-holds : (k : Kernel) (n r : ℕ) → n ≤ nobody → Holds n r k → Holds n r (ticked k n)

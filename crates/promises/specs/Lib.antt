@@ -15,3 +15,5 @@ pub mod Accepting
 pub mod Holds
 pub mod ReferenceRule
 pub mod KernelSteps
+pub mod Story
+pub mod Chain

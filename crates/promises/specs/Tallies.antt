@@ -60,7 +60,7 @@ pub record Tallies (n p : ℕ) (k : Kernel) : Type 0 where
   pub level : 20 ≤ p → ltZ (pos 0) (counterAt k p) ≡ false
 
 -- the rule stays where nobody's wait and no counter changes
-same-tallies : (k h : Kernel) (n p : ℕ) → ((i : ℕ) → waits h p i ≡ waits k p i) → counterAt h p ≡ counterAt k p → Tallies n p k → Tallies n p h
+pub same-tallies : (k h : Kernel) (n p : ℕ) → ((i : ℕ) → waits h p i ≡ waits k p i) → counterAt h p ≡ counterAt k p → Tallies n p k → Tallies n p h
 same-tallies k h n p w e g =
     record {
       tally = count-agree (waits h p) (waits k p) n (λ i l. w i) ∙ g .tally ∙ sym (ap debt e);
@@ -226,7 +226,7 @@ module _ (k : Kernel) (n p q : ℕ) (semaphore : p < 20) where
 
 module _ (k : Kernel) (n q : ℕ) where
   -- a row that waits as it did
-  row-tallies : (i : ℕ) (t : Thread) → ((p : ℕ) → queuedAt p t ≡ queuedAt p (threadAt k i)) → Tallies n q k → Tallies n q (withThread k i t)
+  pub row-tallies : (i : ℕ) (t : Thread) → ((p : ℕ) → queuedAt p t ≡ queuedAt p (threadAt k i)) → Tallies n q k → Tallies n q (withThread k i t)
   row-tallies i t e = same-tallies k (withThread k i t) n q (thread-kept k i t (queuedAt q) (e q)) refl
 
 pub tick-tallies : (k : Kernel) (n q : ℕ) → Tallies n q k → Tallies n q (ticked k n)
