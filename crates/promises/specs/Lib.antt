@@ -17,3 +17,4 @@ pub mod ReferenceRule
 pub mod KernelSteps
 pub mod Story
 pub mod Chain
+pub mod Moving
