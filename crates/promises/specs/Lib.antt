@@ -15,3 +15,4 @@ pub mod Accepting
 pub mod Holds
 pub mod ReferenceRule
 pub mod KernelSteps
+pub mod RingKept
