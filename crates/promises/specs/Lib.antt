@@ -16,3 +16,4 @@ pub mod Holds
 pub mod ReferenceRule
 pub mod KernelSteps
 pub mod RingKept
+pub mod PoolKept

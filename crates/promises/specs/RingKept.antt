@@ -104,7 +104,9 @@ module _ (q : Positions) (slots : ℕ) (g : GoodMailbox q slots) where
       (λ e. g)
     where
       sum : (placeBefore (q .read) slots + 1 + q .count) % slots ≡ (placeBefore (q .read) slots + (q .count + 1)) % slots
-      sum = let e : placeBefore (q .read) slots + 1 + q .count ≡ placeBefore (q .read) slots + (q .count + 1) = omega arith in ap (λ n. n % slots) e
+      sum =
+          let e : placeBefore (q .read) slots + 1 + q .count ≡ placeBefore (q .read) slots + (q .count + 1) = omega arith in
+          ap (λ n. n % slots) e
 
   -- "fetch takes from the read place"
   pub fetched-good : GoodMailbox (fetched q slots .positions) slots
@@ -115,7 +117,9 @@ module _ (q : Positions) (slots : ℕ) (g : GoodMailbox q slots) where
         count = omega (arith, g .count);
         read = rw (after-mod (q .read) slots (g .read)) (mod-lt (q .read + 1) some);
         write = g .write;
-        follows = g .follows ∙ sum (ltb-true 0 (q .count) e) ∙ sym (rw (after-mod (q .read) slots (g .read)) (mod-add-mod (q .read + 1) slots (q .count - 1)));
+        follows = g .follows
+            ∙ sum (ltb-true 0 (q .count) e)
+            ∙ sym (rw (after-mod (q .read) slots (g .read)) (mod-add-mod (q .read + 1) slots (q .count - 1)));
       })
       (λ e. g)
     where
