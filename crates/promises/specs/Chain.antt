@@ -96,6 +96,8 @@ pub record Sleeper (z : Sizes) (k : Kernel) (i : ℕ) (c : Call) : Type 0 where
   pub counter : waitState (c .kind) ≡ queued → ltZ (pos 0) (counterAt k (waitPlace (c .kind) (c .object))) ≡ false
   pub holder : waitState (c .kind) ≡ suspended → holderAt k (waitPlace (c .kind) (c .object)) ≡ nobody
   pub flags : waitState (c .kind) ≡ awaiting → bitAnd (threadAt k i .pending) (awaitedBy c) ≡ 0
+  -- and no object is promised to it
+  pub unpromised : isPromised (threadAt k i) ≡ false
 
 -- thread i's call may finish with m and d, and is no alloc with an object promised
 pub record Finisher (z : Sizes) (k : Kernel) (i : ℕ) (m : ℤ) (d : ℕ) : Type 0 where
@@ -133,7 +135,7 @@ pub data Chain (z : Sizes) (h : Kernel) : Kernel → List Event → Type 0 where
       → Chain z h k (signalAt p ∷ (woke i ok ∷ es))
   -- and without waiters raises the counter
   raises : {k : Kernel} {es : List Event} (p : ℕ) → p < 20 → ltZ (counterAt k p) (pos 0) ≡ false
-      → Chain z h (withCounter k p (up (counterAt k p))) es → Chain z h k (signalAt p ∷ es)
+      → ltZ (counterAt k p) (pos 2147483647) ≡ true → Chain z h (withCounter k p (up (counterAt k p))) es → Chain z h k (signalAt p ∷ es)
   ages : {k : Kernel} {es : List Event} → Chain z h (ticked k (z .threads)) es → Chain z h k (tick ∷ tickThen k (z .threads) es)
   sleeps : {k : Kernel} {es : List Event} (i : ℕ) (c : Call) → Sleeper z k i c
       → Chain z h (slept k i (waitState (c .kind)) (waitPlace (c .kind) (c .object)) c) es → Chain z h k (sleepIn i c ∷ es)
@@ -162,7 +164,7 @@ pub chain-then : {z : Sizes} {g h k : Kernel} {es fs : List Event} → Chain z h
 chain-then stop d = d
 chain-then (wakes i m w c) d = wakes i m w (chain-then c d)
 chain-then (passes p i l f c) d = passes p i l f (chain-then c d)
-chain-then (raises p l e c) d = raises p l e (chain-then c d)
+chain-then (raises p l e b c) d = raises p l e b (chain-then c d)
 chain-then {z} {fs = fs} (ages {k} {es = r} c) d = rw (tick-append k (z .threads) r fs) (ages (chain-then c d))
 chain-then (sleeps i a s c) d = sleeps i a s (chain-then c d)
 chain-then (takes p l e c) d = takes p l e (chain-then c d)
@@ -189,7 +191,7 @@ pub chain-sized : {z : Sizes} {h k : Kernel} {es : List Event} → Chain z h k e
 chain-sized stop s = s
 chain-sized (wakes {k} i m w c) s = chain-sized c (sized-kept (wake-sizes k i m) s)
 chain-sized (passes {k} p i l f c) s = chain-sized c (sized-kept (wake-sizes k i ok) s)
-chain-sized (raises {k} p l e c) s = chain-sized c (sized-kept (counter-sizes k p (up (counterAt k p))) s)
+chain-sized (raises {k} p l e b c) s = chain-sized c (sized-kept (counter-sizes k p (up (counterAt k p))) s)
 chain-sized {z} (ages {k} c) s = chain-sized c (sized-kept (tick-sizes k (z .threads)) s)
 chain-sized (sleeps {k} i a w c) s =
     chain-sized c (sized-kept (sleep-sizes k i (waitState (a .kind)) (waitPlace (a .kind) (a .object)) a) s)
@@ -323,7 +325,7 @@ module _ (z : Sizes) (few : z .threads ≤ 16) (i : ℕ) (within : i < z .thread
   chain-story (passes {k} p j l f c) s g =
       apart (signalAt p) refl
       (onward (wake-story k (below s) j ok (queued-unready p (threadAt k j) (f .passes))) g (λ v. chain-story c (sized-kept (wake-sizes k j ok) s) v))
-  chain-story (raises {k} p l e c) s g =
+  chain-story (raises {k} p l e b c) s g =
       apart (signalAt p) refl (chain-story c (sized-kept (counter-sizes k p (up (counterAt k p))) s) g)
   chain-story {h} (ages {k} {es} c) s g =
       apart tick refl
@@ -499,7 +501,7 @@ module _ (z : Sizes) (g : GoodSizes z) where
   chain-rules stop r = r
   chain-rules (wakes {k} i m w c) r = chain-rules c (wake-rules k i m (w .within) r)
   chain-rules (passes {k} p i l f c) r = chain-rules c (wake-rules k i ok (f .below) r)
-  chain-rules (raises {k} p l e c) r = chain-rules c (counter-rules k p (up (counterAt k p)) l (λ q. raised-none k p q e) r)
+  chain-rules (raises {k} p l e b c) r = chain-rules c (counter-rules k p (up (counterAt k p)) l (λ q. raised-none k p q e) r)
   chain-rules (ages {k} c) r = chain-rules c (tick-rules k r)
   chain-rules (sleeps {k} i a s c) r = chain-rules c (sleep-rules k i a s r)
   chain-rules (takes {k} p l e c) r = chain-rules c (take-rules k p l e r)

@@ -18,3 +18,5 @@ pub mod KernelSteps
 pub mod Story
 pub mod Chain
 pub mod Moving
+pub mod RingKept
+pub mod PoolKept

@@ -10,9 +10,9 @@ use lib.Dec.{eqb}
 use lib.ListN.{length, set}
 use lib.Seq.{set-set}
 use lib.Bits.{bitAnd, bitOr}
-use lib.IntN.{ℤ, pos}
+use lib.IntN.{ℤ, pos, negsuc}
 use lib.Signed.{ltZ}
-use borrow.Author.Tests.{eqb-true, eqb-false, eq-eqb, ne-eqb}
+use borrow.Author.Tests.{eqb-true, eqb-false, eq-eqb, ne-eqb, ltb-true, lt-ltb}
 use Rattle.kernel.specs.declared.records.Answer.{Answer}
 use Rattle.kernel.specs.declared.records.Call.{Call}
 use Rattle.kernel.specs.declared.records.Thread.{Thread}
@@ -130,6 +130,11 @@ pub record Free (t : Thread) : Type 0 where
 abbrev pub Caller : Sizes → Kernel → ℕ → Type 0
 Caller z k i = (i ≡ nobody) ⊎ ((i < z .threads) × Free (threadAt k i))
 
+-- below 1 is below the top
+below-one : (c : ℤ) → ltZ c (pos 1) ≡ true → ltZ c (pos 2147483647) ≡ true
+below-one (pos m) e = lt-ltb m 2147483647 (omega (arith, ltb-true m 1 e))
+below-one (negsuc m) e = refl
+
 -- only an event wait awaits events
 awaiting-kind : (n : ℕ) → CallKind n → waitState n ≡ awaiting → n ≡ 14
 awaiting-kind =
@@ -205,19 +210,19 @@ module _ (z : Sizes) (g : GoodSizes z) where
   -- ---- semaphores
 
   module _ (k : Kernel) (p : ℕ) (semaphore : p < 20) where
-    pub signal-chained : Tallies n p k → Chained z k (signalled k n p) (signalAt p ∷ [])
+    pub signal-chained : Tallies n p k → ltZ (counterAt k p) (pos 2147483647) ≡ true → Chained z k (signalled k n p) (signalAt p ∷ [])
     unfolding signalled releasedFirst
-    signal-chained t =
+    signal-chained t b =
         split (ltZ (counterAt k p) (pos 0))
         (λ e. rw e
         (let f = first-waiter-counted k n p (g .threads .1) (omega (arith, t .tally, debt-some (counterAt k p) e)) in
         record { events = signalAt p ∷ (woke (firstWaiter k n p) ok ∷ []); chain = passes p (firstWaiter k n p) semaphore f stop; marks = refl }))
-        (λ e. rw e (record { events = signalAt p ∷ []; chain = raises p semaphore e stop; marks = refl }))
+        (λ e. rw e (record { events = signalAt p ∷ []; chain = raises p semaphore e b stop; marks = refl }))
 
     -- "as 3 if the counter is below 1, else nothing"
     pub binary-chained : Tallies n p k → Chained z k (binarySignalled k n p) (cond (ltZ (counterAt k p) (pos 1)) (signalAt p ∷ []) [])
     unfolding binarySignalled
-    binary-chained t = split (ltZ (counterAt k p) (pos 1)) (λ e. rw e (signal-chained t)) (λ e. rw e rested)
+    binary-chained t = split (ltZ (counterAt k p) (pos 1)) (λ e. rw e (signal-chained t (below-one (counterAt k p) e))) (λ e. rw e rested)
 
     -- one unit taken
     pub take-chained : ltZ (pos 0) (counterAt k p) ≡ true → Chained z k (taken k p) (takeAt p ∷ [])
