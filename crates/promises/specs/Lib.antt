@@ -20,3 +20,4 @@ pub mod Chain
 pub mod Moving
 pub mod RingKept
 pub mod PoolKept
+pub mod Owed
