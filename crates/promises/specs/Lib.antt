@@ -21,3 +21,4 @@ pub mod Moving
 pub mod RingKept
 pub mod PoolKept
 pub mod Owed
+pub mod Whole

@@ -1,6 +1,7 @@
 -- Every operation of the kernel part is a chain of moves. With each stands what it is called for: its tick, its signal, the unit that it
 -- takes, the sleep that it begins; wakings, ticks counted off and finished calls follow from these.
 use Prim.Native.Nat.{ℕ, zero, suc, _+_, _-_, _≤_, _<_}
+use native.Mathlib.Nat.{zero-add}
 use native.Mathlib.Omega.{arith}
 use mathlib.Core.Path.{_≡_, refl, sym, ap, _∙_}
 use mathlib.Core.Logic.{_≢_, _⊎_, inl, inr}
@@ -106,6 +107,19 @@ marks-append (e ∷ es) fs = ap (markThen e) (marks-append es fs) ∙ mark-appen
 marks-tick : (k : Kernel) (n : ℕ) (es : List Event) → marksOf (tickThen k n es) ≡ marksOf es
 marks-tick k zero es = refl
 marks-tick k (suc n) es = marks-tick k n (tickEvent k n ∷ es) ∙ split (eqb (threadAt k n .remaining) 1) (λ e. rw e) (λ e. rw e)
+
+-- what is no waking, no tick counted off and no finished call is counted among the marks
+pub marks-count : (f : Event → Bool) (es : List Event) → ((i : ℕ) (m : ℤ) → f (woke i m) ≡ false) → ((i : ℕ) (m : ℤ) (d : ℕ) → f (endWith i m d) ≡ false)
+    → ((i : ℕ) → f (countOff i) ≡ false) → countIn f (marksOf es) ≡ countIn f es
+unfolding countIn
+marks-count f [] w e c = refl
+marks-count f (woke i m ∷ es) w e c = rw (w i m, zero-add) (marks-count f es w e c)
+marks-count f (sleepIn i a ∷ es) w e c = rw (marks-count f es w e c)
+marks-count f (endWith i m d ∷ es) w e c = rw (e i m d, zero-add) (marks-count f es w e c)
+marks-count f (tick ∷ es) w e c = rw (marks-count f es w e c)
+marks-count f (countOff i ∷ es) w e c = rw (c i, zero-add) (marks-count f es w e c)
+marks-count f (signalAt p ∷ es) w e c = rw (marks-count f es w e c)
+marks-count f (takeAt p ∷ es) w e c = rw (marks-count f es w e c)
 
 -- one after the other
 pub after : {z : Sizes} {k j h : Kernel} {ms ns : List Event} → Chained z k j ms → Chained z j h ns → Chained z k h (ms ++ ns)

@@ -70,6 +70,15 @@ isCounted i (countOff j) = eqb j i
 isCounted i (signalAt p) = false
 isCounted i (takeAt p) = false
 
+abbrev pub isSlept : ℕ → Event → Bool
+isSlept i (woke j m) = false
+isSlept i (sleepIn j c) = eqb j i
+isSlept i (endWith j m d) = false
+isSlept i tick = false
+isSlept i (countOff j) = false
+isSlept i (signalAt p) = false
+isSlept i (takeAt p) = false
+
 -- how many events pass a test
 unfoldable pub countIn : (Event → Bool) → List Event → ℕ
 countIn f [] = 0
@@ -327,3 +336,21 @@ story-sleeps {z} {i} {u} (counts {t} {es} l s) a o =
     rw (eq-eqb i i refl) (once-later (countIn (isCounted i) es) t u l (story-sleeps s a (omega (arith, o))))
 story-sleeps (marks f p s) a o =
     let l = story-sleeps s a o in record { state = l .state; place = l .place; call = l .call; timed = l .timed }
+
+-- ---- a thread without a call
+
+-- ready, and with no unfinished call
+pub record Idle (t : Thread) : Type 0 where
+  pub is-ready : t .state ≡ ready
+  pub no-call : t .call .kind ≡ 0
+
+-- WHO HAS NO CALL HAS NONE UNTIL IT SLEEPS IN ONE
+pub story-idle : {z : Sizes} {i : ℕ} {u t : Thread} {es : List Event} → Story z i u t es → countIn (isSlept i) es ≡ 0 → Idle t → Idle u
+unfolding countIn
+story-idle rests o a = a
+story-idle (apart e n s) o a = story-idle s (omega (arith, o)) a
+story-idle (rouses m n s) o a = absurd (n (a .is-ready))
+story-idle {z} {i} (dozes c r f p s) o a = absurd (omega (arith, rw (eq-eqb i i refl) at o))
+story-idle (closes m d r f s) o a = story-idle s (omega (arith, o)) (record { is-ready = a .is-ready; no-call = refl })
+story-idle (counts l s) o a = story-idle s (omega (arith, o)) (record { is-ready = a .is-ready; no-call = a .no-call })
+story-idle (marks f p s) o a = story-idle s o (record { is-ready = a .is-ready; no-call = a .no-call })
