@@ -22,3 +22,4 @@ pub mod RingKept
 pub mod PoolKept
 pub mod Owed
 pub mod Whole
+pub mod KernelActs
