@@ -115,7 +115,7 @@ pub record Effects (z : Sizes) (p : Plant) (s : Step) (k : Kernel) : Type 0 wher
   pub acts : KernelActs z p s k
   pub awake : (i : ℕ) → countIn (isSlept i) (acts .marks) ≡ 0
 
-nil-right : (l : List Event) → l ++ [] ≡ l
+pub nil-right : (l : List Event) → l ++ [] ≡ l
 nil-right [] = refl
 nil-right (e ∷ l) = ap (λ (r : List Event). e ∷ r) (nil-right l)
 
@@ -191,7 +191,7 @@ module _ (p : Plant) (c : Clock) (s : Step) (a : Accepted p c s) (w : Whole (p .
   sleeper d = elim stepper [ inl e ↦ absurd (d e) | inr x ↦ x ]
 
   -- the object of a step of kind m is in the configuration
-  object-of : (m : ℕ) → s .kind ≡ m → s .object < objectLimit z m
+  pub object-of : (m : ℕ) → s .kind ≡ m → s .object < objectLimit z m
   object-of m e = rw e at (a .object)
 
   -- ---- 1, 3, 4, 5, 7, 8, 10, 13
@@ -305,7 +305,7 @@ module _ (p : Plant) (c : Clock) (s : Step) (a : Accepted p c s) (w : Whole (p .
   waiting h i call false x e = record { marks = sleepIn i call ∷ []; chained = x; calls = e; takes = λ q. refl; signals = λ q. refl }
 
   -- the call that a step keeps fits
-  kept-fits : CallKind (s .kind) → objectOf s < callLimit z (s .kind) → s .timeout ≢ 0 → CallFits z (callOf s)
+  pub kept-fits : CallKind (s .kind) → objectOf s < callLimit z (s .kind) → s .timeout ≢ 0 → CallFits z (callOf s)
   kept-fits f o t = record { kind = f; object = o; timeout = some (s .timeout) t; operand = λ e. rw e }
     where
       some : (t : ℕ) → t ≢ 0 → 1 ≤ t

@@ -23,3 +23,5 @@ pub mod PoolKept
 pub mod Owed
 pub mod Whole
 pub mod KernelActs
+pub mod BoxActs
+pub mod Acts
