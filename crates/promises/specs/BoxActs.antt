@@ -114,17 +114,20 @@ module _ (z : Sizes) (g : GoodSizes z) (k : Kernel) (s : Sound z k) where
             unpromised = y .1 .0 .unpromised;
           }
 
-  -- a release of others leaves the caller as it was
-  released-caller : (i p : ℕ) (m : ℤ) → Caller z k i → Caller z (releasedFirst k n p m) i
-  released-caller i p m (inl e) = inl e
-  released-caller i p m (inr f) = inr (f .0, rw (release-first-others k n p m i other) (f .1))
+  -- a release of others leaves a ready thread as it was
+  pub released-row : (i p : ℕ) (m : ℤ) → i < n → threadAt k i .state ≡ ready → threadAt (releasedFirst k n p m) i ≡ threadAt k i
+  released-row i p m l r = release-first-others k n p m i other
     where
       other : i ≢ firstWaiter k n p
       other e =
           elim (first-waiter-cases k n p) [
-            | inl w ↦ queued-unready p (threadAt k (firstWaiter k n p)) (w .passes) (rw (sym e) (f .1 .is-ready))
-            | inr w ↦ absurd (omega (arith, f .0, g .threads .1, e, w .0))
+            | inl w ↦ queued-unready p (threadAt k (firstWaiter k n p)) (w .passes) (rw (sym e) r)
+            | inr w ↦ absurd (omega (arith, l, g .threads .1, e, w .0))
           ]
+
+  released-caller : (i p : ℕ) (m : ℤ) → Caller z k i → Caller z (releasedFirst k n p m) i
+  released-caller i p m (inl e) = inl e
+  released-caller i p m (inr f) = inr (f .0, rw (released-row i p m (f .0) (f .1 .is-ready)) (f .1))
 
   -- the first of the other side's waiters is released, and the call finishes
   release-quiet : (i p : ℕ) (d : ℕ) → 20 ≤ p → Caller z k i → Quiet z k (finished (releasedFirst k n p ok) i ok d)

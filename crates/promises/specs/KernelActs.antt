@@ -87,6 +87,19 @@ abbrev pub callsOf : List Event → List Event
 callsOf [] = []
 callsOf (e ∷ es) = callThen e (callsOf es)
 
+call-append : (e : Event) (r s : List Event) → callThen e (r ++ s) ≡ callThen e r ++ s
+call-append (woke i m) r s = refl
+call-append (sleepIn i c) r s = refl
+call-append (endWith i m d) r s = refl
+call-append tick r s = refl
+call-append (countOff i) r s = refl
+call-append (signalAt p) r s = refl
+call-append (takeAt p) r s = refl
+
+pub calls-append : (es fs : List Event) → callsOf (es ++ fs) ≡ callsOf es ++ callsOf fs
+calls-append [] fs = refl
+calls-append (e ∷ es) fs = ap (callThen e) (calls-append es fs) ∙ call-append e (callsOf es) (callsOf fs)
+
 -- the tick or the signal that an accepted step is: "Binary signals that act count as signals", and a pool's free and add signal
 abbrev pub calledFor : Plant → Step → List Event
 calledFor p s =

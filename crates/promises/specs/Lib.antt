@@ -25,3 +25,4 @@ pub mod Whole
 pub mod KernelActs
 pub mod BoxActs
 pub mod Acts
+pub mod Settles
