@@ -70,7 +70,7 @@ use Rattle.promises.specs.Tests.{same-means}
 use Rattle.promises.specs.Tallies.{Tallies, same-tallies, row-tallies, wake-tallies, sleep-tallies, sleep-unqueued-tallies, finish-tallies, tick-tallies}
 use Rattle.promises.specs.Holds.{Holds, same-holds, row-holds, wake-holds, sleep-holds, sleep-unsuspended-holds, finish-holds, counter-holds, tick-holds}
 use Rattle.promises.specs.CounterRule.{semaphore-place, pool-place, queue-place, writers-place, readers-place}
-use Rattle.promises.specs.Story.{Event, woke, sleepIn, endWith, tick, countOff, signalAt, takeAt, isOf, isWoke, CallFits, Follows, Story, rests, apart, rouses, dozes, closes, counts, marks, each-kind, story-then, story-good}
+use Rattle.promises.specs.Story.{Event, woke, sleepIn, endWith, tick, countOff, signalAt, takeAt, endStep, isOf, isWoke, CallFits, Follows, Story, rests, apart, rouses, dozes, closes, counts, marks, each-kind, story-then, story-good}
 
 -- who is queued is not ready
 pub queued-unready : (p : ℕ) (t : Thread) → queuedAt p t ≡ true → t .state ≢ ready
@@ -151,8 +151,8 @@ pub data Chain (z : Sizes) (h : Kernel) : Kernel → List Event → Type 0 where
   -- other pending flags, none of them awaited
   flags : {k : Kernel} {es : List Event} (i f : ℕ) → (threadAt k i .state ≡ awaiting → bitAnd f (threadAt k i .awaited) ≡ 0)
       → Chain z h (withThread k i (withPending (threadAt k i) f)) es → Chain z h k es
-  -- the next step begins
-  begins : {k : Kernel} {es : List Event} → Chain z h (begun (ended k)) es → Chain z h k es
+  -- a step is over, and the next begins
+  begins : {k : Kernel} {es : List Event} → Chain z h (begun (ended k)) es → Chain z h k (endStep ∷ es)
 
 -- what comes after a tick may come in two parts
 tick-append : (k : Kernel) (n : ℕ) (es fs : List Event) → tickThen k n es ++ fs ≡ tickThen k n (es ++ fs)
@@ -346,7 +346,7 @@ module _ (z : Sizes) (few : z .threads ≤ 16) (i : ℕ) (within : i < z .thread
   chain-story (answers {k} a c) s g = chain-story c (sized-kept (answer-sizes k a) s) g
   chain-story (flags {k} j f e c) s g =
       onward (flags-story k (below s) j f e) g (λ v. chain-story c (sized-kept (thread-sizes k j (withPending (threadAt k j) f)) s) v)
-  chain-story (begins {k} c) s g = chain-story c (begun-sized k s) g
+  chain-story (begins {k} c) s g = apart endStep refl (chain-story c (begun-sized k s) g)
 
 -- ---- the rules of places and references
 

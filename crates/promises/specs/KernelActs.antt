@@ -50,7 +50,7 @@ use Rattle.promises.specs.Hanging.{test-hangs}
 use Rattle.promises.specs.Tallies.{Tallies}
 use Rattle.promises.specs.CounterRule.{semaphore-place, queue-place}
 use Rattle.promises.specs.Accepting.{Accepted, waits-thread}
-use Rattle.promises.specs.Story.{Event, tick, signalAt, takeAt, sleepIn, woke, endWith, countOff, countIn, isSlept, Idle, CallFits}
+use Rattle.promises.specs.Story.{Event, tick, signalAt, takeAt, sleepIn, woke, endWith, countOff, endStep, countIn, isSlept, Idle, CallFits}
 use Rattle.promises.specs.Chain.{Sleeper, Sound}
 use Rattle.promises.specs.Owed.{isSignal, isTake}
 use Rattle.promises.specs.Moving.{
@@ -73,7 +73,7 @@ use Rattle.promises.specs.Moving.{
 }
 use Rattle.promises.specs.Whole.{Whole, Done, kernel-done, Stepper, idle-free, stepper-caller, stepper-kept}
 
--- the ticks and signals among marks, before what comes after
+-- the ticks, signals and ends of steps among marks, before what comes after
 abbrev pub callThen : Event → List Event → List Event
 callThen (woke i m) r = r
 callThen (sleepIn i c) r = r
@@ -82,6 +82,7 @@ callThen tick r = tick ∷ r
 callThen (countOff i) r = r
 callThen (signalAt p) r = signalAt p ∷ r
 callThen (takeAt p) r = r
+callThen endStep r = endStep ∷ r
 
 abbrev pub callsOf : List Event → List Event
 callsOf [] = []
@@ -95,6 +96,7 @@ call-append tick r s = refl
 call-append (countOff i) r s = refl
 call-append (signalAt p) r s = refl
 call-append (takeAt p) r s = refl
+call-append endStep r s = refl
 
 pub calls-append : (es fs : List Event) → callsOf (es ++ fs) ≡ callsOf es ++ callsOf fs
 calls-append [] fs = refl

@@ -43,7 +43,7 @@ use Rattle.rules.specs.PlaceRules.{inUse}
 use Rattle.rules.specs.PoolRules.{isPromised}
 use Rattle.promises.specs.Good.{GoodSizes, GoodThread, CallKind}
 use Rattle.promises.specs.Tallies.{Tallies}
-use Rattle.promises.specs.Story.{Event, woke, sleepIn, endWith, tick, countOff, signalAt, takeAt, countIn, CallFits, Follows, each-kind}
+use Rattle.promises.specs.Story.{Event, woke, sleepIn, endWith, tick, countOff, signalAt, takeAt, endStep, countIn, CallFits, Follows, each-kind}
 use Rattle.promises.specs.Chain.{
   Waken,
   Sleeper,
@@ -78,8 +78,9 @@ markThen tick r = tick ∷ r
 markThen (countOff i) r = r
 markThen (signalAt p) r = signalAt p ∷ r
 markThen (takeAt p) r = takeAt p ∷ r
+markThen endStep r = endStep ∷ r
 
--- the ticks, signals, units taken and sleeps among the events
+-- the ticks, signals, units taken, sleeps and ends of steps among the events
 abbrev pub marksOf : List Event → List Event
 marksOf [] = []
 marksOf (e ∷ es) = markThen e (marksOf es)
@@ -98,6 +99,7 @@ mark-append tick r s = refl
 mark-append (countOff i) r s = refl
 mark-append (signalAt p) r s = refl
 mark-append (takeAt p) r s = refl
+mark-append endStep r s = refl
 
 pub marks-append : (es fs : List Event) → marksOf (es ++ fs) ≡ marksOf es ++ marksOf fs
 marks-append [] fs = refl
@@ -120,6 +122,7 @@ marks-count f (tick ∷ es) w e c = rw (marks-count f es w e c)
 marks-count f (countOff i ∷ es) w e c = rw (c i, zero-add) (marks-count f es w e c)
 marks-count f (signalAt p ∷ es) w e c = rw (marks-count f es w e c)
 marks-count f (takeAt p ∷ es) w e c = rw (marks-count f es w e c)
+marks-count f (endStep ∷ es) w e c = rw (marks-count f es w e c)
 
 -- one after the other
 pub after : {z : Sizes} {k j h : Kernel} {ms ns : List Event} → Chained z k j ms → Chained z j h ns → Chained z k h (ms ++ ns)

@@ -55,7 +55,7 @@ use Rattle.promises.specs.Tests.{same-means}
 use Rattle.promises.specs.Tallies.{Tallies, wake-tallies, row-tallies}
 use Rattle.promises.specs.CounterRule.{pool-place}
 use Rattle.promises.specs.PoolKept.{stock}
-use Rattle.promises.specs.Story.{Event, woke, sleepIn, endWith, tick, countOff, signalAt, takeAt, countIn, each-kind, waits-unready}
+use Rattle.promises.specs.Story.{Event, woke, sleepIn, endWith, tick, countOff, signalAt, takeAt, endStep, countIn, each-kind, waits-unready}
 use Rattle.promises.specs.Chain.{
   Waken,
   Sleeper,
@@ -91,6 +91,7 @@ isSignal p tick = false
 isSignal p (countOff i) = false
 isSignal p (signalAt q) = eqb q p
 isSignal p (takeAt q) = false
+isSignal p endStep = false
 
 abbrev pub isTake : ℕ → Event → Bool
 isTake p (woke i m) = false
@@ -100,6 +101,7 @@ isTake p tick = false
 isTake p (countOff i) = false
 isTake p (signalAt q) = false
 isTake p (takeAt q) = eqb q p
+isTake p endStep = false
 
 -- what is no event of a tick is counted as before it
 pub count-tick : (k : Kernel) (f : Event → Bool) (n : ℕ) (es : List Event) → ((i : ℕ) (m : ℤ) → f (woke i m) ≡ false)
@@ -402,4 +404,4 @@ module _ (z : Sizes) (g : GoodSizes z) (q : ℕ) (there : q < z .pools) where
   chain-owed (answers {k} {es} a c) s = chain-owed c (chain-sound z g (answers {es = []} a stop) s)
   chain-owed (flags {k} {es} i f e c) s =
       omega (arith, flags-owed k i f, chain-owed c (chain-sound z g (flags {es = []} i f e stop) s))
-  chain-owed (begins {k} {es} c) s = chain-owed c (chain-sound z g (begins {es = []} stop) s)
+  chain-owed (begins {k} {es} c) s = omega (arith, chain-owed c (chain-sound z g (begins {es = []} stop) s))

@@ -41,6 +41,8 @@ pub data Event : Type 0 where
   signalAt : ℕ → Event
   -- one unit of the semaphore at a place is taken
   takeAt : ℕ → Event
+  -- an accepted step is over, and the flags of the next begin anew
+  endStep : Event
 
 -- the events of thread i
 abbrev pub isOf : ℕ → Event → Bool
@@ -51,6 +53,7 @@ isOf i tick = false
 isOf i (countOff j) = eqb j i
 isOf i (signalAt p) = false
 isOf i (takeAt p) = false
+isOf i endStep = false
 
 abbrev pub isWoke : ℕ → Event → Bool
 isWoke i (woke j m) = eqb j i
@@ -60,6 +63,7 @@ isWoke i tick = false
 isWoke i (countOff j) = false
 isWoke i (signalAt p) = false
 isWoke i (takeAt p) = false
+isWoke i endStep = false
 
 abbrev pub isCounted : ℕ → Event → Bool
 isCounted i (woke j m) = false
@@ -69,6 +73,7 @@ isCounted i tick = false
 isCounted i (countOff j) = eqb j i
 isCounted i (signalAt p) = false
 isCounted i (takeAt p) = false
+isCounted i endStep = false
 
 abbrev pub isSlept : ℕ → Event → Bool
 isSlept i (woke j m) = false
@@ -78,6 +83,7 @@ isSlept i tick = false
 isSlept i (countOff j) = false
 isSlept i (signalAt p) = false
 isSlept i (takeAt p) = false
+isSlept i endStep = false
 
 -- how many events pass a test
 unfoldable pub countIn : (Event → Bool) → List Event → ℕ
@@ -299,6 +305,7 @@ apart-woke i tick n = refl
 apart-woke i (countOff j) n = refl
 apart-woke i (signalAt p) n = refl
 apart-woke i (takeAt p) n = refl
+apart-woke i endStep n = refl
 
 apart-counted : (i : ℕ) (e : Event) → isOf i e ≡ false → isCounted i e ≡ false
 apart-counted i (woke j m) n = refl
@@ -308,6 +315,7 @@ apart-counted i tick n = refl
 apart-counted i (countOff j) n = n
 apart-counted i (signalAt p) n = refl
 apart-counted i (takeAt p) n = refl
+apart-counted i endStep n = refl
 
 -- one tick counted off
 once-later : (n : ℕ) (t u : Thread) → t .remaining ≢ 1 → Later n (countedOff t) u → Later (1 + n) t u
