@@ -26,3 +26,4 @@ pub mod KernelActs
 pub mod BoxActs
 pub mod Acts
 pub mod Settles
+pub mod Flags
