@@ -59,7 +59,7 @@ module _ (p : Plant) (c : Clock) (s : Step) (a : Accepted p c s) (w : Whole (p .
         asks = stepper-caller z k (s .caller) (stepper p c s a w);
         sleeps = λ t.
             let me = sleeper p c s a w (thread t) in
-            (me .0, (idle-free (threadAt k (s .caller)) (me .1), kept-fits p c s a w (rw e f) o t));
+            (me .0, (idle-free (threadAt k (s .caller)) (me .1), (kept-fits p c s a w (rw e f) o t, λ d. absurd (d (me .1 .no-call)))));
       }
     where
       thread : s .timeout ≢ 0 → s .caller ≢ nobody

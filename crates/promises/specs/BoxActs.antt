@@ -44,7 +44,7 @@ use Rattle.promises.specs.Tallies.{Tallies}
 use Rattle.promises.specs.CounterRule.{pool-place, writers-place, readers-place}
 use Rattle.promises.specs.RingKept.{MailboxesKept, post-tried-kept, fetch-tried-kept, reset-kept, resume-kept}
 use Rattle.promises.specs.PoolKept.{PoolsKept, PoolsListed, stock, stocked, promised-stocked, hand-over-kept, hand-over-popped, alloc-above, alloc-not-above, alloc-kept, alloc-popped, put-back-kept, put-back-pushed}
-use Rattle.promises.specs.Story.{Event, signalAt, takeAt, sleepIn, endWith, countIn, CallFits}
+use Rattle.promises.specs.Story.{Event, signalAt, takeAt, sleepIn, endWith, countIn, CallFits, Again}
 use Rattle.promises.specs.Chain.{Chain, Sleeper, Sound, Hander, hands, stop, queued-unready}
 use Rattle.promises.specs.Owed.{isSignal, isTake}
 use Rattle.promises.specs.Moving.{
@@ -80,7 +80,7 @@ pub record Tries (z : Sizes) (p h : Plant) : Type 0 where
 -- who tries a call: its call may finish with any answer, and may sleep if it has a timeout
 pub record Tryer (z : Sizes) (k : Kernel) (i : ℕ) (c : Call) : Type 0 where
   pub asks : Caller z k i
-  pub sleeps : c .timeout ≢ 0 → (i < z .threads) × (Free (threadAt k i) × CallFits z c)
+  pub sleeps : c .timeout ≢ 0 → (i < z .threads) × (Free (threadAt k i) × (CallFits z c × Again (threadAt k i) c))
 
 module _ (z : Sizes) (g : GoodSizes z) (k : Kernel) (s : Sound z k) where
   abbrev n : ℕ
@@ -107,11 +107,12 @@ module _ (z : Sizes) (g : GoodSizes z) (k : Kernel) (s : Sound z k) where
           record {
             within = y .0;
             is-ready = y .1 .0 .is-ready;
-            fits = y .1 .1;
+            fits = y .1 .1 .0;
             counter = λ v. rw (sym f) level;
             holder = λ v. absurd (omega (arith, e, v));
             flags = λ v. absurd (omega (arith, e, v));
             unpromised = y .1 .0 .unpromised;
+            again = y .1 .1 .1;
           }
 
   -- a release of others leaves a ready thread as it was

@@ -70,7 +70,7 @@ use Rattle.promises.specs.Tests.{same-means}
 use Rattle.promises.specs.Tallies.{Tallies, same-tallies, row-tallies, wake-tallies, sleep-tallies, sleep-unqueued-tallies, finish-tallies, tick-tallies}
 use Rattle.promises.specs.Holds.{Holds, same-holds, row-holds, wake-holds, sleep-holds, sleep-unsuspended-holds, finish-holds, counter-holds, tick-holds}
 use Rattle.promises.specs.CounterRule.{semaphore-place, pool-place, queue-place, writers-place, readers-place}
-use Rattle.promises.specs.Story.{Event, woke, sleepIn, endWith, tick, countOff, signalAt, takeAt, endStep, isOf, isWoke, CallFits, Follows, Story, rests, apart, rouses, dozes, closes, counts, marks, each-kind, story-then, story-good}
+use Rattle.promises.specs.Story.{Event, woke, sleepIn, endWith, tick, countOff, signalAt, takeAt, endStep, isOf, isWoke, CallFits, Follows, Again, Because, Story, rests, apart, rouses, dozes, closes, counts, marks, each-kind, story-then, story-good}
 
 -- who is queued is not ready
 pub queued-unready : (p : ℕ) (t : Thread) → queuedAt p t ≡ true → t .state ≢ ready
@@ -98,6 +98,7 @@ pub record Sleeper (z : Sizes) (k : Kernel) (i : ℕ) (c : Call) : Type 0 where
   pub flags : waitState (c .kind) ≡ awaiting → bitAnd (threadAt k i .pending) (awaitedBy c) ≡ 0
   -- and no object is promised to it
   pub unpromised : isPromised (threadAt k i) ≡ false
+  pub again : Again (threadAt k i) c
 
 -- thread i's call may finish with m and d, and is no alloc with an object promised
 pub record Finisher (z : Sizes) (k : Kernel) (i : ℕ) (m : ℤ) (d : ℕ) : Type 0 where
@@ -219,10 +220,10 @@ module _ {z : Sizes} {i : ℕ} where
   own-or j = same-or i j
 
   module _ (k : Kernel) (here : i < length (k .threads)) where
-    wake-story : (j : ℕ) (m : ℤ) → threadAt k j .state ≢ ready → Story z i (threadAt (woken k j m) i) (threadAt k i) (woke j m ∷ [])
-    wake-story j m a =
+    wake-story : (j : ℕ) (m : ℤ) → threadAt k j .state ≢ ready → Because (threadAt k j) m → Story z i (threadAt (woken k j m) i) (threadAt k i) (woke j m ∷ [])
+    wake-story j m a b =
         own-or j
-        (λ e. rw (sym e, wake-row k i m here) (rouses {t = threadAt k i} m (rw e a) rests))
+        (λ e. rw (sym e, wake-row k i m here) (rouses {t = threadAt k i} m (rw e a) (rw e b) rests))
         (λ d. meanwhile (woke j m) (ne-eqb j i (λ s. d (sym s))) (wake-others k j m i d))
 
     sleep-story : (j : ℕ) (c : Call) → z .threads ≤ 16 → Sleeper z k j c
@@ -232,7 +233,7 @@ module _ {z : Sizes} {i : ℕ} where
         (λ e.
         let low : i < 16 = omega (arith, s .within) in
         rw (sym e, sleep-row k i (waitState (c .kind)) (waitPlace (c .kind) (c .object)) c low here)
-        (dozes {t = threadAt k i} c (rw e (s .is-ready)) (s .fits) (rw e (s .flags)) rests))
+        (dozes {t = threadAt k i} c (rw e (s .is-ready)) (s .fits) (rw e (s .flags)) (rw e (s .again)) rests))
         (λ d. meanwhile (sleepIn j c) (ne-eqb j i (λ s. d (sym s)))
         (sleep-others k j (waitState (c .kind)) (waitPlace (c .kind) (c .object)) c i d))
 
@@ -268,7 +269,7 @@ module _ (z : Sizes) (i : ℕ) (u : Thread) (k : Kernel) where
   tick-own t es a s =
       same-or (t .remaining) 1
       (λ e. rw (eq-eqb (t .remaining) 1 e)
-      (rouses timedOut (λ r. absurd (some (a r) e)) (rw (aged-last t e) at s)))
+      (rouses timedOut (λ r. absurd (some (a r) e)) (λ p l q. inr (inl refl)) (rw (aged-last t e) at s)))
       (λ d. rw (ne-eqb (t .remaining) 1 d) (counts d (rw (aged-counted t d) at s)))
     where
       some : t .remaining ≡ 0 → t .remaining ≡ 1 → ⊥
@@ -321,10 +322,10 @@ module _ (z : Sizes) (few : z .threads ≤ 16) (i : ℕ) (within : i < z .thread
   unfolding taken
   chain-story stop s g = rests
   chain-story (wakes {k} j m w c) s g =
-      onward (wake-story k (below s) j m (w .asleep)) g (λ v. chain-story c (sized-kept (wake-sizes k j m) s) v)
+      onward (wake-story k (below s) j m (w .asleep) (λ p l q. inr (inr (w .cause p l q)))) g (λ v. chain-story c (sized-kept (wake-sizes k j m) s) v)
   chain-story (passes {k} p j l f c) s g =
       apart (signalAt p) refl
-      (onward (wake-story k (below s) j ok (queued-unready p (threadAt k j) (f .passes))) g (λ v. chain-story c (sized-kept (wake-sizes k j ok) s) v))
+      (onward (wake-story k (below s) j ok (queued-unready p (threadAt k j) (f .passes)) (λ q l e. inl refl)) g (λ v. chain-story c (sized-kept (wake-sizes k j ok) s) v))
   chain-story (raises {k} p l e b c) s g =
       apart (signalAt p) refl (chain-story c (sized-kept (counter-sizes k p (up (counterAt k p))) s) g)
   chain-story {h} (ages {k} {es} c) s g =

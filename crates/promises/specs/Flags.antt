@@ -4,7 +4,7 @@ use Prim.Native.Nat.{ℕ, zero, suc, _+_, _*_, _/_, _%_, _≤_, _<_}
 use native.Mathlib.Omega.{arith}
 use mathlib.Core.Path.{_≡_, refl, sym, ap, _∙_}
 use mathlib.Core.Logic.{_≢_}
-use mathlib.Core.Bool.{Bool, true, false, cond, _||_}
+use mathlib.Core.Bool.{Bool, true, false, cond, _||_, or-true, or-false, or-assoc}
 use mathlib.Core.List.{List, [], _∷_}
 use lib.Dec.{eqb}
 use lib.ListN.{length, getD}
@@ -79,14 +79,6 @@ abbrev pub someIn : (Event → Bool) → List Event → Bool
 someIn f [] = false
 someIn f (e ∷ es) = f e || someIn f es
 
-or-false : (b : Bool) → b || false ≡ b
-or-false true = refl
-or-false false = refl
-
-or-assoc : (a b c : Bool) → (a || b) || c ≡ a || (b || c)
-or-assoc true b c = refl
-or-assoc false b c = refl
-
 or-swap : (a b c : Bool) → (a || b) || c ≡ b || (a || c)
 or-swap true true c = refl
 or-swap true false c = refl
@@ -127,20 +119,12 @@ module _ (z : Sizes) (few : z .threads ≤ 16) (i : ℕ) (low : i < 16) where
       same-or i j
       (λ e. rw (sym e, wake-flag k i m (omega (arith, s .woken)), eq-eqb i i refl) (sym (or-true (wokenAt k i))))
       (λ d. rw (wake-flag-others k j m i d, ne-eqb j i (λ e. d (sym e))) (sym (or-false (wokenAt k i))))
-    where
-      or-true : (b : Bool) → b || true ≡ true
-      or-true true = refl
-      or-true false = refl
 
   end-at : (k : Kernel) (j : ℕ) (m : ℤ) (d : ℕ) → j ≢ nobody → Sized k → finishedAt (finished k j m d) i ≡ finishedAt k i || eqb j i
   end-at k j m d n s =
       same-or i j
       (λ e. rw (sym e, finish-flag k i m d (rw e n) (omega (arith, s .finished)), eq-eqb i i refl) (sym (or-true (finishedAt k i))))
       (λ x. rw (finish-flag-others k j m d i x, ne-eqb j i (λ e. x (sym e))) (sym (or-false (finishedAt k i))))
-    where
-      or-true : (b : Bool) → b || true ≡ true
-      or-true true = refl
-      or-true false = refl
 
   someone : {j : ℕ} → j < z .threads → j ≢ nobody
   someone h = omega arith

@@ -351,6 +351,7 @@ module _ (p : Plant) (c : Clock) (s : Step) (a : Accepted p c s) (w : Whole (p .
           holder = r;
           flags = e;
           unpromised = idle-free (threadAt k (s .caller)) idle .unpromised;
+          again = λ d. absurd (d (idle .no-call));
         }
 
     wait-acts : s .kind ≡ 2 → KernelActs z p s (waited k (s .caller) (s .object) (callOf s))

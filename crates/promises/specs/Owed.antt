@@ -4,7 +4,7 @@ use Prim.Native.Nat.{ℕ, zero, suc, _+_, _-_, _≤_, _<_}
 use native.Mathlib.Omega.{arith}
 use mathlib.Core.Path.{_≡_, refl, sym, ap, _∙_}
 use mathlib.Core.Logic.{_≢_, _⊎_, inl, inr}
-use mathlib.Core.Bool.{Bool, true, false, cond, _&&_}
+use mathlib.Core.Bool.{Bool, true, false, cond, _&&_, and-true}
 use mathlib.Core.List.{List, [], _∷_}
 use lib.Dec.{eqb}
 use lib.ListN.{length, getD}
@@ -111,10 +111,6 @@ count-tick k f zero es w c = refl
 count-tick k f (suc n) es w c =
     count-tick k f n (tickEvent k n ∷ es) w c
     ∙ split (eqb (threadAt k n .remaining) 1) (λ e. rw (e, w n timedOut) (omega arith)) (λ e. rw (e, c n) (omega arith))
-
-and-true : (b : Bool) → b && true ≡ b
-and-true true = refl
-and-true false = refl
 
 -- ---- the units of a semaphore
 

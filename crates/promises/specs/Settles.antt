@@ -4,7 +4,7 @@ use Prim.Native.Nat.{ℕ, zero, suc, _+_, _*_, _≤_, _<_}
 use native.Mathlib.Omega.{arith}
 use mathlib.Core.Path.{_≡_, refl, sym, ap, _∙_, subst}
 use mathlib.Core.Logic.{_≢_, _⊎_, inl, inr}
-use mathlib.Core.Bool.{Bool, true, false, cond, not, _&&_, _||_}
+use mathlib.Core.Bool.{Bool, true, false, cond, not, _&&_, _||_, and-false, or-false, or-assoc}
 use mathlib.Core.List.{List, [], _∷_, _++_}
 use lib.Dec.{eqb}
 use lib.ListN.{length}
@@ -35,7 +35,7 @@ use Rattle.library.specs.Mailbox.{messageAt, placedFor, postTried, postDone, fe
 use Rattle.library.specs.Pool.{topOf, handedOver}
 use Rattle.library.specs.Settling.{isBoxCall, answeredOnly, continued, runningIn, isSettled, settled}
 use Rattle.library.specs.Tables.{mailboxAt, poolAt, withKernel}
-use Rattle.rules.specs.RowRules.{callLimit, waitState}
+use Rattle.rules.specs.RowRules.{isMailing}
 use Rattle.rules.specs.PoolRules.{isPromised}
 use Rattle.steps.specs.Stepping.{budgetOf}
 use Rattle.promises.specs.Good.{CallKind, GoodSizes, GoodThread}
@@ -97,11 +97,7 @@ module _ (p : Plant) (w : Whole (p .sizes) p) (i : ℕ) (d : Due (p .sizes) (p .
           (λ b.
           let x = both-means (eqb (t .call .kind) 20) (same (t .message) ok) b in
           contrary e (rw (eqb-true (t .call .kind) 20 (x .0), x .1)))
-          (λ b. rw b (false-right (isReady t)))
-        where
-          false-right : (b : Bool) → b && false ≡ false
-          false-right true = refl
-          false-right false = refl
+          (λ b. rw b (and-false (isReady t)))
 
   -- a mailbox's or a pool's call woken with 0
   module _ (e : answeredOnly t ≡ false) where
@@ -131,15 +127,21 @@ module _ (p : Plant) (w : Whole (p .sizes) p) (i : ℕ) (d : Due (p .sizes) (p .
                 no-datum = λ a b. contrary box b;
                 boxes = λ a b. absurd (b (same-means (t .message) (pos 0) woken-ok));
               };
-          unpromised = rw (ne-eqb (t .call .kind) 20 n) (false-right (isReady t));
+          unpromised = rw (ne-eqb (t .call .kind) 20 n) (and-false (isReady t));
         }
-      where
-        false-right : (b : Bool) → b && false ≡ false
-        false-right true = refl
-        false-right false = refl
 
     tryer : t .call .kind ≢ 20 → Tryer z k i (t .call)
-    tryer n = record { asks = inr (d .within, free n); sleeps = λ x. (d .within, (free n, fits)) }
+    tryer n =
+        record {
+          asks = inr (d .within, free n);
+          sleeps = λ x. (d .within, (free n, (fits, λ y. (refl, (mailing n, same-means (t .message) (pos 0) woken-ok)))));
+        }
+      where
+        -- of the four kinds only the pool's is no mailbox call
+        mailing : t .call .kind ≢ 20 → isMailing (t .call .kind) ≡ true
+        mailing n =
+            or-assoc (eqb (t .call .kind) 15) (eqb (t .call .kind) 16) (eqb (t .call .kind) 17)
+            ∙ (rw (ne-eqb (t .call .kind) 20 n, or-false (eqb (t .call .kind) 17)) at box)
 
     fetch-again : t .call .kind ≡ 17 → Tries z p (fetchTried p i (t .call))
     fetch-again f =

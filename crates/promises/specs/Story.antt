@@ -13,16 +13,17 @@ use lib.IntN.{ℤ, pos}
 use borrow.Author.Tests.{eqb-true, eqb-false, eq-eqb, ne-eqb}
 use Rattle.kernel.specs.declared.records.Call.{Call}
 use Rattle.kernel.specs.declared.records.Thread.{Thread}
-use Rattle.kernel.specs.Numbers.{ready, awaiting, infinite, timedOut}
+use Rattle.kernel.specs.Numbers.{ready, awaiting, infinite, ok, timedOut, wasReset}
 use Rattle.kernel.specs.Walk.{bit}
 use Rattle.kernel.specs.Moves.{readied, asleep, answered, ticksOf, awaitedBy}
+use Rattle.kernel.specs.Waiters.{queuedAt}
 use Rattle.kernel.specs.Event.{withPending}
 use Rattle.kernel.specs.Ticking.{countedOff}
 use Rattle.kernel.proofs.Cases.{split, same-or, contrary}
 use Rattle.library.specs.declared.sizes.Sizes.{Sizes}
 use Rattle.library.specs.Calls.{keepsOperand}
 use Rattle.library.specs.Settling.{isBoxCall}
-use Rattle.rules.specs.RowRules.{callLimit, waitState, waitPlace}
+use Rattle.rules.specs.RowRules.{isMailing, callLimit, waitState, waitPlace}
 use Rattle.promises.specs.Good.{CallKind, GoodThread}
 
 -- what happens in a run
@@ -108,13 +109,21 @@ pub record Follows (t : Thread) (m : ℤ) (d : ℕ) : Type 0 where
   pub no-datum : t .call .kind ≢ 0 → isBoxCall (t .call .kind) ≡ false → t .call .kind ≢ 14 → d ≡ 0
   pub boxes : isBoxCall (t .call .kind) ≡ true → t .message ≢ pos 0 → (m ≡ t .message) × (d ≡ 0)
 
+-- a ready thread that sleeps has no unfinished call, or tries its mailbox again: "it may sleep again with its FULL timeout"
+abbrev pub Again : Thread → Call → Type 0
+Again t c = t .call .kind ≢ 0 → (c ≡ t .call) × ((isMailing (t .call .kind) ≡ true) × (t .message ≡ pos 0))
+
+-- from a semaphore a thread is woken by a signal, its last tick or a reset
+abbrev pub Because : Thread → ℤ → Type 0
+Because t m = (p : ℕ) → p < 20 → queuedAt p t ≡ true → (m ≡ ok) ⊎ ((m ≡ timedOut) ⊎ (m ≡ wasReset))
+
 -- thread i's record from t to u, with all that happened on the way
 pub data Story (z : Sizes) (i : ℕ) (u : Thread) : Thread → List Event → Type 0 where
   rests : Story z i u u []
   apart : {t : Thread} {es : List Event} (e : Event) → isOf i e ≡ false → Story z i u t es → Story z i u t (e ∷ es)
-  rouses : {t : Thread} {es : List Event} (m : ℤ) → t .state ≢ ready → Story z i u (readied t m) es → Story z i u t (woke i m ∷ es)
+  rouses : {t : Thread} {es : List Event} (m : ℤ) → t .state ≢ ready → Because t m → Story z i u (readied t m) es → Story z i u t (woke i m ∷ es)
   dozes : {t : Thread} {es : List Event} (c : Call) → t .state ≡ ready → CallFits z c
-      → (waitState (c .kind) ≡ awaiting → bitAnd (t .pending) (awaitedBy c) ≡ 0)
+      → (waitState (c .kind) ≡ awaiting → bitAnd (t .pending) (awaitedBy c) ≡ 0) → Again t c
       → Story z i u (asleepIn t c) es → Story z i u t (sleepIn i c ∷ es)
   closes : {t : Thread} {es : List Event} (m : ℤ) (d : ℕ) → t .state ≡ ready → Follows t m d
       → Story z i u (answered t (record { message = m; datum = d })) es → Story z i u t (endWith i m d ∷ es)
@@ -126,8 +135,8 @@ pub data Story (z : Sizes) (i : ℕ) (u : Thread) : Thread → List Event → Ty
 pub story-then : {z : Sizes} {i : ℕ} {u v t : Thread} {es fs : List Event} → Story z i v t es → Story z i u v fs → Story z i u t (es ++ fs)
 story-then rests d = d
 story-then (apart e n s) d = apart e n (story-then s d)
-story-then (rouses m n s) d = rouses m n (story-then s d)
-story-then (dozes c r f p s) d = dozes c r f p (story-then s d)
+story-then (rouses m n b s) d = rouses m n b (story-then s d)
+story-then (dozes c r f p a s) d = dozes c r f p a (story-then s d)
 story-then (closes m a r f s) d = closes m a r f (story-then s d)
 story-then (counts l s) d = counts l (story-then s d)
 story-then (marks f p s) d = marks f p (story-then s d)
@@ -276,8 +285,8 @@ flags-good z t f p g =
 pub story-good : {z : Sizes} {i : ℕ} {u t : Thread} {es : List Event} → Story z i u t es → GoodThread z t → GoodThread z u
 story-good rests g = g
 story-good (apart e n s) g = story-good s g
-story-good {z} (rouses {t} m n s) g = story-good s (readied-good z t m g)
-story-good {z} (dozes {t} c r f p s) g = story-good s (asleep-good z t c f p)
+story-good {z} (rouses {t} m n b s) g = story-good s (readied-good z t m g)
+story-good {z} (dozes {t} c r f p a s) g = story-good s (asleep-good z t c f p)
 story-good {z} (closes {t} m d r f s) g = story-good s (answered-good z t m d r g)
 story-good {z} (counts {t} l s) g = story-good s (counted-good z t l g)
 story-good {z} (marks {t} f p s) g = story-good s (flags-good z t f p g)
@@ -337,8 +346,8 @@ unfolding countIn
 story-sleeps rests a o = record { state = refl; place = refl; call = refl; timed = λ n. (omega arith, n) }
 story-sleeps {z} {i} (apart {t} {es} e n s) a o =
     rw (apart-counted i e n, zero-add) (story-sleeps s a (omega (arith, o)))
-story-sleeps {z} {i} (rouses {t} m n s) a o = absurd (omega (arith, rw (eq-eqb i i refl) at o))
-story-sleeps (dozes c r f p s) a o = absurd (a r)
+story-sleeps {z} {i} (rouses {t} m n b s) a o = absurd (omega (arith, rw (eq-eqb i i refl) at o))
+story-sleeps (dozes c r f p y s) a o = absurd (a r)
 story-sleeps (closes m d r f s) a o = absurd (a r)
 story-sleeps {z} {i} {u} (counts {t} {es} l s) a o =
     rw (eq-eqb i i refl) (once-later (countIn (isCounted i) es) t u l (story-sleeps s a (omega (arith, o))))
@@ -357,8 +366,8 @@ pub story-idle : {z : Sizes} {i : ℕ} {u t : Thread} {es : List Event} → Stor
 unfolding countIn
 story-idle rests o a = a
 story-idle (apart e n s) o a = story-idle s (omega (arith, o)) a
-story-idle (rouses m n s) o a = absurd (n (a .is-ready))
-story-idle {z} {i} (dozes c r f p s) o a = absurd (omega (arith, rw (eq-eqb i i refl) at o))
+story-idle (rouses m n b s) o a = absurd (n (a .is-ready))
+story-idle {z} {i} (dozes c r f p y s) o a = absurd (omega (arith, rw (eq-eqb i i refl) at o))
 story-idle (closes m d r f s) o a = story-idle s (omega (arith, o)) (record { is-ready = a .is-ready; no-call = refl })
 story-idle (counts l s) o a = story-idle s (omega (arith, o)) (record { is-ready = a .is-ready; no-call = a .no-call })
 story-idle (marks f p s) o a = story-idle s o (record { is-ready = a .is-ready; no-call = a .no-call })
