@@ -105,7 +105,7 @@ module _ (p : Plant) (c : Clock) where
 -- ---- fresh tables
 
 -- every row of a table of blanks is blank, past its end too
-all-blank : {A : Type 0} (n : ℕ) (a : A) (i : ℕ) → getD (replicate n a) i a ≡ a
+pub all-blank : {A : Type 0} (n : ℕ) (a : A) (i : ℕ) → getD (replicate n a) i a ≡ a
 all-blank zero a i = refl
 all-blank (suc n) a zero = refl
 all-blank (suc n) a (suc i) = all-blank n a i

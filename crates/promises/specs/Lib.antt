@@ -27,3 +27,4 @@ pub mod BoxActs
 pub mod Acts
 pub mod Settles
 pub mod Flags
+pub mod History

@@ -86,6 +86,16 @@ isSlept i (signalAt p) = false
 isSlept i (takeAt p) = false
 isSlept i endStep = false
 
+abbrev pub isTick : Event → Bool
+isTick (woke j m) = false
+isTick (sleepIn j c) = false
+isTick (endWith j m d) = false
+isTick tick = true
+isTick (countOff j) = false
+isTick (signalAt p) = false
+isTick (takeAt p) = false
+isTick endStep = false
+
 -- how many events pass a test
 unfoldable pub countIn : (Event → Bool) → List Event → ℕ
 countIn f [] = 0
