@@ -28,3 +28,4 @@ pub mod Acts
 pub mod Settles
 pub mod Flags
 pub mod History
+pub mod Lives

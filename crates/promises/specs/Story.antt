@@ -169,7 +169,7 @@ each-kind P a b c d e f g h i j n (inr (inr (inr (inr (inr (inl k)))))) =
     last n h a b c = omega (arith, h .0, h .1)
 each-kind P a b c d e f g h i j n (inr (inr (inr (inr (inr (inr k)))))) = rw k j
 
-kind-some : (n : ℕ) → CallKind n → n ≢ 0
+pub kind-some : (n : ℕ) → CallKind n → n ≢ 0
 kind-some =
     each-kind (λ n. n ≢ 0) (omega arith) (omega arith) (omega arith) (omega arith) (omega arith) (omega arith) (omega arith) (omega arith)
     (omega arith) (omega arith)
@@ -316,7 +316,7 @@ no-bit true h = absurd (omega arith)
 no-bit false h = refl
 
 -- an event of somebody else is no waking of i, and counts nothing off it
-apart-woke : (i : ℕ) (e : Event) → isOf i e ≡ false → isWoke i e ≡ false
+pub apart-woke : (i : ℕ) (e : Event) → isOf i e ≡ false → isWoke i e ≡ false
 apart-woke i (woke j m) n = n
 apart-woke i (sleepIn j c) n = refl
 apart-woke i (endWith j m d) n = refl
