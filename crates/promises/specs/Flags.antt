@@ -96,7 +96,7 @@ tick-none k i zero es h = refl
 tick-none k i (suc n) es h = tick-none k i n (tickEvent k n ∷ es) (omega arith) ∙ tick-other k i n es (omega arith)
 
 -- its own does if it is its last
-tick-some : (k : Kernel) (i n : ℕ) (es : List Event) → i < n
+pub tick-some : (k : Kernel) (i n : ℕ) (es : List Event) → i < n
     → someIn (isWoke i) (tickThen k n es) ≡ eqb (threadAt k i .remaining) 1 || someIn (isWoke i) es
 tick-some k i zero es h = absurd (omega arith)
 tick-some k i (suc n) es h =

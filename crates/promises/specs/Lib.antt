@@ -29,3 +29,4 @@ pub mod Settles
 pub mod Flags
 pub mod History
 pub mod Lives
+pub mod Turns

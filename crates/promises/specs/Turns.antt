@@ -1,0 +1,223 @@
+-- Demand 3 of a semaphore's waiters: each signal wakes the first, so a thread with w waiters of higher priority before it, if none joins
+-- them, is woken by the (w+1)-th signal at the latest.
+use Prim.Native.Nat.{ℕ, zero, suc, _+_, _≤_, _<_}
+use native.Mathlib.Omega.{arith}
+use mathlib.Core.Path.{_≡_, refl, sym, ap, _∙_}
+use mathlib.Core.Logic.{_≢_}
+use mathlib.Core.Bool.{Bool, true, false, cond, _||_, _&&_}
+use mathlib.Core.List.{List, [], _∷_}
+use lib.Dec.{eqb, ltb}
+use lib.ListN.{length}
+use lib.IntN.{ℤ, pos}
+use lib.Signed.{ltZ}
+use borrow.Author.Tests.{eqb-true, eqb-false, eq-eqb, ne-eqb, lt-ltb}
+use Rattle.kernel.specs.declared.records.Call.{Call}
+use Rattle.kernel.specs.declared.records.Thread.{Thread}
+use Rattle.kernel.specs.declared.records.Kernel.{Kernel}
+use Rattle.kernel.specs.Numbers.{ready, queued, ok, timedOut}
+use Rattle.kernel.specs.Walk.{bit, countOf}
+use Rattle.kernel.specs.Tables.{threadAt, counterAt, withThread}
+use Rattle.kernel.specs.Moves.{readied, asleep, woken, slept, finished}
+use Rattle.kernel.specs.Waiters.{queuedAt}
+use Rattle.kernel.specs.Semaphore.{taken}
+use Rattle.kernel.specs.Event.{withPending}
+use Rattle.kernel.specs.Ticking.{countedOff, ticked}
+use Rattle.kernel.proofs.Cases.{split, same-or, in-or-out, contrary, both-means}
+use Rattle.kernel.proofs.WalkLaws.{First, bit-le, count-agree, count-some}
+use Rattle.kernel.proofs.CountersLaws.{debt, debt-none}
+use Rattle.kernel.proofs.TablesLaws.{Sized, used-all, thread-kept}
+use Rattle.kernel.proofs.MovesLaws.{wake-others, sleep-row, sleep-others, finish-kept}
+use Rattle.kernel.proofs.WaitersLaws.{waits, waiters}
+use Rattle.kernel.proofs.QueueLaws.{wake-waiters}
+use Rattle.kernel.proofs.TickingLaws.{aged, aged-last, aged-counted, tick-row}
+use Rattle.library.specs.declared.sizes.Sizes.{Sizes}
+use Rattle.rules.specs.RowRules.{waitState, waitPlace}
+use Rattle.rules.specs.PlaceRules.{inUse}
+use Rattle.promises.specs.Good.{GoodSizes}
+use Rattle.promises.specs.Tallies.{Tallies}
+use Rattle.promises.specs.Story.{Event, woke, sleepIn, endWith, tick, countOff, signalAt, takeAt, endStep, isWoke, countIn}
+use Rattle.promises.specs.Chain.{
+  Sound,
+  Sleeper,
+  Chain,
+  stop,
+  wakes,
+  passes,
+  raises,
+  ages,
+  sleeps,
+  takes,
+  sets,
+  finishes,
+  hands,
+  answers,
+  flags,
+  begins,
+  tickEvent,
+  tickThen,
+  chain-sound,
+  queued-unready,
+}
+use Rattle.promises.specs.Owed.{isSignal, count-tick}
+use Rattle.promises.specs.Flags.{someIn, tick-some}
+
+-- a thread of higher priority than i begins to wait at the place p: "Only accepted waits that really sleep"
+abbrev pub beginsAt : ℕ → ℕ → Event → Bool
+beginsAt p i (woke j m) = false
+beginsAt p i (sleepIn j c) = ltb j i && (eqb (waitState (c .kind)) queued && eqb (waitPlace (c .kind) (c .object)) p)
+beginsAt p i (endWith j m d) = false
+beginsAt p i tick = false
+beginsAt p i (countOff j) = false
+beginsAt p i (signalAt q) = false
+beginsAt p i (takeAt q) = false
+beginsAt p i endStep = false
+
+-- the waiters of higher priority than i at the place p
+abbrev pub higher : Kernel → ℕ → ℕ → ℕ
+higher k p i = countOf (waits k p) i
+
+-- thread i waits there after h, and has as many higher waiters less as there were signals, at least
+pub record InTurn (k h : Kernel) (p i signals : ℕ) : Type 0 where
+  pub stays : waits h p i ≡ true
+  pub fewer : higher h p i + signals ≤ higher k p i
+
+-- fewer pass a stricter test
+count-mono : (f g : ℕ → Bool) (n : ℕ) → ((j : ℕ) → j < n → f j ≡ true → g j ≡ true) → countOf f n ≤ countOf g n
+unfolding countOf
+count-mono f g zero h = omega arith
+count-mono f g (suc n) h = omega (arith, count-mono f g n (λ j l. h j (omega arith)), one)
+  where
+    one : bit (f n) ≤ bit (g n)
+    one = split (f n) (λ e. rw (e, h n (omega arith) e) (omega arith)) (λ e. rw e (omega arith))
+
+-- none of two
+neither : (a b : Bool) → a || b ≡ false → (a ≡ false) × (b ≡ false)
+neither true b e = contrary refl e
+neither false b e = (refl, e)
+
+module _ (p i : ℕ) where
+  -- a move that changes nobody's wait there
+  still-turn : {h : Kernel} {n : ℕ} (k j : Kernel) → ((x : ℕ) → waits j p x ≡ waits k p x) → InTurn j h p i n → InTurn k h p i n
+  still-turn {h} {n} k j e t =
+      record { stays = t .stays; fewer = omega (arith, t .fewer, count-agree (waits j p) (waits k p) i (λ x l. e x)) }
+
+  -- one that leaves no more higher waiters
+  less-turn : {h : Kernel} {n : ℕ} (k j : Kernel) (s : ℕ) → higher j p i + s ≤ higher k p i → InTurn j h p i n → InTurn k h p i (s + n)
+  less-turn k j s e t = record { stays = t .stays; fewer = omega (arith, t .fewer) }
+
+  wake-less : (k : Kernel) (j : ℕ) (m : ℤ) → higher (woken k j m) p i ≤ higher k p i
+  wake-less k j m =
+      in-or-out j i (λ l. omega (arith, wake-waiters k j m i p l))
+      (λ l. omega (arith, count-agree (waits (woken k j m) p) (waits k p) i (λ x h. ap (queuedAt p) (wake-others k j m x (apart x h l)))))
+    where
+      apart : (x : ℕ) → x < i → i ≤ j → x ≢ j
+      apart x h l = omega arith
+
+  wake-stays : (k : Kernel) (j : ℕ) (m : ℤ) → eqb j i ≡ false → waits (woken k j m) p i ≡ waits k p i
+  wake-stays k j m e = ap (queuedAt p) (wake-others k j m i (λ s. eqb-false j i e (sym s)))
+
+  -- who waits first, if it is not i, is one of the higher
+  pass-less : (k : Kernel) (n j : ℕ) → First (waits k p) n j → waits k p i ≡ true → eqb j i ≡ false → higher (woken k j ok) p i + 1 ≤ higher k p i
+  pass-less k n j f w e =
+      in-or-out j i
+      (λ l. omega (arith, rw (f .passes) at (wake-waiters k j ok i p l)))
+      (λ l. contrary w (f .least i (before (eqb-false j i e) l)))
+    where
+      before : j ≢ i → i ≤ j → i < j
+      before d l = omega arith
+
+  -- a tick that is not i's last
+  aged-queued : (t : Thread) → queuedAt p (aged t) ≡ true → queuedAt p t ≡ true
+  aged-queued t e =
+      same-or (t .remaining) 1 (λ r. contrary (rw (aged-last t r) at e) refl) (λ d. rw (aged-counted t d) at e)
+
+  sleep-waits : (z : Sizes) (k : Kernel) (j : ℕ) (c : Call) → Sized k → z .threads ≤ 16 → Sleeper z k j c
+      → (j < i → eqb (waitState (c .kind)) queued && eqb (waitPlace (c .kind) (c .object)) p ≡ false) → (x : ℕ) → x < i
+      → waits (slept k j (waitState (c .kind)) (waitPlace (c .kind) (c .object)) c) p x ≡ waits k p x
+  sleep-waits z k j c s few w n x l =
+      same-or x j
+      (λ e.
+      let low : j < 16 = omega (arith, w .within) in
+      rw (e, sleep-row k j (waitState (c .kind)) (waitPlace (c .kind) (c .object)) c low (omega (arith, w .within, s .threads)), w .is-ready)
+      (n (rw e at l)))
+      (λ d. ap (queuedAt p) (sleep-others k j (waitState (c .kind)) (waitPlace (c .kind) (c .object)) c x d))
+
+module _ (z : Sizes) (g : GoodSizes z) (p : ℕ) (place : p < 36) (used : inUse z p ≡ true) (i : ℕ) (within : i < z .threads) where
+  -- where i waits the counter is below 0
+  no-raise : (k : Kernel) → Sound z k → waits k p i ≡ true → ltZ (counterAt k p) (pos 0) ≡ false → ⊥
+  no-raise k s w e =
+      omega (
+        arith,
+        s .rules .places p place used .tally,
+        count-some (waits k p) (z .threads) i within w,
+        debt-none (counterAt k p) e,
+      )
+
+  -- a tick
+  tick-stays : (k : Kernel) → waits k p i ≡ true → eqb (threadAt k i .remaining) 1 ≡ false → waits (ticked k (z .threads)) p i ≡ true
+  tick-stays k w e =
+      rw (tick-row k (z .threads) i (rw (used-all (z .threads) (g .threads .1)) within), aged-counted (threadAt k i) (eqb-false (threadAt k i .remaining) 1 e)) w
+
+  tick-less : (k : Kernel) → higher (ticked k (z .threads)) p i ≤ higher k p i
+  tick-less k =
+      count-mono (waits (ticked k (z .threads)) p) (waits k p) i
+      (λ j l e. aged-queued p i (threadAt k j) (rw (tick-row k (z .threads) j (rw (used-all (z .threads) (g .threads .1)) (omega arith))) at e))
+
+  begun-none : (k : Kernel) (n : ℕ) (es : List Event) → someIn (beginsAt p i) (tickThen k n es) ≡ someIn (beginsAt p i) es
+  begun-none k zero es = refl
+  begun-none k (suc n) es = begun-none k n (tickEvent k n ∷ es) ∙ split (eqb (threadAt k n .remaining) 1) (λ e. rw e) (λ e. rw e)
+
+  -- WHO IS NOT WOKEN, AND WHOM NONE OF HIGHER PRIORITY JOINS, HAS ONE HIGHER WAITER LESS WITH EACH SIGNAL
+  pub chain-turn : {h k : Kernel} {es : List Event} → Chain z h k es → Sound z k → waits k p i ≡ true → someIn (isWoke i) es ≡ false
+      → someIn (beginsAt p i) es ≡ false → InTurn k h p i (countIn (isSignal p) es)
+  unfolding countIn taken
+  chain-turn stop s w a b = record { stays = w; fewer = omega arith }
+  chain-turn (wakes {k} {es} j m x c) s w a b =
+      let n = neither (eqb j i) (someIn (isWoke i) es) a in
+      less-turn p i k (woken k j m) 0 (omega (arith, wake-less p i k j m))
+      (chain-turn c (chain-sound z g (wakes j m x stop) s) (wake-stays p i k j m (n .0) ∙ w) (n .1) b)
+  chain-turn (passes {k} {es} q j l f c) s w a b =
+      let n = neither (eqb j i) (someIn (isWoke i) es) a in
+      let r =
+      less-turn p i (woken k j ok) (woken k j ok) 0 (omega arith)
+      (chain-turn c (chain-sound z g (passes q j l f stop) s) (wake-stays p i k j ok (n .0) ∙ w) (n .1) b) in
+      same-or q p
+      (λ d. rw (d, eq-eqb p p refl) (less-turn p i k (woken k j ok) 1 (pass-less p i k (z .threads) j (rw d at f) w (n .0)) r))
+      (λ d. rw (ne-eqb q p d) (less-turn p i k (woken k j ok) 0 (omega (arith, wake-less p i k j ok)) r))
+  chain-turn (raises {k} {es} q l e t c) s w a b =
+      same-or q p (λ d. absurd (no-raise k s w (rw d at e)))
+      (λ d. rw (ne-eqb q p d) (less-turn p i k _ 0 (omega arith) (chain-turn c (chain-sound z g (raises q l e t stop) s) w a b)))
+  chain-turn (ages {k} {es} c) s w a b =
+      let n = neither (eqb (threadAt k i .remaining) 1) (someIn (isWoke i) es) (sym (tick-some k i (z .threads) es within) ∙ a) in
+      rw (count-tick k (isSignal p) (z .threads) es (λ j m. refl) (λ j. refl))
+      (less-turn p i k (ticked k (z .threads)) 0 (omega (arith, tick-less k))
+      (chain-turn c (chain-sound z g (ages {es = []} stop) s) (tick-stays k w (n .0)) (n .1) (sym (begun-none k (z .threads) es) ∙ b)))
+  chain-turn (sleeps {k} {es} j x y c) s w a b =
+      let st = waitState (x .kind) in
+      let pl = waitPlace (x .kind) (x .object) in
+      let n = neither (ltb j i && (eqb st queued && eqb pl p)) (someIn (beginsAt p i) es) b in
+      let d : i ≢ j = λ e. queued-unready p (threadAt k i) w (rw e (y .is-ready)) in
+      less-turn p i k (slept k j st pl x) 0
+      (omega (
+        arith,
+        count-agree (waits (slept k j st pl x) p) (waits k p) i
+        (sleep-waits p i z k j x (s .rules .sized) (g .threads .1) y (λ l. rw (lt-ltb j i l) at (n .0))),
+      ))
+      (chain-turn c (chain-sound z g (sleeps j x y stop) s) (ap (queuedAt p) (sleep-others k j st pl x i d) ∙ w) a (n .1))
+  chain-turn (takes {k} {es} q l e c) s w a b = less-turn p i k (taken k q) 0 (omega arith) (chain-turn c (chain-sound z g (takes q l e stop) s) w a b)
+  chain-turn (sets {k} {es} q v x c) s w a b = still-turn p i k _ (λ y. refl) (chain-turn c (chain-sound z g (sets {es = []} q v x stop) s) w a b)
+  chain-turn (finishes {k} {es} j m d f c) s w a b =
+      less-turn p i k k 0 (omega arith)
+      (still-turn p i k (finished k j m d) (finish-kept k j m d (queuedAt p) (λ x. refl))
+      (chain-turn c (chain-sound z g (finishes j m d f stop) s) (finish-kept k j m d (queuedAt p) (λ x. refl) i ∙ w) a b))
+  chain-turn (hands {k} {es} j d f c) s w a b =
+      less-turn p i k k 0 (omega arith)
+      (less-turn p i k k 0 (omega arith)
+      (still-turn p i k (finished k j ok d) (finish-kept k j ok d (queuedAt p) (λ x. refl))
+      (chain-turn c (chain-sound z g (hands j d f stop) s) (finish-kept k j ok d (queuedAt p) (λ x. refl) i ∙ w) a b)))
+  chain-turn (answers {k} x c) s w a b = still-turn p i k _ (λ y. refl) (chain-turn c (chain-sound z g (answers {es = []} x stop) s) w a b)
+  chain-turn (flags {k} j f e c) s w a b =
+      let same = thread-kept k j (withPending (threadAt k j) f) (queuedAt p) refl in
+      still-turn p i k (withThread k j (withPending (threadAt k j) f)) same
+      (chain-turn c (chain-sound z g (flags {es = []} j f e stop) s) (same i ∙ w) a b)
+  chain-turn (begins {k} c) s w a b = less-turn p i k _ 0 (omega arith) (chain-turn c (chain-sound z g (begins {es = []} stop) s) w a b)
