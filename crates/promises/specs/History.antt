@@ -5,7 +5,7 @@ use native.Mathlib.Nat.{zero-add}
 use native.Mathlib.Omega.{arith}
 use mathlib.Core.Path.{_≡_, refl, sym, ap, _∙_, subst}
 use mathlib.Core.Logic.{_≢_, _⊎_, inl, inr}
-use mathlib.Core.Bool.{Bool, true, false, cond, _||_, _&&_}
+use mathlib.Core.Bool.{Bool, true, false, cond, _||_, _&&_, or-false, or-assoc}
 use mathlib.Core.List.{List, [], _∷_, _++_}
 use lib.Dec.{eqb}
 use lib.ListN.{length, getD, replicate, getD-replicate}
@@ -34,9 +34,10 @@ use Rattle.library.specs.Sizes.{sizesFit, noSizes}
 use Rattle.library.specs.Settling.{isSettled, settled}
 use Rattle.library.specs.Tables.{blankPool, opened, closed, withKernel}
 use Rattle.rules.specs.Hanging.{hangsTogether}
+use Rattle.steps.specs.declared.stepping.Outcome.{Outcome}
 use Rattle.steps.specs.declared.stepping.Stepped.{Stepped}
 use Rattle.steps.specs.Refusal.{refusalOf}
-use Rattle.steps.specs.Stepping.{clockAfter, budgetOf, outcomeOf, doneWith, stepped}
+use Rattle.steps.specs.Stepping.{maskOf, clockAfter, budgetOf, outcomeOf, doneWith, stepped}
 use Rattle.steps.proofs.StepLaws.{step-code, step-refused, Untouched}
 use Rattle.promises.specs.Run.{ran, ranOn}
 use Rattle.promises.specs.Answers.{step-done}
@@ -147,7 +148,7 @@ module _ (t : Tables) (c : Clock) (s : Step) (g : Hangs t c) (e : stepped t c s 
   abbrev h : Plant
   h = settled (budgetOf (z .threads)) (acted p (c .time) s)
 
-  settles : Settled z (acted p (c .time) s) h
+  pub settles : Settled z (acted p (c .time) s) h
   settles = settle-ends z (acted p (c .time) s) (acts .done .whole)
 
   chained : Chained z (p .kernel) (h .kernel) (acts .marks ++ settles .tries .marks)
@@ -241,6 +242,11 @@ signalsIn q t c [] = 0
 signalsIn q t c (s ∷ ss) =
     cond (isAccepted (stepped t c s .outcome)) (signalsOf q (opened t) s) 0 + signalsIn q (stepped t c s .tables) (stepped t c s .clock) ss
 
+-- whether any result passes a test
+abbrev pub someResult : (Outcome → Bool) → List Outcome → Bool
+someResult f [] = false
+someResult f (o ∷ os) = f o || someResult f os
+
 -- the events of a run's accepted steps, in order
 pub record History (t : Tables) (c : Clock) (ss : List Step) : Type 0 where
   pub events : List Event
@@ -250,6 +256,9 @@ pub record History (t : Tables) (c : Clock) (ss : List Step) : Type 0 where
   pub ticks : countIn isTick events ≡ ticksIn t c ss
   -- and its signals the accepted signals
   pub signals : (q : ℕ) → countIn (isSignal q) events ≡ signalsIn q t c ss
+  -- who is woken, or whose call finishes, in some step's masks is so in the history
+  pub woken : (i : ℕ) → i < 16 → someIn (isWoke i) events ≡ someResult (λ o. maskBit i (o .woken)) (ran t c ss .outcomes)
+  pub finished : (i : ℕ) → i < 16 → someIn (isEnded i) events ≡ someResult (λ o. maskBit i (o .finished)) (ran t c ss .outcomes)
 
 pub count-append : (f : Event → Bool) (es fs : List Event) → countIn f (es ++ fs) ≡ countIn f es + countIn f fs
 unfolding countIn
@@ -278,6 +287,23 @@ step-count f es fs n w e c s t =
     count-append f (es ++ (endStep ∷ [])) fs
     ∙ rw (count-append f es (endStep ∷ []), n, calls-count f es w e c s t) (omega arith)
 
+some-append : (f : Event → Bool) (es fs : List Event) → someIn f (es ++ fs) ≡ someIn f es || someIn f fs
+some-append f [] fs = refl
+some-append f (e ∷ es) fs = ap (λ (b : Bool). f e || b) (some-append f es fs) ∙ sym (or-assoc (f e) (someIn f es) (someIn f fs))
+
+-- the events of a step, with its end, and of the rest
+step-some : (f : Event → Bool) (es fs : List Event) → f endStep ≡ false → someIn f ((es ++ (endStep ∷ [])) ++ fs) ≡ someIn f es || someIn f fs
+step-some f es fs n =
+    some-append f (es ++ (endStep ∷ [])) fs ∙ ap (λ (b : Bool). b || someIn f fs) (some-append f es (endStep ∷ []) ∙ last)
+  where
+    last : someIn f es || someIn f (endStep ∷ []) ≡ someIn f es
+    last = rw n (or-false (someIn f es))
+
+-- a mask of nobody
+no-bit : (i : ℕ) → maskBit i 0 ≡ false
+unfolding maskOf
+no-bit i = mask-bit [] i
+
 module _ (t : Tables) (c : Clock) (s : Step) (ss : List Step) (g : Hangs t c)
     (rest : History (stepped t c s .tables) (stepped t c s .clock) ss) where
   -- an accepted step adds its events
@@ -296,6 +322,8 @@ module _ (t : Tables) (c : Clock) (s : Step) (ss : List Step) (g : Hangs t c)
         signals = λ q.
             step-count (isSignal q) (d .events) (rest .events) refl (λ i m. refl) (λ i m x. refl) (λ i. refl) (λ i x. refl) (λ r. refl)
             ∙ rw (d .calls, rest .signals q, a);
+        woken = λ i l. step-some (isWoke i) (d .events) (rest .events) refl ∙ rw (sym (d .woken i l), rest .woken i l);
+        finished = λ i l. step-some (isEnded i) (d .events) (rest .events) refl ∙ rw (sym (d .finished i l), rest .finished i l);
       }
 
   -- a refused one adds none
@@ -309,12 +337,15 @@ module _ (t : Tables) (c : Clock) (s : Step) (ss : List Step) (g : Hangs t c)
         chain = subst (λ (y : Tables). Chain (y .sizes) h (opened y .kernel) (rest .events)) (u .tables) (rest .chain);
         ticks = rw a (rest .ticks ∙ sym (zero-add _));
         signals = λ q. rw a (rest .signals q ∙ sym (zero-add _));
+        woken = λ i l. rest .woken i l ∙ rw (u .nobody-woken, no-bit i);
+        finished = λ i l. rest .finished i l ∙ rw (u .nothing-finished, no-bit i);
       }
 
 -- no step, no event
 told-nothing : (t : Tables) (c : Clock) → History t c []
 unfolding ran ticksIn signalsIn countIn
-told-nothing t c = record { events = []; chain = stop; ticks = refl; signals = λ q. refl }
+told-nothing t c =
+    record { events = []; chain = stop; ticks = refl; signals = λ q. refl; woken = λ i l. refl; finished = λ i l. refl }
 
 -- EVERY RUN FROM TABLES THAT HANG TOGETHER HAS ITS HISTORY
 pub history : (ss : List Step) (t : Tables) (c : Clock) → Hangs t c → History t c ss

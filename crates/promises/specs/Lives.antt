@@ -82,12 +82,12 @@ use Rattle.promises.specs.Flags.{someIn}
 -- ---- a. a sleep with a timeout ends
 
 -- from here on, each tick counts one off thread i, or makes it ready
-abbrev Fair : ℕ → List Event → Type 0
+abbrev pub Fair : ℕ → List Event → Type 0
 Fair i [] = Unit {0}
 Fair i (e ∷ es) =
     (countIn isTick (e ∷ es) ≤ countIn (isCounted i) (e ∷ es) + countIn (isWoke i) (e ∷ es)) × Fair i es
 
-fair-all : (i : ℕ) (es : List Event) → Fair i es → countIn isTick es ≤ countIn (isCounted i) es + countIn (isWoke i) es
+pub fair-all : (i : ℕ) (es : List Event) → Fair i es → countIn isTick es ≤ countIn (isCounted i) es + countIn (isWoke i) es
 unfolding countIn
 fair-all i [] f = omega arith
 fair-all i (e ∷ es) f = f .0
@@ -138,7 +138,7 @@ module _ (k : Kernel) (i : ℕ) where
   fair-ages n es h f = (omega (arith, ticks-tick n es, met-tick n es h, fair-all i es f), fair-tick n es f)
 
 -- EVERY TICK OF A CHAIN COUNTS ONE OFF EACH THREAD, OR MAKES IT READY
-chain-fair : {z : Sizes} {h k : Kernel} {es : List Event} (i : ℕ) → i < z .threads → Chain z h k es → Fair i es
+pub chain-fair : {z : Sizes} {h k : Kernel} {es : List Event} (i : ℕ) → i < z .threads → Chain z h k es → Fair i es
 chain-fair i l stop = tt
 chain-fair i l (wakes {k} {es} j m w c) = fair-more i (woke j m) es refl (chain-fair i l c)
 chain-fair i l (passes {k} {es} p j b f c) =
@@ -171,7 +171,7 @@ AllEnd i (signalAt p ∷ es) = AllEnd i es
 AllEnd i (takeAt p ∷ es) = AllEnd i es
 AllEnd i (endStep ∷ es) = AllEnd i es
 
-none-counted : (f : Event → Bool) (es : List Event) → someIn f es ≡ false → countIn f es ≡ 0
+pub none-counted : (f : Event → Bool) (es : List Event) → someIn f es ≡ false → countIn f es ≡ 0
 unfolding countIn
 none-counted f [] e = refl
 none-counted f (x ∷ es) e =

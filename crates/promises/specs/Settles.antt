@@ -1,6 +1,7 @@
 -- Settling: every continued call is a chain that leaves the tables whole, and finishes a call or puts its thread to sleep. So settling ends,
 -- within twice the threads, with a running thread that has no unfinished call.
 use Prim.Native.Nat.{ℕ, zero, suc, _+_, _*_, _≤_, _<_}
+use native.Mathlib.Nat.{zero-add, suc-add}
 use native.Mathlib.Omega.{arith}
 use mathlib.Core.Path.{_≡_, refl, sym, ap, _∙_, subst}
 use mathlib.Core.Logic.{_≢_, _⊎_, inl, inr}
@@ -369,6 +370,27 @@ spent-none b p e = rw (e, settled)
 spent-one : (b : ℕ) (p : Plant) → isSettled p ≡ false → settled (suc b) p ≡ settled b (continued p (runningIn p))
 unfolding settled
 spent-one b p e = rw (e, settled)
+
+-- settled tables stay as they are, whatever budget is left
+settled-stays : (n : ℕ) (p : Plant) → isSettled p ≡ true → settled n p ≡ p
+settled-stays zero p e = spent-all p
+settled-stays (suc n) p e = spent-none n p e
+
+more-after : (b : ℕ) → ((n : ℕ) (p : Plant) → isSettled (settled b p) ≡ true → settled (b + n) p ≡ settled b p)
+    → (n : ℕ) (p : Plant) → isSettled (settled (suc b) p) ≡ true → settled (suc b + n) p ≡ settled (suc b) p
+more-after b f n p e =
+    rw (suc-add b n)
+    (split (isSettled p)
+    (λ a. spent-none (b + n) p a ∙ sym (spent-none b p a))
+    (λ a. spent-one (b + n) p a ∙ f n (continued p (runningIn p)) (rw (spent-one b p a) at e) ∙ sym (spent-one b p a)))
+
+-- a budget with which settling ended is as good as any larger one
+pub settled-whole : (b : ℕ) (p : Plant) → isSettled (settled b p) ≡ true → (n : ℕ) → settled (b + n) p ≡ settled b p
+settled-whole b p e n = by b n p e
+  where
+    by : (b n : ℕ) (p : Plant) → isSettled (settled b p) ≡ true → settled (b + n) p ≡ settled b p
+    by zero n p e = rw (zero-add n) (settled-stays n p (rw (spent-all p) at e) ∙ sym (spent-all p))
+    by (suc b) n p e = more-after b (by b) n p e
 
 -- settling ends with a budget of b, for tables that weigh no more
 abbrev EndsWithin : Sizes → ℕ → Type 0
