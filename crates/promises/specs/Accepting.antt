@@ -1,25 +1,19 @@
 -- What an accepted step has passed: all the refusals of document 01, each as a fact; and who may wait in it.
-use Prim.Native.Nat.{ℕ, _≤_, _<_}
+use Prim.Native.Nat.{ℕ, _<_}
 use native.Mathlib.Omega.{arith}
-use mathlib.Core.Path.{_≡_, refl, _∙_}
-use mathlib.Core.Logic.{_≢_, inl, inr}
+use mathlib.Core.Path.{_≡_, refl}
+use mathlib.Core.Logic.{_≢_}
 use mathlib.Core.Bool.{Bool, true, false, cond}
-use lib.Dec.{eqb, leb}
-use borrow.Author.Tests.{eqb-true, eq-eqb, leb-false, lt-leb}
+use lib.Dec.{leb}
+use borrow.Author.Tests.{eq-eqb, leb-false, lt-leb}
 use Rattle.kernel.specs.declared.clock.Clock.{Clock}
-use Rattle.kernel.specs.Numbers.{nobody, ready}
-use Rattle.kernel.specs.Tables.{threadAt}
-use Rattle.kernel.specs.Waiters.{firstReady}
+use Rattle.kernel.specs.Numbers.{nobody}
 use Rattle.kernel.proofs.Cases.{contrary}
-use Rattle.kernel.proofs.TablesLaws.{Sized, used-le-given}
-use Rattle.kernel.proofs.WaitersLaws.{first-ready-cases}
 use Rattle.library.specs.declared.calls.Step.{Step}
 use Rattle.library.specs.declared.tables.Plant.{Plant}
 use Rattle.library.specs.Acting.{kernelWaits}
 use Rattle.rules.specs.Hanging.{hangsTogether}
 use Rattle.steps.specs.Refusal.{kindFits, callerFits, contextFits, objectLimit, valueFits, stateFits, refusalOf}
-use Rattle.promises.specs.Tests.{either-means}
-use Rattle.promises.specs.Tallies.{Waiter}
 
 -- none of the seven refusals is given
 pub record Accepted (p : Plant) (c : Clock) (s : Step) : Type 0 where
@@ -90,25 +84,3 @@ module _ (p : Plant) (c : Clock) (s : Step) where
     where
       clash : false ≡ true → ⊥
       clash z = contrary z refl
-
-  -- it is the running one, and so ready
-  pub waits-ready : Accepted p c s → Sized (p .kernel) → p .sizes .threads ≤ 16 → s .caller ≢ nobody
-      → Waiter (p .kernel) (p .sizes .threads) (s .caller)
-  waits-ready a z few n =
-      rw running
-      (elim (first-ready-cases (p .kernel) (p .sizes .threads)) [
-        | inl f ↦ record {
-          few = few;
-          within = omega (arith, f .below, used-le-given (p .sizes .threads));
-          rows = omega (arith, f .below, used-le-given (p .sizes .threads), z .threads);
-          is-ready = eqb-true (threadAt (p .kernel) (firstReady (p .kernel) (p .sizes .threads)) .state) ready (f .passes);
-        }
-        | inr f ↦ absurd (n (running ∙ f .0))
-      ])
-    where
-      running : s .caller ≡ firstReady (p .kernel) (p .sizes .threads)
-      running =
-          elim (either-means (eqb (s .caller) nobody) (eqb (s .caller) (firstReady (p .kernel) (p .sizes .threads))) (a .caller)) [
-            | inl b ↦ absurd (n (eqb-true (s .caller) nobody b))
-            | inr b ↦ eqb-true (s .caller) (firstReady (p .kernel) (p .sizes .threads)) b
-          ]

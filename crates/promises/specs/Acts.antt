@@ -1,19 +1,19 @@
 -- Every accepted step is a chain of moves that leaves the tables whole: the kinds 15 to 22 beside those of the kernel part.
 use Prim.Native.Nat.{ℕ, _+_, _%_, _≤_, _<_}
 use native.Mathlib.Omega.{arith}
-use mathlib.Core.Path.{_≡_, refl, sym, ap, _∙_}
+use mathlib.Core.Path.{_≡_, refl, _∙_}
 use mathlib.Core.Logic.{_≢_, _⊎_, inl, inr}
-use mathlib.Core.Bool.{Bool, true, false, cond}
-use mathlib.Core.List.{List, [], _∷_, _++_}
+use mathlib.Core.Bool.{true, false}
+use mathlib.Core.List.{List, [], _∷_}
 use lib.Dec.{eqb, leb}
-use borrow.Author.Tests.{eqb-true, eqb-false, eq-eqb, ne-eqb, leb-true, leb-false}
+use borrow.Author.Tests.{eqb-true, eqb-false, eq-eqb, leb-true, leb-false}
 use Rattle.kernel.specs.declared.clock.Clock.{Clock}
 use Rattle.kernel.specs.declared.records.Kernel.{Kernel}
 use Rattle.kernel.specs.Numbers.{nobody, ok, immediate}
 use Rattle.kernel.specs.Places.{poolPlace}
 use Rattle.kernel.specs.Tables.{threadAt}
 use Rattle.kernel.specs.Moves.{finished}
-use Rattle.kernel.proofs.Cases.{split, same-or, chosen, contrary, both-means}
+use Rattle.kernel.proofs.Cases.{same-or, chosen, both-means}
 use Rattle.library.specs.declared.calls.Step.{Step}
 use Rattle.library.specs.declared.sizes.Sizes.{Sizes}
 use Rattle.library.specs.declared.tables.Plant.{Plant}
@@ -22,12 +22,12 @@ use Rattle.library.specs.Mailbox.{postTried, fetchTried, mailboxReset, mailboxR
 use Rattle.library.specs.Pool.{absent, free, out, markAt, allocTried, putBack}
 use Rattle.library.specs.Settling.{isBoxCall}
 use Rattle.library.specs.Acting.{kernelWaits, boxEffected, finishedAtOnce, actedOnBox, acted}
-use Rattle.library.specs.Tables.{poolAt, withKernel}
+use Rattle.library.specs.Tables.{poolAt}
 use Rattle.rules.specs.RowRules.{callLimit}
 use Rattle.promises.specs.Good.{CallKind}
 use Rattle.promises.specs.Accepting.{Accepted}
 use Rattle.promises.specs.Story.{Event, signalAt, countIn, isSlept}
-use Rattle.promises.specs.Moving.{Chained, after, finish-chained}
+use Rattle.promises.specs.Moving.{after, finish-chained}
 use Rattle.promises.specs.Whole.{Whole, Done, kernel-done, idle-free, stepper-caller, stepper-kept}
 use Rattle.promises.specs.KernelActs.{Acts, calledFor, callsOf, nil-right, stepper, sleeper, object-of, kept-fits, kernel-acts}
 use Rattle.promises.specs.BoxActs.{Tries, Tryer, post-tries, fetch-tries, alloc-tries, reset-acts, resume-acts, put-acts}

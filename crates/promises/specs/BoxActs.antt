@@ -1,65 +1,47 @@
 -- Every operation on a mailbox or a pool is a chain of moves that leaves the tables whole: a step's, and a continued call's.
-use Prim.Native.Nat.{ℕ, _+_, _%_, _≤_, _<_}
+use Prim.Native.Nat.{ℕ, _+_, _≤_, _<_}
 use native.Mathlib.Omega.{arith}
-use mathlib.Core.Path.{_≡_, refl, sym, ap, _∙_, subst}
-use mathlib.Core.Logic.{_≢_, _⊎_, inl, inr}
-use mathlib.Core.Bool.{Bool, true, false, cond}
-use mathlib.Core.List.{List, [], _∷_, _++_}
-use lib.Dec.{eqb, leb}
+use mathlib.Core.Path.{_≡_, refl, sym, ap, _∙_}
+use mathlib.Core.Logic.{_≢_, inl, inr}
+use mathlib.Core.Bool.{true, false}
+use mathlib.Core.List.{List, [], _∷_}
+use lib.Dec.{eqb}
 use lib.ListN.{length}
 use lib.IntN.{ℤ, pos, negsuc}
 use lib.Signed.{ltZ}
-use borrow.Author.Tests.{eqb-true, eqb-false, eq-eqb, ne-eqb, leb-true, lt-ltb}
-use Rattle.kernel.specs.declared.clock.Clock.{Clock}
+use borrow.Author.Tests.{eq-eqb, ne-eqb, lt-ltb}
 use Rattle.kernel.specs.declared.records.Call.{Call}
-use Rattle.kernel.specs.declared.records.Thread.{Thread}
 use Rattle.kernel.specs.declared.records.Kernel.{Kernel}
-use Rattle.kernel.specs.Numbers.{nobody, ready, queued, ok, wasReset, immediate}
+use Rattle.kernel.specs.Numbers.{ready, queued, ok, wasReset, immediate}
 use Rattle.kernel.specs.Places.{poolPlace, writersPlace, readersPlace}
 use Rattle.kernel.specs.Tables.{usedRows, threadAt, counterAt}
 use Rattle.kernel.specs.Moves.{finished}
-use Rattle.kernel.specs.Waiters.{queuedAt, firstWaiter}
+use Rattle.kernel.specs.Waiters.{firstWaiter}
 use Rattle.kernel.specs.Queue.{enqueued, releasedFirst, releasedAll}
-use Rattle.kernel.specs.Semaphore.{taken, signalled}
-use Rattle.kernel.proofs.Cases.{split, same-or, chosen, contrary, both-means}
+use Rattle.kernel.specs.Semaphore.{taken}
+use Rattle.kernel.proofs.Cases.{split, same-or, chosen}
 use Rattle.kernel.proofs.WalkLaws.{count-some}
-use Rattle.kernel.proofs.TablesLaws.{Sized, used-all}
+use Rattle.kernel.proofs.TablesLaws.{used-all}
 use Rattle.kernel.proofs.WaitersLaws.{first-waiter-cases}
 use Rattle.kernel.proofs.QueueLaws.{release-first-others}
-use Rattle.library.specs.declared.calls.Step.{Step}
-use Rattle.library.specs.declared.ring.Placed.{Placed}
 use Rattle.library.specs.declared.sizes.Sizes.{Sizes}
 use Rattle.library.specs.declared.tables.Plant.{Plant}
-use Rattle.library.specs.Calls.{callOf, objectOf}
 use Rattle.library.specs.Sizes.{slotsAt}
 use Rattle.library.specs.Ring.{noSlot, fetched}
-use Rattle.library.specs.Tables.{mailboxAt, poolAt, withKernel}
-use Rattle.library.specs.Mailbox.{messageAt, placedFor, postDone, postTried, fetchDone, fetchTried, bothReleased, mailboxReset, mailboxResumed}
-use Rattle.library.specs.Pool.{absent, free, out, markAt, topOf, handedOver, allocTried, putBack}
+use Rattle.library.specs.Tables.{mailboxAt, poolAt}
+use Rattle.library.specs.Mailbox.{placedFor, postDone, postTried, fetchDone, fetchTried, bothReleased, mailboxReset, mailboxResumed}
+use Rattle.library.specs.Pool.{free, markAt, topOf, handedOver, allocTried, putBack}
 use Rattle.rules.specs.RowRules.{waitState, waitPlace}
-use Rattle.rules.specs.PlaceRules.{inUse}
 use Rattle.rules.specs.PoolRules.{isPromised, promisedBy, promisedCount}
 use Rattle.promises.specs.Good.{GoodSizes, GoodPool}
 use Rattle.promises.specs.Tallies.{Tallies}
 use Rattle.promises.specs.CounterRule.{pool-place, writers-place, readers-place}
 use Rattle.promises.specs.RingKept.{MailboxesKept, post-tried-kept, fetch-tried-kept, reset-kept, resume-kept}
-use Rattle.promises.specs.PoolKept.{PoolsKept, PoolsListed, stock, stocked, promised-stocked, hand-over-kept, hand-over-popped, alloc-above, alloc-not-above, alloc-kept, alloc-popped, put-back-kept, put-back-pushed}
+use Rattle.promises.specs.PoolKept.{PoolsKept, stock, stocked, promised-stocked, hand-over-kept, hand-over-popped, alloc-above, alloc-not-above, alloc-kept, alloc-popped, put-back-kept, put-back-pushed}
 use Rattle.promises.specs.Story.{Event, signalAt, takeAt, sleepIn, endWith, countIn, CallFits, Again}
-use Rattle.promises.specs.Chain.{Chain, Sleeper, Sound, Hander, hands, stop, queued-unready}
+use Rattle.promises.specs.Chain.{Chain, Sleeper, Sound, hands, stop, queued-unready}
 use Rattle.promises.specs.Owed.{isSignal, isTake}
-use Rattle.promises.specs.Moving.{
-  Chained,
-  Caller,
-  Free,
-  after,
-  rested,
-  finish-chained,
-  block-chained,
-  take-chained,
-  release-first-chained,
-  release-all-chained,
-  signal-chained,
-}
+use Rattle.promises.specs.Moving.{Chained, Caller, Free, after, rested, finish-chained, block-chained, take-chained, release-first-chained, release-all-chained, signal-chained}
 use Rattle.promises.specs.Whole.{Whole, Done, InStep, done, kernel-done, whole-good}
 use Rattle.promises.specs.KernelActs.{callsOf}
 

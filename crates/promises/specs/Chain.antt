@@ -4,16 +4,15 @@ use Prim.Native.Nat.{ℕ, zero, suc, _+_, _≤_, _<_}
 use native.Mathlib.Nat.{not-suc-le-zero}
 use native.Mathlib.Omega.{arith}
 use mathlib.Core.Path.{_≡_, refl, sym, ap, _∙_}
-use mathlib.Core.Logic.{_≢_, _⊎_, inl, inr}
-use mathlib.Core.Bool.{Bool, true, false, cond, _||_, _&&_}
+use mathlib.Core.Logic.{_≢_, inl, inr}
+use mathlib.Core.Bool.{true, false, cond, _&&_}
 use mathlib.Core.List.{List, [], _∷_, _++_}
 use lib.Dec.{eqb}
-use lib.ListN.{length, set}
-use lib.Seq.{set-out}
+use lib.ListN.{length}
 use lib.Bits.{bitAnd}
 use lib.IntN.{ℤ, pos}
 use lib.Signed.{ltZ}
-use borrow.Author.Tests.{eqb-true, eqb-false, eq-eqb, ne-eqb}
+use borrow.Author.Tests.{eqb-true, eq-eqb, ne-eqb}
 use Rattle.kernel.specs.declared.records.Answer.{Answer}
 use Rattle.kernel.specs.declared.records.Call.{Call}
 use Rattle.kernel.specs.declared.records.Thread.{Thread}
@@ -23,42 +22,17 @@ use Rattle.kernel.specs.Records.{begun, ended}
 use Rattle.kernel.specs.Counters.{up, down}
 use Rattle.kernel.specs.Places.{poolPlace, queuePlace, writersPlace, readersPlace}
 use Rattle.kernel.specs.Tables.{threadAt, counterAt, holderAt, withThread, withCounter, withAnswer}
-use Rattle.kernel.specs.Moves.{readied, answered, woken, slept, finished, awaitedBy}
+use Rattle.kernel.specs.Moves.{woken, slept, finished, awaitedBy}
 use Rattle.kernel.specs.Waiters.{queuedAt}
 use Rattle.kernel.specs.Semaphore.{taken}
 use Rattle.kernel.specs.Event.{withPending}
-use Rattle.kernel.specs.Ticking.{countedOff, ticked}
-use Rattle.kernel.proofs.Cases.{split, same-or, in-or-out, chosen, contrary, first-fails, both-means}
+use Rattle.kernel.specs.Ticking.{ticked}
+use Rattle.kernel.proofs.Cases.{split, same-or, contrary, both-means}
 use Rattle.kernel.proofs.WalkLaws.{First, None, count-none}
 use Rattle.kernel.proofs.CountersLaws.{debt, debt-none, raised-none, lowered-none}
-use Rattle.kernel.proofs.TablesLaws.{
-  Sized,
-  SameSizes,
-  sizes-refl,
-  sizes-trans,
-  sized-kept,
-  thread-sizes,
-  counter-sizes,
-  answer-sizes,
-  thread-same,
-  thread-other,
-  thread-kept,
-  counter-same,
-  counter-other,
-  used-all,
-}
-use Rattle.kernel.proofs.MovesLaws.{
-  wake-row,
-  wake-others,
-  wake-sizes,
-  sleep-row,
-  sleep-others,
-  sleep-sizes,
-  finish-row,
-  finish-others,
-  finish-sizes,
-}
-use Rattle.kernel.proofs.WaitersLaws.{waits, waiters}
+use Rattle.kernel.proofs.TablesLaws.{Sized, SameSizes, sized-kept, thread-sizes, counter-sizes, answer-sizes, thread-same, thread-other, counter-same, counter-other, used-all}
+use Rattle.kernel.proofs.MovesLaws.{wake-row, wake-others, wake-sizes, sleep-row, sleep-others, sleep-sizes, finish-row, finish-others, finish-sizes}
+use Rattle.kernel.proofs.WaitersLaws.{waits}
 use Rattle.kernel.proofs.TickingLaws.{aged, aged-last, aged-counted, tick-row, tick-sizes}
 use Rattle.library.specs.declared.sizes.Sizes.{Sizes}
 use Rattle.library.specs.Signs.{same}
@@ -70,7 +44,7 @@ use Rattle.promises.specs.Tests.{same-means}
 use Rattle.promises.specs.Tallies.{Tallies, same-tallies, row-tallies, wake-tallies, sleep-tallies, sleep-unqueued-tallies, finish-tallies, tick-tallies}
 use Rattle.promises.specs.Holds.{Holds, same-holds, row-holds, wake-holds, sleep-holds, sleep-unsuspended-holds, finish-holds, counter-holds, tick-holds}
 use Rattle.promises.specs.CounterRule.{semaphore-place, pool-place, queue-place, writers-place, readers-place}
-use Rattle.promises.specs.Story.{Event, woke, sleepIn, endWith, tick, countOff, signalAt, takeAt, endStep, isOf, isWoke, CallFits, Follows, Again, Because, Story, rests, apart, rouses, dozes, closes, counts, marks, each-kind, story-then, story-good}
+use Rattle.promises.specs.Story.{Event, woke, sleepIn, endWith, tick, countOff, signalAt, takeAt, endStep, isOf, CallFits, Follows, Again, Because, Story, rests, apart, rouses, dozes, closes, counts, marks, each-kind, story-then, story-good}
 
 -- who is queued is not ready
 pub queued-unready : (p : ℕ) (t : Thread) → queuedAt p t ≡ true → t .state ≢ ready

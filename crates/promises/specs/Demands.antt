@@ -1,52 +1,48 @@
 -- The three demands, over any configuration, any list of steps from fresh tables, refused steps in between wherever.
 use Prim.Native.Nat.{ℕ, suc, _+_, _≤_, _<_}
 use native.Mathlib.Omega.{arith}
-use mathlib.Core.Path.{_≡_, refl, sym, ap, _∙_, subst}
-use mathlib.Core.Logic.{_≢_, _⊎_, inl, inr}
-use mathlib.Core.Bool.{Bool, true, false}
-use mathlib.Core.List.{List, [], _∷_, _++_}
-use lib.Dec.{eqb}
+use mathlib.Core.Path.{_≡_, refl, sym, _∙_}
+use mathlib.Core.Logic.{_≢_, _⊎_}
+use mathlib.Core.Bool.{true, false}
+use mathlib.Core.List.{List, _∷_, _++_}
 use lib.ListN.{getD, replicate}
-use lib.IntN.{ℤ, pos}
 use Rattle.kernel.specs.declared.clock.Clock.{Clock}
 use Rattle.kernel.specs.declared.units.Rate.{Rate}
 use Rattle.kernel.specs.declared.records.Call.{Call}
-use Rattle.kernel.specs.declared.records.Thread.{Thread}
 use Rattle.kernel.specs.declared.records.Kernel.{Kernel}
-use Rattle.kernel.specs.Numbers.{nobody, ready, ok, timedOut, wasReset}
+use Rattle.kernel.specs.Numbers.{ready, ok, timedOut, wasReset}
 use Rattle.kernel.specs.Records.{blank}
 use Rattle.kernel.specs.Places.{semaphorePlace, poolPlace}
 use Rattle.kernel.specs.Tables.{threadAt}
-use Rattle.kernel.specs.Waiters.{queuedAt}
 use Rattle.kernel.specs.Units.{frequencyOf, frequencyFits}
-use Rattle.kernel.proofs.Cases.{split, chosen, contrary}
+use Rattle.kernel.proofs.Cases.{split, chosen}
 use Rattle.kernel.proofs.WaitersLaws.{waits}
 use Rattle.library.specs.declared.calls.Step.{Step}
 use Rattle.library.specs.declared.sizes.Sizes.{Sizes}
 use Rattle.library.specs.declared.tables.Tables.{Tables}
 use Rattle.library.specs.declared.fresh.Made.{Made}
 use Rattle.library.specs.Acting.{acted}
-use Rattle.library.specs.Fresh.{freshTables, made}
+use Rattle.library.specs.Fresh.{made}
 use Rattle.library.specs.Settling.{isSettled, settled}
-use Rattle.library.specs.Sizes.{sizesFit, noSizes}
+use Rattle.library.specs.Sizes.{sizesFit}
 use Rattle.library.specs.Tables.{opened}
 use Rattle.rules.specs.PlaceRules.{inUse}
 use Rattle.steps.specs.Refusal.{refusalOf}
 use Rattle.steps.specs.declared.stepping.Stepped.{Stepped}
 use Rattle.steps.specs.Stepping.{budgetOf, doneWith, stepped}
-use Rattle.steps.proofs.StepLaws.{step-code, step-refused, Untouched}
+use Rattle.steps.proofs.StepLaws.{step-code, Untouched}
 use Rattle.promises.specs.Run.{ran}
 use Rattle.promises.specs.Answers.{step-answers, step-done}
 use Rattle.promises.specs.Good.{HangTogether}
 use Rattle.promises.specs.Hanging.{all-blank}
 use Rattle.promises.specs.CounterRule.{semaphore-place, pool-place}
 use Rattle.promises.specs.Story.{Event, sleepIn, isWoke, isTick, countIn, Idle, Story, story-sleeps}
-use Rattle.promises.specs.Chain.{Chain, Sound, chain-story}
+use Rattle.promises.specs.Chain.{Sound, chain-story}
 use Rattle.promises.specs.Whole.{good-whole}
 use Rattle.promises.specs.Settles.{settled-whole}
 use Rattle.promises.specs.Flags.{someIn, maskBit}
-use Rattle.promises.specs.History.{Hangs, History, history, run-hangs, made-hang, ticksIn, signalsIn, someResult, settles}
-use Rattle.promises.specs.Lives.{EndsInTime, AllEnd, ends-at, story-ends, chain-fair, fair-all, none-counted, Mode, atWork, Lives, InMode, modeAfter, ownEvents, story-lives, wokeWith, story-message}
+use Rattle.promises.specs.History.{Hangs, History, run-hangs, made-hang, ticksIn, signalsIn, someResult, settles}
+use Rattle.promises.specs.Lives.{EndsInTime, ends-at, story-ends, chain-fair, fair-all, none-counted, Mode, atWork, Lives, InMode, modeAfter, ownEvents, story-lives, wokeWith, story-message}
 use Rattle.promises.specs.Turns.{beginsAt, higher, chain-turn}
 
 -- thread i is made ready, "with 0 unless its timeout or a reset made it ready sooner"

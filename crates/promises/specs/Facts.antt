@@ -30,16 +30,7 @@ use Rattle.steps.specs.declared.stepping.Outcome.{Outcome}
 use Rattle.steps.specs.Refusal.{refusalOf}
 use Rattle.steps.specs.Stepping.{maskOf, outcomeOf, doneWith, refusedWith, stepped}
 use Rattle.trace.specs.Ordered.{getN}
-use Rattle.trace.specs.Reader.{
-  endsInside,
-  lengthRefusal,
-  stepRefusal,
-  decodedSizes,
-  decodedStep,
-  openedRead,
-  steppedRead,
-  nextRead,
-}
+use Rattle.trace.specs.Reader.{endsInside, lengthRefusal, stepRefusal, decodedSizes, decodedStep, openedRead, steppedRead, nextRead}
 use Rattle.trace.specs.Traces.{Reading, readFrom, readAll}
 use Rattle.promises.specs.Run.{Ran, ran}
 

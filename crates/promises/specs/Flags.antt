@@ -4,55 +4,28 @@ use Prim.Native.Nat.{ℕ, zero, suc, _+_, _*_, _/_, _%_, _≤_, _<_}
 use native.Mathlib.Omega.{arith}
 use mathlib.Core.Path.{_≡_, refl, sym, ap, _∙_}
 use mathlib.Core.Logic.{_≢_}
-use mathlib.Core.Bool.{Bool, true, false, cond, _||_, or-true, or-false, or-assoc}
+use mathlib.Core.Bool.{Bool, true, false, _||_, or-true, or-false, or-assoc}
 use mathlib.Core.List.{List, [], _∷_}
 use lib.Dec.{eqb}
-use lib.ListN.{length, getD}
-use lib.IntN.{ℤ, pos}
+use lib.ListN.{getD}
+use lib.IntN.{ℤ}
 use borrow.Author.Tests.{eq-eqb, ne-eqb}
 use Rattle.kernel.specs.declared.records.Kernel.{Kernel}
-use Rattle.kernel.specs.Numbers.{nobody, ok, timedOut}
+use Rattle.kernel.specs.Numbers.{nobody, ok}
 use Rattle.kernel.specs.Walk.{bit}
-use Rattle.kernel.specs.Tables.{usedRows, threadAt}
+use Rattle.kernel.specs.Tables.{threadAt}
 use Rattle.kernel.specs.Moves.{woken, finished}
 use Rattle.kernel.specs.Semaphore.{taken}
 use Rattle.kernel.proofs.Cases.{split, same-or, in-or-out}
 use Rattle.kernel.proofs.TablesLaws.{Sized, wokenAt, finishedAt, used-all}
-use Rattle.kernel.proofs.MovesLaws.{
-  wake-flag,
-  wake-flag-others,
-  wake-finished,
-  sleep-woken,
-  sleep-finished,
-  finish-woken,
-  finish-flag,
-  finish-flag-others,
-}
+use Rattle.kernel.proofs.MovesLaws.{wake-flag, wake-flag-others, wake-finished, sleep-woken, sleep-finished, finish-woken, finish-flag, finish-flag-others}
 use Rattle.kernel.proofs.TickingLaws.{tick-flag, tick-flag-later, tick-finished}
 use Rattle.library.specs.declared.sizes.Sizes.{Sizes}
 use Rattle.rules.specs.RowRules.{waitState, waitPlace}
 use Rattle.steps.specs.Stepping.{maskOf}
 use Rattle.promises.specs.Story.{Event, woke, sleepIn, endWith, tick, countOff, signalAt, takeAt, endStep, isWoke, countIn}
 use Rattle.promises.specs.Owed.{count-tick}
-use Rattle.promises.specs.Chain.{
-  Chain,
-  stop,
-  wakes,
-  passes,
-  raises,
-  ages,
-  sleeps,
-  takes,
-  sets,
-  finishes,
-  hands,
-  answers,
-  flags,
-  begins,
-  tickEvent,
-  tickThen,
-  chain-sized,
-}
+use Rattle.promises.specs.Chain.{Chain, stop, wakes, passes, raises, ages, sleeps, takes, sets, finishes, hands, answers, flags, begins, tickEvent, tickThen, chain-sized}
 
 abbrev pub isEnded : ℕ → Event → Bool
 isEnded i (woke j m) = false

@@ -4,25 +4,22 @@ use Prim.Native.Nat.{ℕ, _+_, _≤_, _<_}
 use native.Mathlib.Nat.{zero-add}
 use native.Mathlib.Omega.{arith}
 use mathlib.Core.Path.{_≡_, refl, sym, ap, _∙_, subst}
-use mathlib.Core.Logic.{_≢_, _⊎_, inl, inr}
 use mathlib.Core.Bool.{Bool, true, false, cond, _||_, _&&_, or-false, or-assoc}
 use mathlib.Core.List.{List, [], _∷_, _++_}
 use lib.Dec.{eqb}
-use lib.ListN.{length, getD, replicate, getD-replicate}
+use lib.ListN.{getD-replicate}
 use lib.IntN.{pos}
 use lib.Signed.{ltZ}
 use borrow.Author.Tests.{eqb-true, eqb-false}
 use Rattle.kernel.specs.declared.clock.Clock.{Clock}
 use Rattle.kernel.specs.declared.units.Rate.{Rate}
 use Rattle.kernel.specs.declared.records.Kernel.{Kernel}
-use Rattle.kernel.specs.Places.{poolPlace}
 use Rattle.kernel.specs.Records.{begun, ended}
-use Rattle.kernel.specs.Tables.{threadAt, counterAt}
+use Rattle.kernel.specs.Tables.{counterAt}
 use Rattle.kernel.specs.Units.{frequencyOf, frequencyFits}
 use Rattle.kernel.specs.Walk.{bit}
 use Rattle.kernel.specs.Waiters.{firstReady}
 use Rattle.kernel.proofs.Cases.{split, same-or, chosen}
-use Rattle.kernel.proofs.TablesLaws.{Sized, wokenAt, finishedAt}
 use Rattle.library.specs.declared.calls.Step.{Step}
 use Rattle.library.specs.declared.sizes.Sizes.{Sizes}
 use Rattle.library.specs.declared.tables.Tables.{Tables}
@@ -32,25 +29,23 @@ use Rattle.library.specs.declared.fresh.Made.{Made}
 use Rattle.library.specs.Fresh.{freshTables, made}
 use Rattle.library.specs.Sizes.{sizesFit, noSizes}
 use Rattle.library.specs.Settling.{isSettled, settled}
-use Rattle.library.specs.Tables.{blankPool, opened, closed, withKernel}
-use Rattle.rules.specs.Hanging.{hangsTogether}
+use Rattle.library.specs.Tables.{blankPool, opened, closed}
 use Rattle.steps.specs.declared.stepping.Outcome.{Outcome}
 use Rattle.steps.specs.declared.stepping.Stepped.{Stepped}
-use Rattle.steps.specs.Refusal.{refusalOf}
 use Rattle.steps.specs.Stepping.{maskOf, clockAfter, budgetOf, outcomeOf, doneWith, stepped}
-use Rattle.steps.proofs.StepLaws.{step-code, step-refused, Untouched}
-use Rattle.promises.specs.Run.{ran, ranOn}
+use Rattle.steps.proofs.StepLaws.{step-code, step-refused}
+use Rattle.promises.specs.Run.{ran}
 use Rattle.promises.specs.Answers.{step-done}
 use Rattle.promises.specs.Refusals.{isAccepted}
-use Rattle.promises.specs.Good.{Good, HangTogether}
+use Rattle.promises.specs.Good.{HangTogether}
 use Rattle.promises.specs.Hanging.{test-hangs, all-blank, made-hangs}
 use Rattle.promises.specs.Accepting.{Accepted, refusal-none}
 use Rattle.promises.specs.Story.{Event, tick, woke, endWith, sleepIn, countOff, signalAt, takeAt, endStep, isWoke, isTick, countIn}
-use Rattle.promises.specs.Chain.{Chain, Sound, stop, begins, chain-then}
+use Rattle.promises.specs.Chain.{Chain, stop, begins, chain-then}
 use Rattle.promises.specs.Owed.{isSignal}
-use Rattle.promises.specs.Moving.{Chained, marksOf, marks-count, after}
-use Rattle.promises.specs.Whole.{PlantSized, Whole, Done, good-whole, whole-good, whole-sized, kernel-done}
-use Rattle.promises.specs.KernelActs.{nil-right, callsOf, callThen, calls-append, calledFor, Acts}
+use Rattle.promises.specs.Moving.{Chained, marksOf, after}
+use Rattle.promises.specs.Whole.{PlantSized, Whole, good-whole, whole-good, whole-sized, kernel-done}
+use Rattle.promises.specs.KernelActs.{nil-right, callsOf, calls-append, calledFor, Acts}
 use Rattle.promises.specs.Acts.{step-acts}
 use Rattle.promises.specs.Settles.{Settled, settle-ends}
 use Rattle.promises.specs.Flags.{isEnded, isEndStep, someIn, chain-woken, chain-finished, maskBit, mask-bit}

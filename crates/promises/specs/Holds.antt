@@ -1,55 +1,26 @@
--- The rule of ONE reference, kept by every operation of the kernel part; as for the counters, no other reference's rule is needed.
+-- The rule of ONE reference, kept by every move of the kernel part; as for the counters, no other reference's rule is needed.
 -- Who is made ready leaves its reference, who is suspended on an empty one joins it, and nobody else's wait changes.
 use Prim.Native.Nat.{ℕ, _≤_, _<_}
 use native.Mathlib.Omega.{arith}
 use mathlib.Core.Path.{_≡_, refl, sym, ap, _∙_}
-use mathlib.Core.Logic.{_≢_, inl, inr}
+use mathlib.Core.Logic.{_≢_}
 use mathlib.Core.Bool.{true, false, cond}
 use lib.Dec.{eqb}
 use lib.ListN.{length}
-use lib.Bits.{bitAnd}
-use lib.IntN.{ℤ, pos}
-use lib.Signed.{ltZ}
+use lib.IntN.{ℤ}
 use borrow.Author.Tests.{eqb-true, eq-eqb, ne-eqb}
-use Rattle.kernel.specs.declared.time.SystemTime.{SystemTime}
-use Rattle.kernel.specs.declared.time.Interval.{Interval}
 use Rattle.kernel.specs.declared.records.Call.{Call}
 use Rattle.kernel.specs.declared.records.Thread.{Thread}
 use Rattle.kernel.specs.declared.records.Kernel.{Kernel}
-use Rattle.kernel.specs.Numbers.{nobody, nowhere, ready, suspended, sleeping, queued, awaiting, ok, timedOut, wasReset}
-use Rattle.kernel.specs.Tables.{threadAt, counterAt, holderAt, withThread, withCounter}
-use Rattle.kernel.specs.Moves.{woken, slept, finished, blocked}
-use Rattle.kernel.specs.Waiters.{queuedAt, firstWaiter}
-use Rattle.kernel.specs.Queue.{enqueued, releasedFirst, releasedAll}
-use Rattle.kernel.specs.Semaphore.{taken, waited, signalled, resetTo}
-use Rattle.kernel.specs.Reference.{suspendedOn, resumed}
-use Rattle.kernel.specs.Delay.{sleptFor, sleptUntil}
-use Rattle.kernel.specs.Event.{withPending, flagged, tookFlags, isMet, eventSignalled, eventWaited}
+use Rattle.kernel.specs.Numbers.{nobody, ready, suspended, timedOut}
+use Rattle.kernel.specs.Tables.{threadAt, holderAt, withThread, withCounter}
+use Rattle.kernel.specs.Moves.{woken, slept, finished}
 use Rattle.kernel.specs.Ticking.{countedOff, ticked}
-use Rattle.kernel.proofs.Cases.{split, same-or, in-or-out, chosen, first-fails, both-means}
+use Rattle.kernel.proofs.Cases.{split, same-or, in-or-out, chosen, first-fails}
 use Rattle.kernel.proofs.TablesLaws.{thread-blank, thread-kept}
-use Rattle.kernel.proofs.WaitersLaws.{first-waiter-cases}
-use Rattle.kernel.proofs.MovesLaws.{
-  suspendedAt,
-  wake-others,
-  wake-holder,
-  sleep-past,
-  sleep-row,
-  sleep-others,
-  sleep-holder,
-  sleep-holder-others,
-  sleep-sizes,
-  finish-kept,
-  finish-references,
-  block-cases,
-}
-use Rattle.kernel.proofs.QueueLaws.{release-all-keeps}
-use Rattle.kernel.proofs.SemaphoreLaws.{wait-above, wait-not-above}
+use Rattle.kernel.proofs.MovesLaws.{suspendedAt, wake-others, wake-holder, sleep-past, sleep-row, sleep-others, sleep-holder, sleep-holder-others, sleep-sizes, finish-kept, finish-references}
 use Rattle.kernel.proofs.ReferenceLaws.{wake-unsuspended}
 use Rattle.kernel.proofs.TickingLaws.{tick-keeps}
-use Rattle.kernel.proofs.EventLaws.{event-wait-cases}
-use Rattle.library.specs.Binary.{binarySignalled}
-use Rattle.promises.specs.Tallies.{Waiter}
 
 -- "Reference r holds i exactly if i is suspended on r", of n threads, as an equation of two tests; and it holds no other
 pub record Holds (n r : ℕ) (k : Kernel) : Type 0 where
@@ -154,64 +125,7 @@ finish-holds k i m d n r =
 pub counter-holds : (k : Kernel) (p : ℕ) (c : ℤ) (n r : ℕ) → Holds n r k → Holds n r (withCounter k p c)
 counter-holds k p c n r = same-holds k (withCounter k p c) n r (λ j. refl) refl
 
--- ---- queues and semaphores wake who is queued, so nobody who is suspended
-
-unsuspended : (p : ℕ) (t : Thread) → queuedAt p t ≡ true → eqb (t .state) suspended ≡ false
-unsuspended p t e = rw (eqb-true (t .state) queued (both-means (eqb (t .state) queued) (eqb (t .place) p) e .0))
-
-module _ (k : Kernel) (n p : ℕ) (m : ℤ) (h r : ℕ) where
-  pub release-first-holds : length (k .threads) ≤ nobody → Holds h r k → Holds h r (releasedFirst k n p m)
-  unfolding releasedFirst
-  release-first-holds l =
-      elim (first-waiter-cases k n p) [
-        | inl c ↦ wake-unsuspended-holds k (firstWaiter k n p) m h r (unsuspended p (threadAt k (firstWaiter k n p)) (c .passes))
-        | inr c ↦ rw (c .0) (wake-unsuspended-holds k nobody m h r (rw (thread-blank k nobody l)))
-      ]
-
-  pub release-all-holds : Holds h r k → Holds h r (releasedAll k n p m)
-  release-all-holds =
-      release-all-keeps k n p m (Holds h r) (λ i l j e. wake-unsuspended-holds j i m h r (unsuspended p (threadAt j i) e))
-
-module _ (k : Kernel) (n p h r : ℕ) where
-  pub signal-holds : length (k .threads) ≤ nobody → Holds h r k → Holds h r (signalled k n p)
-  unfolding signalled
-  signal-holds l g =
-      chosen (Holds h r) (ltZ (counterAt k p) (pos 0)) (λ e. release-first-holds k n p ok h r l g) (λ e. counter-holds k p _ h r g)
-
-  pub binary-holds : length (k .threads) ≤ nobody → Holds h r k → Holds h r (binarySignalled k n p)
-  unfolding binarySignalled
-  binary-holds l g = chosen (Holds h r) (ltZ (counterAt k p) (pos 1)) (λ e. signal-holds l g) (λ e. g)
-
-  pub reset-holds : (c : ℤ) → Holds h r k → Holds h r (resetTo k n p c)
-  unfolding resetTo
-  reset-holds c g = counter-holds (releasedAll k n p wasReset) p c h r (release-all-holds k n p wasReset h r g)
-
-module _ (k : Kernel) (i p : ℕ) (call : Call) (n r : ℕ) (w : Waiter k n i) where
-  -- a wait on no reference
-  pub block-holds : (s : ℕ) → eqb s suspended ≡ false → Holds n r k → Holds n r (blocked k i s p call)
-  block-holds s e g =
-      block-cases k i s p call (Holds n r) (λ z. finish-holds k i timedOut 0 n r g)
-      (λ z. sleep-unsuspended-holds k i p call n r (w .is-ready) s e g)
-
-  pub enqueue-holds : Holds n r k → Holds n r (enqueued k i p call)
-  unfolding enqueued
-  enqueue-holds = block-holds queued refl
-
-  pub wait-holds : Holds n r k → Holds n r (waited k i p call)
-  unfolding taken
-  wait-holds g =
-      split (ltZ (pos 0) (counterAt k p))
-      (λ e. rw (wait-above k i p call e) (finish-holds (taken k p) i ok 0 n r (counter-holds k p _ n r g)))
-      (λ e. rw (wait-not-above k i p call e) (block-holds queued refl g))
-
-  -- "suspend on a held reference" is refused
-  pub suspend-holds : p < length (k .references) → holderAt k p ≡ nobody → Holds n r k → Holds n r (suspendedOn k i p call)
-  unfolding suspendedOn
-  suspend-holds b free g =
-      block-cases k i suspended p call (Holds n r) (λ z. finish-holds k i timedOut 0 n r g)
-      (λ z. sleep-holds k i p call n r (w .is-ready) (w .few) (w .within) (w .rows) b free g)
-
--- ---- tick, resume, events, plain sleeps
+-- ---- a row, and the tick
 
 pub row-holds : (k : Kernel) (n r i : ℕ) (t : Thread) → suspendedAt r t ≡ suspendedAt r (threadAt k i) → Holds n r k → Holds n r (withThread k i t)
 row-holds k n r i t e = same-holds k (withThread k i t) n r (thread-kept k i t (suspendedAt r) e) refl
@@ -220,38 +134,3 @@ pub tick-holds : (k : Kernel) (n r : ℕ) → n ≤ nobody → Holds n r k → H
 tick-holds k n r few =
     tick-keeps k n (Holds n r) (λ i l h. wake-holds h i timedOut n r few l)
     (λ i h. row-holds h n r i (countedOff (threadAt h i)) refl)
-
-pub resume-holds : (k : Kernel) (o : ℕ) (m : ℤ) (n r : ℕ) → n ≤ nobody → length (k .threads) ≤ nobody
-    → (holderAt k o ≢ nobody → holderAt k o < n) → Holds n r k → Holds n r (resumed k o m)
-unfolding resumed
-resume-holds k o m n r few l h g =
-    same-or (holderAt k o) nobody
-    (λ e. rw e (wake-unsuspended-holds k nobody m n r (rw (thread-blank k nobody l)) g))
-    (λ d. wake-holds k (holderAt k o) m n r few (h d) g)
-
-pub take-holds : (k : Kernel) (i mask n r : ℕ) → Holds n r k → Holds n r (tookFlags k i mask)
-unfolding tookFlags
-take-holds k i mask n r g =
-    finish-holds _ i ok (bitAnd (threadAt k i .pending) mask) n r (row-holds k n r i (withPending (threadAt k i) _) refl g)
-
-pub event-signal-holds : (k : Kernel) (i mask n r : ℕ) → n ≤ nobody → i < n → Holds n r k → Holds n r (eventSignalled k i mask)
-unfolding eventSignalled
-event-signal-holds k i mask n r few h g =
-    let told = withThread k i (flagged (threadAt k i) mask) in
-    let kept = row-holds k n r i (flagged (threadAt k i) mask) refl g in
-    chosen (Holds n r) (isMet (flagged (threadAt k i) mask))
-    (λ e. take-holds (woken told i ok) i (threadAt k i .awaited) n r (wake-holds told i ok n r few h kept))
-    (λ e. kept)
-
-pub event-wait-holds : (k : Kernel) (i : ℕ) (call : Call) (n r : ℕ) → Waiter k n i → Holds n r k → Holds n r (eventWaited k i call)
-event-wait-holds k i call n r w g =
-    event-wait-cases k i call (Holds n r) (take-holds k i (call .operand) n r g) (block-holds k i nowhere call n r w awaiting refl g)
-
-pub sleep-for-holds : (k : Kernel) (i : ℕ) (d : Interval) (n r : ℕ) → Waiter k n i → Holds n r k → Holds n r (sleptFor k i d)
-unfolding sleptFor
-sleep-for-holds k i d n r w g = sleep-unsuspended-holds k i nowhere _ n r (w .is-ready) sleeping refl g
-
-pub sleep-until-holds : (k : Kernel) (i : ℕ) (now until : SystemTime) (n r : ℕ) → Waiter k n i → Holds n r k
-    → Holds n r (sleptUntil k i now until)
-unfolding sleptUntil
-sleep-until-holds k i now until n r w g = sleep-unsuspended-holds k i nowhere _ n r (w .is-ready) sleeping refl g

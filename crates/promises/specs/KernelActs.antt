@@ -1,76 +1,54 @@
 -- Every accepted step of kinds 1 to 14 is a chain of moves that leaves the tables whole.
-use Prim.Native.Nat.{ℕ, zero, suc, _+_, _≤_, _<_}
+use Prim.Native.Nat.{ℕ, suc, _+_, _≤_, _<_}
 use native.Mathlib.Omega.{arith}
-use mathlib.Core.Path.{_≡_, refl, sym, ap, _∙_, subst}
-use mathlib.Core.Logic.{_≢_, _⊎_, inl, inr}
+use mathlib.Core.Path.{_≡_, refl, sym, ap, _∙_}
+use mathlib.Core.Logic.{_≢_, inl, inr}
 use mathlib.Core.Bool.{Bool, true, false, cond, _||_}
 use mathlib.Core.List.{List, [], _∷_, _++_}
 use lib.Dec.{eqb, leb, ltb}
 use lib.Bits.{bitAnd}
-use lib.IntN.{ℤ, pos}
+use lib.IntN.{pos}
 use lib.Signed.{ltZ}
 use mir.Syntax.{w32}
 use mir.Val.{toZ}
-use borrow.Author.Tests.{eqb-true, eqb-false, eq-eqb, ne-eqb, leb-true, ltb-true, le-ltb}
-use Rattle.kernel.specs.declared.time.SystemTime.{SystemTime}
+use borrow.Author.Tests.{eqb-true, eqb-false, eq-eqb, ne-eqb, leb-true, le-ltb}
 use Rattle.kernel.specs.declared.clock.Clock.{Clock}
 use Rattle.kernel.specs.declared.records.Call.{Call}
-use Rattle.kernel.specs.declared.records.Thread.{Thread}
 use Rattle.kernel.specs.declared.records.Kernel.{Kernel}
 use Rattle.kernel.specs.Numbers.{nobody, nowhere, ready, queued, suspended, sleeping, awaiting, ok, immediate, infinite}
-use Rattle.kernel.specs.Places.{semaphorePlace, queuePlace, poolPlace}
+use Rattle.kernel.specs.Places.{queuePlace, poolPlace}
 use Rattle.kernel.specs.Time.{differed}
 use Rattle.kernel.specs.Tables.{threadAt, counterAt, holderAt}
 use Rattle.kernel.specs.Moves.{slept, finished, awaitedBy}
-use Rattle.kernel.specs.Waiters.{isReady, firstReady}
+use Rattle.kernel.specs.Waiters.{firstReady}
 use Rattle.kernel.specs.Queue.{enqueued, releasedFirst, releasedAll}
 use Rattle.kernel.specs.Semaphore.{waited, signalled, resetTo}
 use Rattle.kernel.specs.Event.{eventSignalled, eventWaited}
 use Rattle.kernel.specs.Reference.{suspendedOn, resumed}
 use Rattle.kernel.specs.Delay.{sleptFor, sleptUntil}
-use Rattle.kernel.proofs.Cases.{split, same-or, chosen, contrary, both-means}
+use Rattle.kernel.proofs.Cases.{split, chosen, contrary, both-means}
 use Rattle.kernel.proofs.TablesLaws.{used-le-given}
 use Rattle.kernel.proofs.WaitersLaws.{first-ready-cases}
-use Rattle.kernel.proofs.MovesLaws.{suspendedAt}
 use Rattle.library.specs.declared.calls.Step.{Step}
 use Rattle.library.specs.declared.sizes.Sizes.{Sizes}
 use Rattle.library.specs.declared.tables.Plant.{Plant}
 use Rattle.library.specs.Binary.{binarySignalled}
-use Rattle.library.specs.Calls.{keepsOperand, callOf, objectOf, operandOf}
+use Rattle.library.specs.Calls.{callOf, objectOf, operandOf}
 use Rattle.library.specs.Acting.{messageOf, waitBegun, effected, kernelWaits, actedOnKernel}
 use Rattle.library.specs.Tables.{withKernel}
 use Rattle.library.proofs.Signed.{lower}
 use Rattle.rules.specs.RowRules.{callLimit, waitState, waitPlace}
-use Rattle.rules.specs.PlaceRules.{inUse}
-use Rattle.rules.specs.PoolRules.{isPromised}
 use Rattle.steps.specs.Refusal.{objectLimit, isSpan}
 use Rattle.promises.specs.Tests.{either-means, neither-means}
-use Rattle.promises.specs.Good.{CallKind, GoodSizes, GoodThread, HangTogether}
+use Rattle.promises.specs.Good.{CallKind, GoodSizes}
 use Rattle.promises.specs.Hanging.{test-hangs}
 use Rattle.promises.specs.Tallies.{Tallies}
 use Rattle.promises.specs.CounterRule.{semaphore-place, queue-place}
 use Rattle.promises.specs.Accepting.{Accepted, waits-thread}
 use Rattle.promises.specs.Story.{Event, tick, signalAt, takeAt, sleepIn, woke, endWith, countOff, endStep, countIn, isSlept, Idle, CallFits}
-use Rattle.promises.specs.Chain.{Sleeper, Sound}
+use Rattle.promises.specs.Chain.{Sleeper}
 use Rattle.promises.specs.Owed.{isSignal, isTake}
-use Rattle.promises.specs.Moving.{
-  Chained,
-  Caller,
-  after,
-  finish-chained,
-  tick-chained,
-  sleep-chained,
-  block-chained,
-  release-first-chained,
-  release-all-chained,
-  signal-chained,
-  binary-chained,
-  reset-chained,
-  wait-chained,
-  resume-chained,
-  event-wait-chained,
-  event-signal-chained,
-}
+use Rattle.promises.specs.Moving.{Chained, Caller, after, finish-chained, tick-chained, sleep-chained, block-chained, release-first-chained, release-all-chained, signal-chained, binary-chained, reset-chained, wait-chained, resume-chained, event-wait-chained, event-signal-chained}
 use Rattle.promises.specs.Whole.{Whole, Done, kernel-done, Stepper, idle-free, stepper-caller, stepper-kept}
 
 -- the ticks, signals and ends of steps among marks, before what comes after

@@ -14,7 +14,6 @@ pub mod CounterRule
 pub mod Accepting
 pub mod Holds
 pub mod ReferenceRule
-pub mod KernelSteps
 pub mod Story
 pub mod Chain
 pub mod Moving

@@ -4,17 +4,16 @@ use Prim.Native.Nat.{ℕ, zero, suc, _+_, _≤_, _<_}
 use native.Mathlib.Nat.{zero-add}
 use native.Mathlib.Omega.{arith}
 use mathlib.Core.Path.{_≡_, refl, sym, ap, _∙_}
-use mathlib.Core.Logic.{_≢_, _⊎_, inl, inr}
-use mathlib.Core.Bool.{Bool, true, false, cond, _||_}
+use mathlib.Core.Logic.{_≢_, _⊎_}
+use mathlib.Core.Bool.{Bool, true, false, cond}
 use mathlib.Core.List.{List, [], _∷_, _++_}
 use lib.Dec.{eqb}
 use lib.IntN.{ℤ, pos}
-use borrow.Author.Tests.{eqb-true, eqb-false, eq-eqb, ne-eqb}
+use borrow.Author.Tests.{eqb-false, eq-eqb, ne-eqb}
 use Rattle.kernel.specs.declared.records.Call.{Call}
 use Rattle.kernel.specs.declared.records.Thread.{Thread}
 use Rattle.kernel.specs.declared.records.Kernel.{Kernel}
 use Rattle.kernel.specs.Numbers.{ready, infinite, ok, timedOut, wasReset}
-use Rattle.kernel.specs.Walk.{bit}
 use Rattle.kernel.specs.Tables.{threadAt}
 use Rattle.kernel.specs.Moves.{readied, answered, ticksOf}
 use Rattle.kernel.specs.Event.{withPending}
@@ -25,58 +24,8 @@ use Rattle.library.specs.declared.sizes.Sizes.{Sizes}
 use Rattle.library.specs.Settling.{isBoxCall}
 use Rattle.rules.specs.RowRules.{isMailing, waitState}
 use Rattle.promises.specs.Good.{CallKind}
-use Rattle.promises.specs.Story.{
-  Event,
-  woke,
-  sleepIn,
-  endWith,
-  tick,
-  countOff,
-  signalAt,
-  takeAt,
-  endStep,
-  isOf,
-  isWoke,
-  isCounted,
-  isTick,
-  countIn,
-  Follows,
-  asleepIn,
-  Story,
-  rests,
-  apart,
-  rouses,
-  dozes,
-  closes,
-  counts,
-  marks,
-  Again,
-  Idle,
-  Later,
-  kind-some,
-  apart-woke,
-  story-sleeps,
-  waits-unready,
-}
-use Rattle.promises.specs.Chain.{
-  Chain,
-  stop,
-  wakes,
-  passes,
-  raises,
-  ages,
-  sleeps,
-  takes,
-  sets,
-  finishes,
-  hands,
-  answers,
-  flags,
-  begins,
-  tickEvent,
-  tickThen,
-  queued-unready,
-}
+use Rattle.promises.specs.Story.{Event, woke, sleepIn, endWith, tick, countOff, signalAt, takeAt, endStep, isOf, isWoke, isCounted, isTick, countIn, Follows, asleepIn, Story, rests, apart, rouses, dozes, closes, counts, marks, Again, Idle, kind-some, apart-woke, story-sleeps, waits-unready}
+use Rattle.promises.specs.Chain.{Chain, stop, wakes, passes, raises, ages, sleeps, takes, sets, finishes, hands, answers, flags, begins, tickEvent, tickThen, queued-unready}
 use Rattle.promises.specs.Flags.{someIn}
 
 -- ---- a. a sleep with a timeout ends

@@ -1,11 +1,11 @@
 -- Every operation of the kernel part is a chain of moves. With each stands what it is called for: its tick, its signal, the unit that it
 -- takes, the sleep that it begins; wakings, ticks counted off and finished calls follow from these.
-use Prim.Native.Nat.{ℕ, zero, suc, _+_, _-_, _≤_, _<_}
+use Prim.Native.Nat.{ℕ, zero, suc, _+_, _-_, _<_}
 use native.Mathlib.Nat.{zero-add}
 use native.Mathlib.Omega.{arith}
 use mathlib.Core.Path.{_≡_, refl, sym, ap, _∙_}
 use mathlib.Core.Logic.{_≢_, _⊎_, inl, inr}
-use mathlib.Core.Bool.{Bool, true, false, cond, not, _&&_}
+use mathlib.Core.Bool.{Bool, true, false, cond}
 use mathlib.Core.List.{List, [], _∷_, _++_}
 use lib.Dec.{eqb}
 use lib.ListN.{length, set}
@@ -13,61 +13,33 @@ use lib.Seq.{set-set}
 use lib.Bits.{bitAnd, bitOr}
 use lib.IntN.{ℤ, pos, negsuc}
 use lib.Signed.{ltZ}
-use borrow.Author.Tests.{eqb-true, eqb-false, eq-eqb, ne-eqb, ltb-true, lt-ltb}
-use Rattle.kernel.specs.declared.records.Answer.{Answer}
+use borrow.Author.Tests.{eqb-true, eqb-false, eq-eqb, ltb-true, lt-ltb}
 use Rattle.kernel.specs.declared.records.Call.{Call}
 use Rattle.kernel.specs.declared.records.Thread.{Thread}
 use Rattle.kernel.specs.declared.records.Kernel.{Kernel}
-use Rattle.kernel.specs.Numbers.{nobody, nowhere, ready, queued, suspended, sleeping, awaiting, ok, timedOut, wasReset, immediate}
-use Rattle.kernel.specs.Counters.{up, down}
-use Rattle.kernel.specs.Tables.{usedRows, threadAt, counterAt, holderAt, withThread, withCounter, withWoken, withAnswer}
-use Rattle.kernel.specs.Moves.{readied, woken, slept, finished, blocked, takenOff, awaitedBy}
+use Rattle.kernel.specs.Numbers.{nobody, nowhere, ready, queued, suspended, awaiting, ok, timedOut, wasReset, immediate}
+use Rattle.kernel.specs.Tables.{threadAt, counterAt, holderAt, withThread, withWoken}
+use Rattle.kernel.specs.Moves.{readied, woken, slept, finished, blocked, takenOff}
 use Rattle.kernel.specs.Waiters.{queuedAt, firstWaiter}
 use Rattle.kernel.specs.Queue.{enqueued, releasedFirst, releasedAll}
 use Rattle.kernel.specs.Semaphore.{taken, waited, signalled, resetTo}
-use Rattle.kernel.specs.Reference.{suspendedOn, resumed}
+use Rattle.kernel.specs.Reference.{resumed}
 use Rattle.kernel.specs.Event.{withPending, flagged, tookFlags, isMet, eventSignalled, eventWaited}
 use Rattle.kernel.specs.Ticking.{ticked}
-use Rattle.kernel.proofs.Cases.{split, same-or, chosen, contrary, both-means, both-true}
-use Rattle.kernel.proofs.WalkLaws.{First}
-use Rattle.kernel.proofs.CountersLaws.{debt, debt-some}
+use Rattle.kernel.proofs.Cases.{split, same-or, contrary, both-means, both-true}
+use Rattle.kernel.proofs.CountersLaws.{debt-some}
 use Rattle.kernel.proofs.TablesLaws.{Sized, sized-kept, thread-sizes, thread-same, used-all, used-le-given}
-use Rattle.kernel.proofs.MovesLaws.{wake-row, wake-past, wake-sizes, block-cases, finish-interrupt}
-use Rattle.kernel.proofs.WaitersLaws.{waits, waiters, queued-place, first-waiter-cases, first-waiter-counted}
-use Rattle.kernel.proofs.QueueLaws.{release-first-none, release-all-keeps, release-all-empties}
+use Rattle.kernel.proofs.MovesLaws.{wake-row, wake-past, wake-sizes, finish-interrupt}
+use Rattle.kernel.proofs.WaitersLaws.{queued-place, first-waiter-cases, first-waiter-counted}
+use Rattle.kernel.proofs.QueueLaws.{release-all-keeps, release-all-empties}
 use Rattle.library.specs.declared.sizes.Sizes.{Sizes}
 use Rattle.library.specs.Binary.{binarySignalled}
-use Rattle.library.specs.Signs.{same}
 use Rattle.rules.specs.RowRules.{waitState, waitPlace}
-use Rattle.rules.specs.PlaceRules.{inUse}
 use Rattle.rules.specs.PoolRules.{isPromised}
 use Rattle.promises.specs.Good.{GoodSizes, GoodThread, CallKind}
 use Rattle.promises.specs.Tallies.{Tallies}
-use Rattle.promises.specs.Story.{Event, woke, sleepIn, endWith, tick, countOff, signalAt, takeAt, endStep, countIn, CallFits, Follows, each-kind}
-use Rattle.promises.specs.Chain.{
-  Waken,
-  Sleeper,
-  Finisher,
-  Hander,
-  Setter,
-  Chain,
-  stop,
-  wakes,
-  passes,
-  raises,
-  ages,
-  sleeps,
-  takes,
-  sets,
-  finishes,
-  hands,
-  answers,
-  flags,
-  tickEvent,
-  tickThen,
-  chain-then,
-  queued-unready,
-}
+use Rattle.promises.specs.Story.{Event, woke, sleepIn, endWith, tick, countOff, signalAt, takeAt, endStep, countIn, Follows, each-kind}
+use Rattle.promises.specs.Chain.{Waken, Sleeper, Chain, stop, wakes, passes, raises, ages, sleeps, takes, sets, finishes, answers, flags, tickEvent, tickThen, chain-then, queued-unready}
 
 -- what a move is called for, before what comes after
 abbrev pub markThen : Event → List Event → List Event

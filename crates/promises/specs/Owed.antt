@@ -1,87 +1,46 @@
 -- What a pool owes: the units of its semaphore and the objects that it has promised. A signal owes one more, a unit taken one less,
 -- and no other move changes it; so the free list, which a free and an add lengthen and a taking shortens, has that length.
-use Prim.Native.Nat.{ℕ, zero, suc, _+_, _-_, _≤_, _<_}
+use Prim.Native.Nat.{ℕ, zero, suc, _+_, _-_, _<_}
 use native.Mathlib.Omega.{arith}
 use mathlib.Core.Path.{_≡_, refl, sym, ap, _∙_}
-use mathlib.Core.Logic.{_≢_, _⊎_, inl, inr}
-use mathlib.Core.Bool.{Bool, true, false, cond, _&&_, and-true}
+use mathlib.Core.Logic.{_≢_}
+use mathlib.Core.Bool.{Bool, true, false, _&&_, and-true}
 use mathlib.Core.List.{List, [], _∷_}
 use lib.Dec.{eqb}
 use lib.ListN.{length, getD}
 use lib.IntN.{ℤ, pos, negsuc, +ℤ-one, -ℤ-one}
 use lib.Signed.{ltZ}
-use borrow.Author.Tests.{eqb-true, eqb-false, eq-eqb, ne-eqb, ltb-true, ltb-false, le-ltb}
-use Rattle.kernel.specs.declared.records.Answer.{Answer}
+use borrow.Author.Tests.{eqb-true, eq-eqb, ne-eqb, ltb-false, le-ltb}
 use Rattle.kernel.specs.declared.records.Call.{Call}
 use Rattle.kernel.specs.declared.records.Thread.{Thread}
 use Rattle.kernel.specs.declared.records.Kernel.{Kernel}
-use Rattle.kernel.specs.Numbers.{nobody, ready, queued, ok, timedOut, wasReset}
-use Rattle.kernel.specs.Records.{begun, ended}
+use Rattle.kernel.specs.Numbers.{nobody, ready, queued, ok, timedOut}
 use Rattle.kernel.specs.Counters.{up, down}
 use Rattle.kernel.specs.Places.{poolPlace}
 use Rattle.kernel.specs.Walk.{bit, countOf}
-use Rattle.kernel.specs.Tables.{usedRows, threadAt, counterAt, withThread, withCounter, withAnswer}
+use Rattle.kernel.specs.Tables.{threadAt, counterAt, withThread, withCounter}
 use Rattle.kernel.specs.Moves.{readied, asleep, answered, woken, slept, finished}
 use Rattle.kernel.specs.Waiters.{isReady, queuedAt}
 use Rattle.kernel.specs.Semaphore.{taken}
 use Rattle.kernel.specs.Event.{withPending}
 use Rattle.kernel.specs.Ticking.{countedOff, ticked}
-use Rattle.kernel.proofs.Cases.{split, same-or, in-or-out, contrary, both-means, first-fails, second-fails}
+use Rattle.kernel.proofs.Cases.{split, same-or, contrary, both-means, second-fails}
 use Rattle.kernel.proofs.WalkLaws.{First, count-agree, count-change, count-some}
-use Rattle.kernel.proofs.CountersLaws.{debt, debt-below, up-exact, down-not-above}
-use Rattle.kernel.proofs.TablesLaws.{Sized, used-all, thread-kept, counter-same, counter-other}
-use Rattle.kernel.proofs.MovesLaws.{
-  wake-row,
-  wake-others,
-  wake-counter,
-  wake-counter-others,
-  wake-sizes,
-  sleep-row,
-  sleep-others,
-  sleep-counter,
-  finish-row,
-  finish-others,
-  finish-counters,
-}
+use Rattle.kernel.proofs.CountersLaws.{debt-below, up-exact, down-not-above}
+use Rattle.kernel.proofs.TablesLaws.{used-all, thread-kept, counter-same, counter-other}
+use Rattle.kernel.proofs.MovesLaws.{wake-row, wake-others, wake-counter, wake-counter-others, wake-sizes, sleep-row, sleep-others, sleep-counter, finish-row, finish-others, finish-counters}
 use Rattle.kernel.proofs.WaitersLaws.{waits, queued-place}
 use Rattle.kernel.proofs.TickingLaws.{aged, aged-last, aged-counted, tick-row, tick-keeps}
 use Rattle.library.specs.declared.sizes.Sizes.{Sizes}
 use Rattle.library.specs.Signs.{same}
 use Rattle.rules.specs.RowRules.{callLimit, waitState, waitPlace}
-use Rattle.rules.specs.PlaceRules.{inUse}
 use Rattle.rules.specs.PoolRules.{isPromised, promisedBy, promisedCount}
 use Rattle.promises.specs.Good.{GoodSizes, GoodThread}
-use Rattle.promises.specs.Tests.{same-means}
 use Rattle.promises.specs.Tallies.{Tallies, wake-tallies, row-tallies}
 use Rattle.promises.specs.CounterRule.{pool-place}
 use Rattle.promises.specs.PoolKept.{stock}
 use Rattle.promises.specs.Story.{Event, woke, sleepIn, endWith, tick, countOff, signalAt, takeAt, endStep, countIn, each-kind, waits-unready}
-use Rattle.promises.specs.Chain.{
-  Waken,
-  Sleeper,
-  Finisher,
-  Hander,
-  Setter,
-  Sound,
-  Chain,
-  stop,
-  wakes,
-  passes,
-  raises,
-  ages,
-  sleeps,
-  takes,
-  sets,
-  finishes,
-  hands,
-  answers,
-  flags,
-  begins,
-  tickEvent,
-  tickThen,
-  chain-sound,
-  queued-unready,
-}
+use Rattle.promises.specs.Chain.{Waken, Sleeper, Finisher, Hander, Sound, Chain, stop, wakes, passes, raises, ages, sleeps, takes, sets, finishes, hands, answers, flags, begins, tickEvent, tickThen, chain-sound, queued-unready}
 
 abbrev pub isSignal : ℕ → Event → Bool
 isSignal p (woke i m) = false
@@ -280,14 +239,14 @@ module _ (z : Sizes) (g : GoodSizes z) (q : ℕ) (there : q < z .pools) where
       omega (
         arith,
         tick-keeps k n (λ h. (stock (counterAt h at) ≡ stock (counterAt k at)) × ((at < length (h .counters)) × Tallies n at h))
-        (λ i l h p. (
-          wake-stock h i timedOut l (p .1 .0) (p .1 .1) ∙ p .0,
-          (rw (wake-sizes h i timedOut .counters) (p .1 .0), wake-tallies h i timedOut n at l (p .1 .1)),
-        ))
-        (λ i h p. (p .0, (p .1 .0, row-tallies h n at i (countedOff (threadAt h i)) (λ r. refl) (p .1 .1))))
-        (refl, x) .0,
+            (λ i l h p. (
+              wake-stock h i timedOut l (p .1 .0) (p .1 .1) ∙ p .0,
+              (rw (wake-sizes h i timedOut .counters) (p .1 .0), wake-tallies h i timedOut n at l (p .1 .1)),
+            ))
+            (λ i h p. (p .0, (p .1 .0, row-tallies h n at i (countedOff (threadAt h i)) (λ r. refl) (p .1 .1))))
+            (refl, x) .0,
         count-agree (λ i. promisedBy q (threadAt (ticked k n) i)) (λ i. promisedBy q (threadAt k i)) n
-        (λ i l. ap (promisedBy q) (tick-row k n i (rw (used-all n (g .threads .1)) l)) ∙ same-promise (threadAt k i) (s .rows i l)),
+            (λ i l. ap (promisedBy q) (tick-row k n i (rw (used-all n (g .threads .1)) l)) ∙ same-promise (threadAt k i) (s .rows i l)),
       )
     where
       same-promise : (t : Thread) → GoodThread z t → promisedBy q (aged t) ≡ promisedBy q t

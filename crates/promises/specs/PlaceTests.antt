@@ -20,25 +20,8 @@ use Rattle.library.specs.Sizes.{slotsAt, slotsFit, sizesFit}
 use Rattle.library.specs.Signs.{same, minus}
 use Rattle.rules.specs.PlaceRules.{inUse, counterFits, placeAgrees, queuedCount, countersFit}
 use Rattle.rules.specs.ReferenceRules.{suspendedAt, holdsRightly, isHolder, threadAgrees, holderFits, referencesFit}
-use Rattle.promises.specs.Tests.{
-  either-means,
-  either-first,
-  either-second,
-  not-of,
-  all-at,
-  all-of,
-  used-all,
-  same-means,
-  same-of,
-}
-use Rattle.promises.specs.Good.{
-  GoodSizes,
-  SemaphoreCounter,
-  QueueCounter,
-  GoodCounters,
-  SuspendedOn,
-  GoodReferences,
-}
+use Rattle.promises.specs.Tests.{either-means, either-first, either-second, not-of, all-at, all-of, used-all, same-means, same-of}
+use Rattle.promises.specs.Good.{GoodSizes, SemaphoreCounter, QueueCounter, GoodCounters, SuspendedOn, GoodReferences}
 
 -- ---- sizes
 

@@ -16,20 +16,7 @@ use Rattle.kernel.specs.Event.{isMet}
 use Rattle.kernel.proofs.Cases.{split, same-or, chosen, contrary, both-true, both-means, first-fails, second-fails}
 use Rattle.library.specs.declared.sizes.Sizes.{Sizes}
 use Rattle.library.specs.Calls.{keepsOperand}
-use Rattle.rules.specs.RowRules.{
-  callLimit,
-  callClear,
-  callSound,
-  callFits,
-  waitState,
-  waitPlace,
-  waitFits,
-  ticksFit,
-  awaitedFit,
-  nonePending,
-  flagsFit,
-  rowFits,
-}
+use Rattle.rules.specs.RowRules.{callLimit, callClear, callSound, callFits, waitState, waitPlace, waitFits, ticksFit, awaitedFit, nonePending, flagsFit, rowFits}
 use Rattle.promises.specs.Tests.{either-means, either-first, either-second, neither-means, not-of}
 use Rattle.promises.specs.Good.{CallKind, GoodThread}
 

@@ -4,9 +4,9 @@ use Prim.Native.Nat.{ℕ, zero, suc, _+_, _*_, _≤_, _<_}
 use native.Mathlib.Nat.{zero-add, suc-add}
 use native.Mathlib.Omega.{arith}
 use mathlib.Core.Path.{_≡_, refl, sym, ap, _∙_, subst}
-use mathlib.Core.Logic.{_≢_, _⊎_, inl, inr}
-use mathlib.Core.Bool.{Bool, true, false, cond, not, _&&_, _||_, and-false, or-false, or-assoc}
-use mathlib.Core.List.{List, [], _∷_, _++_}
+use mathlib.Core.Logic.{_≢_, inl, inr}
+use mathlib.Core.Bool.{Bool, true, false, not, _&&_, and-false, or-false, or-assoc}
+use mathlib.Core.List.{[], _∷_, _++_}
 use lib.Dec.{eqb}
 use lib.ListN.{length}
 use lib.IntN.{ℤ, pos}
@@ -15,13 +15,13 @@ use Rattle.kernel.specs.declared.records.Call.{Call}
 use Rattle.kernel.specs.declared.records.Thread.{Thread}
 use Rattle.kernel.specs.declared.records.Kernel.{Kernel}
 use Rattle.kernel.specs.Numbers.{nobody, ready, queued, ok, wasReset, timedOut}
-use Rattle.kernel.specs.Places.{poolPlace, writersPlace, readersPlace}
-use Rattle.kernel.specs.Walk.{bit, countOf}
+use Rattle.kernel.specs.Places.{writersPlace, readersPlace}
+use Rattle.kernel.specs.Walk.{countOf}
 use Rattle.kernel.specs.Tables.{threadAt}
-use Rattle.kernel.specs.Moves.{readied, asleep, answered, woken, slept, finished, blocked}
-use Rattle.kernel.specs.Waiters.{isReady, firstReady, firstWaiter}
+use Rattle.kernel.specs.Moves.{woken, slept, finished}
+use Rattle.kernel.specs.Waiters.{isReady, firstWaiter}
 use Rattle.kernel.specs.Queue.{enqueued, releasedFirst}
-use Rattle.kernel.proofs.Cases.{split, same-or, chosen, contrary, both-means}
+use Rattle.kernel.proofs.Cases.{split, chosen, contrary, both-means}
 use Rattle.kernel.proofs.WalkLaws.{bit-le, count-le, count-change}
 use Rattle.kernel.proofs.QueueLaws.{release-first-sizes}
 use Rattle.kernel.proofs.TablesLaws.{Sized, sized-kept, used-all, used-le-given, thread-blank}
@@ -39,13 +39,13 @@ use Rattle.library.specs.Tables.{mailboxAt, poolAt, withKernel}
 use Rattle.rules.specs.RowRules.{isMailing}
 use Rattle.rules.specs.PoolRules.{isPromised}
 use Rattle.steps.specs.Stepping.{budgetOf}
-use Rattle.promises.specs.Good.{CallKind, GoodSizes, GoodThread}
-use Rattle.promises.specs.Tests.{same-means, neither-means}
-use Rattle.promises.specs.Story.{Event, endWith, countIn, CallFits, each-kind}
-use Rattle.promises.specs.Chain.{Sound, finishes, stop}
-use Rattle.promises.specs.Moving.{Chained, Free, after, rested}
-use Rattle.promises.specs.Whole.{Whole, Done, kernel-done}
-use Rattle.promises.specs.KernelActs.{callsOf, calls-append}
+use Rattle.promises.specs.Good.{GoodThread}
+use Rattle.promises.specs.Tests.{same-means}
+use Rattle.promises.specs.Story.{endWith, countIn, CallFits}
+use Rattle.promises.specs.Chain.{finishes, stop}
+use Rattle.promises.specs.Moving.{Free, after, rested}
+use Rattle.promises.specs.Whole.{Whole, kernel-done}
+use Rattle.promises.specs.KernelActs.{calls-append}
 use Rattle.promises.specs.BoxActs.{Tries, Tryer, post-tries, fetch-tries, hand-tries, released-row}
 
 -- a thread that runs with an unfinished call
@@ -205,7 +205,7 @@ module _ (n : ℕ) (few : n ≤ 16) (k : Kernel) (sized : Sized k) (i : ℕ) (wi
       omega (
         arith,
         rw (wake-row k i m here) at (count-change (λ j. hasCall (threadAt (woken k i m) j)) (λ j. hasCall (threadAt k j)) n i within
-        (λ j l d. ap hasCall (wake-others k i m j d))),
+            (λ j l d. ap hasCall (wake-others k i m j d))),
         count-change (λ j. isDue (threadAt (woken k i m) j)) (λ j. isDue (threadAt k j)) n i within (λ j l d. ap isDue (wake-others k i m j d)),
         bit-le (isDue (threadAt (woken k i m) i)),
       )

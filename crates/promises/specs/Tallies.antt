@@ -1,58 +1,29 @@
--- The counter rule of ONE place, kept by every operation of the kernel part. The kernel's own laws are about all places at once; the
+-- The counter rule of ONE place, kept by every move of the kernel part. The kernel's own laws are about all places at once; the
 -- tables of a plant follow the rule only at the places that its sizes put to use, so here each law needs no other place's rule.
 use Prim.Native.Nat.{ℕ, _≤_, _<_}
 use native.Mathlib.Omega.{arith}
 use mathlib.Core.Path.{_≡_, refl, sym, ap, _∙_}
-use mathlib.Core.Logic.{_≢_, inl, inr}
 use mathlib.Core.Bool.{false}
 use lib.Dec.{eqb}
 use lib.ListN.{length}
-use lib.Seq.{set-out}
-use lib.Bits.{bitAnd}
 use lib.IntN.{ℤ, pos}
 use lib.Signed.{ltZ}
-use Rattle.kernel.specs.declared.time.SystemTime.{SystemTime}
-use Rattle.kernel.specs.declared.time.Interval.{Interval}
 use Rattle.kernel.specs.declared.records.Call.{Call}
 use Rattle.kernel.specs.declared.records.Thread.{Thread}
 use Rattle.kernel.specs.declared.records.Kernel.{Kernel}
-use Rattle.kernel.specs.Numbers.{nobody, nowhere, ready, suspended, sleeping, queued, awaiting, ok, timedOut, wasReset}
-use Rattle.kernel.specs.Tables.{threadAt, counterAt, holderAt, withThread}
-use Rattle.kernel.specs.Counters.{up, down}
-use Rattle.kernel.specs.Moves.{woken, slept, finished, blocked}
-use Rattle.kernel.specs.Waiters.{queuedAt, firstWaiter}
-use Rattle.kernel.specs.Queue.{enqueued, releasedFirst, releasedAll}
-use Rattle.kernel.specs.Semaphore.{taken, waited, signalled, resetTo}
-use Rattle.kernel.specs.Reference.{suspendedOn, resumed}
-use Rattle.kernel.specs.Delay.{sleptFor, sleptUntil}
-use Rattle.kernel.specs.Event.{withPending, flagged, tookFlags, isMet, eventSignalled, eventWaited}
+use Rattle.kernel.specs.Numbers.{ready, queued, timedOut}
+use Rattle.kernel.specs.Tables.{threadAt, counterAt, withThread}
+use Rattle.kernel.specs.Moves.{woken, slept, finished}
+use Rattle.kernel.specs.Waiters.{queuedAt}
 use Rattle.kernel.specs.Ticking.{countedOff, ticked}
-use Rattle.kernel.proofs.Cases.{split, same-or, in-or-out, chosen, first-fails}
-use Rattle.kernel.proofs.WalkLaws.{count-le, count-agree, count-change, count-some, count-none}
-use Rattle.kernel.proofs.TablesLaws.{used-all, used-le-given, thread-blank, thread-kept, counter-zero, counter-same, counter-other}
-use Rattle.kernel.proofs.CountersLaws.{debt, debt-none, debt-below, up-not-above, raised-none, lowered-none}
-use Rattle.kernel.proofs.WaitersLaws.{waits, waiters, first-waiter-cases}
-use Rattle.kernel.proofs.MovesLaws.{
-  wake-others,
-  wake-counter,
-  wake-counter-others,
-  wake-debt,
-  wake-sizes,
-  sleep-past,
-  sleep-row,
-  sleep-others,
-  sleep-debt,
-  sleep-counter-others,
-  sleep-sizes,
-  finish-kept,
-  finish-counters,
-  block-cases,
-}
-use Rattle.kernel.proofs.QueueLaws.{wake-unqueued, wake-waiters, sleep-level, release-all-keeps, release-all-empties}
-use Rattle.kernel.proofs.SemaphoreLaws.{wait-above, wait-not-above}
+use Rattle.kernel.proofs.Cases.{split, same-or, in-or-out, first-fails}
+use Rattle.kernel.proofs.WalkLaws.{count-le, count-agree, count-change, count-some}
+use Rattle.kernel.proofs.TablesLaws.{thread-blank, thread-kept, counter-zero}
+use Rattle.kernel.proofs.CountersLaws.{debt, debt-below, up-not-above}
+use Rattle.kernel.proofs.WaitersLaws.{waits, waiters}
+use Rattle.kernel.proofs.MovesLaws.{wake-others, wake-counter, wake-counter-others, wake-debt, wake-sizes, sleep-past, sleep-row, sleep-others, sleep-debt, sleep-counter-others, sleep-sizes, finish-kept, finish-counters}
+use Rattle.kernel.proofs.QueueLaws.{wake-unqueued, wake-waiters, sleep-level}
 use Rattle.kernel.proofs.TickingLaws.{tick-keeps}
-use Rattle.kernel.proofs.EventLaws.{event-wait-cases}
-use Rattle.library.specs.Binary.{binarySignalled}
 
 -- of n threads as many are queued at the place p as its counter owes; from place 20 on, a queue's, the counter is never above 0
 pub record Tallies (n p : ℕ) (k : Kernel) : Type 0 where
@@ -135,94 +106,7 @@ pub finish-tallies : (k : Kernel) (i : ℕ) (m : ℤ) (d n p : ℕ) → Tallies 
 finish-tallies k i m d n p =
     same-tallies k (finished k i m d) n p (finish-kept k i m d (queuedAt p) (λ a. refl)) (rw (finish-counters k i m d))
 
--- ---- queues
-
-module _ (k : Kernel) (n p : ℕ) (m : ℤ) (q : ℕ) where
-  pub release-first-tallies : length (k .threads) ≤ nobody → Tallies n q k → Tallies n q (releasedFirst k n p m)
-  unfolding releasedFirst
-  release-first-tallies l g =
-      elim (first-waiter-cases k n p) [
-        | inl c ↦ wake-tallies k (firstWaiter k n p) m n q (omega (arith, c .below, used-le-given n)) g
-        | inr c ↦ rw (c .0) (wake-unqueued-tallies k nobody m n q (rw (thread-blank k nobody l)) g)
-      ]
-
-  pub release-all-tallies : Tallies n q k → Tallies n q (releasedAll k n p m)
-  release-all-tallies = release-all-keeps k n p m (Tallies n q) (λ i l h e. wake-tallies h i m n q l)
-
--- what a thread needs to wait at a place: it runs, and the place is in the table
-pub record Waiter (k : Kernel) (n i : ℕ) : Type 0 where
-  pub few : n ≤ 16
-  pub within : i < n
-  pub rows : i < length (k .threads)
-  pub is-ready : threadAt k i .state ≡ ready
-
-module _ (k : Kernel) (i p : ℕ) (call : Call) (n q : ℕ) (w : Waiter k n i) where
-  pub enqueue-tallies : p < length (k .counters) → ltZ (pos 0) (counterAt k p) ≡ false → Tallies n p k → Tallies n q k
-      → Tallies n q (enqueued k i p call)
-  unfolding enqueued
-  enqueue-tallies b z own g =
-      block-cases k i queued p call (Tallies n q) (λ e. finish-tallies k i timedOut 0 n q g)
-      (λ e. sleep-tallies k i p call n q (w .is-ready) (w .few) (w .within) (w .rows) b z own g)
-
-  -- a wait that queues nowhere
-  pub block-tallies : (s : ℕ) → eqb s queued ≡ false → Tallies n q k → Tallies n q (blocked k i s p call)
-  block-tallies s e g =
-      block-cases k i s p call (Tallies n q) (λ z. finish-tallies k i timedOut 0 n q g)
-      (λ z. sleep-unqueued-tallies k i p call n q (w .is-ready) s e g)
-
-  -- ---- semaphores
-
-  pub wait-tallies : p < 20 → p < length (k .counters) → Tallies n p k → Tallies n q k → Tallies n q (waited k i p call)
-  unfolding taken enqueued
-  wait-tallies s b own g =
-      split (ltZ (pos 0) (counterAt k p))
-      (λ e. rw (wait-above k i p call e)
-      (finish-tallies (taken k p) i ok 0 n q
-      (record {
-        tally = g .tally ∙ sym (lowered-none k p q e);
-        level = λ v. rw (counter-other k p (down (counterAt k p)) q (apart v)) (g .level v);
-      })))
-      (λ e. rw (wait-not-above k i p call e) (enqueue-tallies b e own g))
-    where
-      apart : 20 ≤ q → q ≢ p
-      apart v = omega arith
-
-module _ (k : Kernel) (n p q : ℕ) (semaphore : p < 20) where
-  apart : 20 ≤ q → q ≢ p
-  apart v = omega arith
-
-  pub signal-tallies : length (k .threads) ≤ nobody → Tallies n q k → Tallies n q (signalled k n p)
-  unfolding signalled
-  signal-tallies l g =
-      chosen (Tallies n q) (ltZ (counterAt k p) (pos 0)) (λ e. release-first-tallies k n p ok q l g)
-      (λ e. record {
-        tally = g .tally ∙ sym (raised-none k p q e);
-        level = λ v. rw (counter-other k p (up (counterAt k p)) q (apart v)) (g .level v);
-      })
-
-  pub binary-tallies : length (k .threads) ≤ nobody → Tallies n q k → Tallies n q (binarySignalled k n p)
-  unfolding binarySignalled
-  binary-tallies l g = chosen (Tallies n q) (ltZ (counterAt k p) (pos 1)) (λ e. signal-tallies l g) (λ e. g)
-
-  pub reset-tallies : (c : ℤ) → n ≤ 16 → ltZ c (pos 0) ≡ false → Tallies n q k → Tallies n q (resetTo k n p c)
-  unfolding resetTo
-  reset-tallies c few e g =
-      let all = releasedAll k n p wasReset in
-      let kept = release-all-tallies k n p wasReset q g in
-      same-or q p
-      (λ s.
-      in-or-out p (length (all .counters))
-      (λ h. rw s
-      (record {
-        tally =
-            count-none (waits all p) n (λ i l. release-all-empties k n p wasReset i (rw (used-all n few) l))
-            ∙ sym (ap debt (counter-same all p c h) ∙ debt-none c e);
-        level = λ v. absurd (omega arith);
-      }))
-      (λ h. rw (set-out (all .counters) p c h) kept))
-      (λ d. record { tally = rw (counter-other all p c q d) (kept .tally); level = λ v. rw (counter-other all p c q d) (kept .level v) })
-
--- ---- tick, references, events
+-- ---- a row, and the tick
 
 module _ (k : Kernel) (n q : ℕ) where
   -- a row that waits as it did
@@ -233,44 +117,3 @@ pub tick-tallies : (k : Kernel) (n q : ℕ) → Tallies n q k → Tallies n q (t
 tick-tallies k n q =
     tick-keeps k n (Tallies n q) (λ i l h. wake-tallies h i timedOut n q l)
     (λ i h. row-tallies h n q i (countedOff (threadAt h i)) (λ p. refl))
-
-pub resume-tallies : (k : Kernel) (r : ℕ) (m : ℤ) (n q : ℕ) → length (k .threads) ≤ nobody → (holderAt k r ≢ nobody → holderAt k r < n)
-    → Tallies n q k → Tallies n q (resumed k r m)
-unfolding resumed
-resume-tallies k r m n q l h g =
-    same-or (holderAt k r) nobody
-    (λ e. rw e (wake-unqueued-tallies k nobody m n q (rw (thread-blank k nobody l)) g))
-    (λ d. wake-tallies k (holderAt k r) m n q (h d) g)
-
-pub take-tallies : (k : Kernel) (i mask n q : ℕ) → Tallies n q k → Tallies n q (tookFlags k i mask)
-unfolding tookFlags
-take-tallies k i mask n q g =
-    finish-tallies _ i ok (bitAnd (threadAt k i .pending) mask) n q
-    (row-tallies k n q i (withPending (threadAt k i) _) (λ p. refl) g)
-
-pub event-signal-tallies : (k : Kernel) (i mask n q : ℕ) → i < n → Tallies n q k → Tallies n q (eventSignalled k i mask)
-unfolding eventSignalled
-event-signal-tallies k i mask n q h g =
-    let told = withThread k i (flagged (threadAt k i) mask) in
-    let kept = row-tallies k n q i (flagged (threadAt k i) mask) (λ p. refl) g in
-    chosen (Tallies n q) (isMet (flagged (threadAt k i) mask))
-    (λ e. take-tallies (woken told i ok) i (threadAt k i .awaited) n q (wake-tallies told i ok n q h kept))
-    (λ e. kept)
-
-pub event-wait-tallies : (k : Kernel) (i : ℕ) (call : Call) (n q : ℕ) → Waiter k n i → Tallies n q k → Tallies n q (eventWaited k i call)
-event-wait-tallies k i call n q w g =
-    event-wait-cases k i call (Tallies n q) (take-tallies k i (call .operand) n q g)
-    (block-tallies k i nowhere call n q w awaiting refl g)
-
-pub suspend-tallies : (k : Kernel) (i r : ℕ) (call : Call) (n q : ℕ) → Waiter k n i → Tallies n q k → Tallies n q (suspendedOn k i r call)
-unfolding suspendedOn
-suspend-tallies k i r call n q w g = block-tallies k i r call n q w suspended refl g
-
-pub sleep-for-tallies : (k : Kernel) (i : ℕ) (d : Interval) (n q : ℕ) → Waiter k n i → Tallies n q k → Tallies n q (sleptFor k i d)
-unfolding sleptFor
-sleep-for-tallies k i d n q w g = sleep-unqueued-tallies k i nowhere _ n q (w .is-ready) sleeping refl g
-
-pub sleep-until-tallies : (k : Kernel) (i : ℕ) (now until : SystemTime) (n q : ℕ) → Waiter k n i → Tallies n q k
-    → Tallies n q (sleptUntil k i now until)
-unfolding sleptUntil
-sleep-until-tallies k i now until n q w g = sleep-unqueued-tallies k i nowhere _ n q (w .is-ready) sleeping refl g

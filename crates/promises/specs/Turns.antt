@@ -4,60 +4,37 @@ use Prim.Native.Nat.{ℕ, zero, suc, _+_, _≤_, _<_}
 use native.Mathlib.Omega.{arith}
 use mathlib.Core.Path.{_≡_, refl, sym, ap, _∙_}
 use mathlib.Core.Logic.{_≢_}
-use mathlib.Core.Bool.{Bool, true, false, cond, _||_, _&&_}
+use mathlib.Core.Bool.{Bool, true, false, _||_, _&&_}
 use mathlib.Core.List.{List, [], _∷_}
 use lib.Dec.{eqb, ltb}
-use lib.ListN.{length}
 use lib.IntN.{ℤ, pos}
 use lib.Signed.{ltZ}
-use borrow.Author.Tests.{eqb-true, eqb-false, eq-eqb, ne-eqb, lt-ltb}
+use borrow.Author.Tests.{eqb-false, eq-eqb, ne-eqb, lt-ltb}
 use Rattle.kernel.specs.declared.records.Call.{Call}
 use Rattle.kernel.specs.declared.records.Thread.{Thread}
 use Rattle.kernel.specs.declared.records.Kernel.{Kernel}
-use Rattle.kernel.specs.Numbers.{ready, queued, ok, timedOut}
+use Rattle.kernel.specs.Numbers.{queued, ok}
 use Rattle.kernel.specs.Walk.{bit, countOf}
 use Rattle.kernel.specs.Tables.{threadAt, counterAt, withThread}
-use Rattle.kernel.specs.Moves.{readied, asleep, woken, slept, finished}
+use Rattle.kernel.specs.Moves.{woken, slept, finished}
 use Rattle.kernel.specs.Waiters.{queuedAt}
 use Rattle.kernel.specs.Semaphore.{taken}
 use Rattle.kernel.specs.Event.{withPending}
-use Rattle.kernel.specs.Ticking.{countedOff, ticked}
-use Rattle.kernel.proofs.Cases.{split, same-or, in-or-out, contrary, both-means}
-use Rattle.kernel.proofs.WalkLaws.{First, bit-le, count-agree, count-some}
-use Rattle.kernel.proofs.CountersLaws.{debt, debt-none}
+use Rattle.kernel.specs.Ticking.{ticked}
+use Rattle.kernel.proofs.Cases.{split, same-or, in-or-out, contrary}
+use Rattle.kernel.proofs.WalkLaws.{First, count-agree, count-some}
+use Rattle.kernel.proofs.CountersLaws.{debt-none}
 use Rattle.kernel.proofs.TablesLaws.{Sized, used-all, thread-kept}
 use Rattle.kernel.proofs.MovesLaws.{wake-others, sleep-row, sleep-others, finish-kept}
-use Rattle.kernel.proofs.WaitersLaws.{waits, waiters}
+use Rattle.kernel.proofs.WaitersLaws.{waits}
 use Rattle.kernel.proofs.QueueLaws.{wake-waiters}
 use Rattle.kernel.proofs.TickingLaws.{aged, aged-last, aged-counted, tick-row}
 use Rattle.library.specs.declared.sizes.Sizes.{Sizes}
 use Rattle.rules.specs.RowRules.{waitState, waitPlace}
 use Rattle.rules.specs.PlaceRules.{inUse}
 use Rattle.promises.specs.Good.{GoodSizes}
-use Rattle.promises.specs.Tallies.{Tallies}
 use Rattle.promises.specs.Story.{Event, woke, sleepIn, endWith, tick, countOff, signalAt, takeAt, endStep, isWoke, countIn}
-use Rattle.promises.specs.Chain.{
-  Sound,
-  Sleeper,
-  Chain,
-  stop,
-  wakes,
-  passes,
-  raises,
-  ages,
-  sleeps,
-  takes,
-  sets,
-  finishes,
-  hands,
-  answers,
-  flags,
-  begins,
-  tickEvent,
-  tickThen,
-  chain-sound,
-  queued-unready,
-}
+use Rattle.promises.specs.Chain.{Sound, Sleeper, Chain, stop, wakes, passes, raises, ages, sleeps, takes, sets, finishes, hands, answers, flags, begins, tickEvent, tickThen, chain-sound, queued-unready}
 use Rattle.promises.specs.Owed.{isSignal, count-tick}
 use Rattle.promises.specs.Flags.{someIn, tick-some}
 
@@ -201,7 +178,7 @@ module _ (z : Sizes) (g : GoodSizes z) (p : ℕ) (place : p < 36) (used : inUse 
       (omega (
         arith,
         count-agree (waits (slept k j st pl x) p) (waits k p) i
-        (sleep-waits p i z k j x (s .rules .sized) (g .threads .1) y (λ l. rw (lt-ltb j i l) at (n .0))),
+            (sleep-waits p i z k j x (s .rules .sized) (g .threads .1) y (λ l. rw (lt-ltb j i l) at (n .0))),
       ))
       (chain-turn c (chain-sound z g (sleeps j x y stop) s) (ap (queuedAt p) (sleep-others k j st pl x i d) ∙ w) a (n .1))
   chain-turn (takes {k} {es} q l e c) s w a b = less-turn p i k (taken k q) 0 (omega arith) (chain-turn c (chain-sound z g (takes q l e stop) s) w a b)

@@ -1,15 +1,14 @@
 -- Tables that hang together, but for the running thread, in the form in which the moves keep them; and that a chain of moves, with
 -- mailboxes and pools in step with it, leaves them so.
-use Prim.Native.Nat.{ℕ, _+_, _≤_, _<_}
+use Prim.Native.Nat.{ℕ, _+_, _<_}
 use native.Mathlib.Omega.{arith}
 use mathlib.Core.Path.{_≡_, refl, sym, ap, _∙_, subst}
-use mathlib.Core.Logic.{_≢_, _⊎_, inl, inr}
-use mathlib.Core.Bool.{Bool, true, false}
-use mathlib.Core.List.{List, [], _∷_}
+use mathlib.Core.Logic.{_⊎_, inl, inr}
+use mathlib.Core.List.{List}
 use lib.ListN.{length}
 use Rattle.kernel.specs.declared.records.Thread.{Thread}
 use Rattle.kernel.specs.declared.records.Kernel.{Kernel}
-use Rattle.kernel.specs.Numbers.{nobody, ready}
+use Rattle.kernel.specs.Numbers.{nobody}
 use Rattle.kernel.specs.Places.{poolPlace}
 use Rattle.kernel.specs.Tables.{threadAt, counterAt}
 use Rattle.kernel.specs.Waiters.{isReady}
@@ -19,15 +18,15 @@ use Rattle.library.specs.declared.sizes.Sizes.{Sizes}
 use Rattle.library.specs.declared.tables.Plant.{Plant}
 use Rattle.library.specs.Tables.{poolAt, withKernel}
 use Rattle.rules.specs.PoolRules.{promisedCount}
-use Rattle.promises.specs.Good.{GoodSizes, GoodThread, Good}
+use Rattle.promises.specs.Good.{GoodSizes, Good}
 use Rattle.promises.specs.CounterRule.{counters-tally, tally-counters}
 use Rattle.promises.specs.ReferenceRule.{references-hold, holds-references}
-use Rattle.promises.specs.RingKept.{MailboxesGood, MailboxesKept}
+use Rattle.promises.specs.RingKept.{MailboxesGood}
 use Rattle.promises.specs.PoolKept.{PoolsListed, PoolSized, stock, good-listed, listed-good, good-length, length-promises}
 use Rattle.promises.specs.Story.{Event, countIn, isSlept, Idle, story-idle}
-use Rattle.promises.specs.Chain.{Sound, Chain, chain-sound, chain-story}
-use Rattle.promises.specs.Moving.{Chained, Free, Caller, marksOf, marks-count}
-use Rattle.promises.specs.Owed.{isSignal, isTake, owed, owed-is, chain-owed}
+use Rattle.promises.specs.Chain.{Sound, chain-sound, chain-story}
+use Rattle.promises.specs.Moving.{Chained, Free, Caller, marks-count}
+use Rattle.promises.specs.Owed.{isSignal, isTake, owed-is, chain-owed}
 
 -- the lists are as long as the tables of a host
 pub record PlantSized (p : Plant) : Type 0 where
@@ -167,7 +166,9 @@ pub stepper-kept : (z : Sizes) (k h : Kernel) (i : ℕ) (ms : List Event) → Go
     → Stepper z k i → Stepper z h i
 stepper-kept z k h i ms g s c o (inl e) = inl e
 stepper-kept z k h i ms g s c o (inr a) =
-    inr (a .0,
-    story-idle (chain-story z (g .threads .1) i (a .0) (c .chain) (s .rules .sized) (s .rows i (a .0)))
-    (sym (marks-count (isSlept i) (c .events) (λ j m. refl) (λ j m d. refl) (λ j. refl)) ∙ rw (c .marks) o)
-    (a .1))
+    inr (
+      a .0,
+      story-idle (chain-story z (g .threads .1) i (a .0) (c .chain) (s .rules .sized) (s .rows i (a .0)))
+          (sym (marks-count (isSlept i) (c .events) (λ j m. refl) (λ j m d. refl) (λ j. refl)) ∙ rw (c .marks) o)
+          (a .1),
+    )
