@@ -41,7 +41,7 @@ use Rattle.promises.specs.Chain.{Sound, chain-story}
 use Rattle.promises.specs.Whole.{good-whole}
 use Rattle.promises.specs.Settles.{settled-whole}
 use Rattle.promises.specs.Flags.{someIn, maskBit}
-use Rattle.promises.specs.History.{Hangs, History, run-hangs, made-hang, ticksIn, signalsIn, someResult, settles}
+use Rattle.promises.specs.History.{Hangs, History, recorded, run-hangs, made-hang, ticksIn, signalsIn, someResult, settles}
 use Rattle.promises.specs.Lives.{EndsInTime, ends-at, story-ends, chain-fair, fair-all, none-counted, Mode, atWork, Lives, InMode, modeAfter, ownEvents, story-lives, wokeWith, story-message}
 use Rattle.promises.specs.Turns.{beginsAt, higher, chain-turn}
 
@@ -92,22 +92,26 @@ module _ (t : Tables) (c : Clock) (g : Hangs t c) (ss : List Step) (h : History 
               chain-turn (t .sizes) (g .together .good .sizes) p (omega arith) used i within (h .chain) sound waiting e alone .fewer,
             )))
 
-    -- the same of a sleep that goes on, as the results show it: it ends by the last of its remaining ticks
-    pub ticks-wake : threadAt k i .state ≢ ready → threadAt k i .remaining ≢ 0 → threadAt k i .remaining ≤ ticksIn t c ss
-        → someResult (λ o. maskBit i (o .woken)) (ran t c ss .outcomes) ≡ true
-    ticks-wake asleep timed ticks = sym (h .woken i (omega (arith, few))) ∙ comes
-      where
-        comes : someIn (isWoke i) (h .events) ≡ true
-        comes =
-            split (someIn (isWoke i) (h .events)) (λ e. e)
-            (λ e.
-            let none = none-counted (isWoke i) (h .events) e in
-            let x = story-sleeps story asleep none .timed timed in
-            let f = fair-all i (h .events) (chain-fair i within (h .chain)) in
-            absurd (omega (arith, ticks, h .ticks, f, none, x .0, left (threadAt (opened (ran t c ss .tables) .kernel) i .remaining) (x .1))))
-          where
-            left : (n : ℕ) → n ≢ 0 → 1 ≤ n
-            left n d = omega arith
+-- a sleep that goes on, as the results show it: it ends by the last of its remaining ticks
+pub ticks-wake : (t : Tables) (c : Clock) (g : Hangs t c) (ss : List Step) (i : ℕ) → i < t .sizes .threads
+    → threadAt (opened t .kernel) i .state ≢ ready → threadAt (opened t .kernel) i .remaining ≢ 0
+    → threadAt (opened t .kernel) i .remaining ≤ ticksIn t c ss → someResult (λ o. maskBit i (o .woken)) (ran t c ss .outcomes) ≡ true
+ticks-wake t c g ss i within asleep timed ticks = sym (recorded ss t c g .seen .woken i (omega (arith, few t c g ss h))) ∙ comes
+  where
+    h : History t c ss
+    h = recorded ss t c g .history
+
+    left : (n : ℕ) → n ≢ 0 → 1 ≤ n
+    left n d = omega arith
+
+    comes : someIn (isWoke i) (h .events) ≡ true
+    comes =
+        split (someIn (isWoke i) (h .events)) (λ e. e)
+        (λ e.
+        let none = none-counted (isWoke i) (h .events) e in
+        let x = story-sleeps (story t c g ss h i within) asleep none .timed timed in
+        let f = fair-all i (h .events) (chain-fair i within (h .chain)) in
+        absurd (omega (arith, ticks, h .ticks, f, none, x .0, left (threadAt (opened (ran t c ss .tables) .kernel) i .remaining) (x .1))))
 
 -- ---- the demands
 

@@ -251,7 +251,9 @@ pub record History (t : Tables) (c : Clock) (ss : List Step) : Type 0 where
   pub ticks : countIn isTick events ≡ ticksIn t c ss
   -- and its signals the accepted signals
   pub signals : (q : ℕ) → countIn (isSignal q) events ≡ signalsIn q t c ss
-  -- who is woken, or whose call finishes, in some step's masks is so in the history
+
+-- a history that the run's results show: who is woken, or whose call finishes, in some step's masks is so in the history
+pub record Seen (t : Tables) (c : Clock) (ss : List Step) (events : List Event) : Type 0 where
   pub woken : (i : ℕ) → i < 16 → someIn (isWoke i) events ≡ someResult (λ o. maskBit i (o .woken)) (ran t c ss .outcomes)
   pub finished : (i : ℕ) → i < 16 → someIn (isEnded i) events ≡ someResult (λ o. maskBit i (o .finished)) (ran t c ss .outcomes)
 
@@ -299,52 +301,72 @@ no-bit : (i : ℕ) → maskBit i 0 ≡ false
 unfolding maskOf
 no-bit i = mask-bit [] i
 
+-- a history, and that the results show it
+pub record Recorded (t : Tables) (c : Clock) (ss : List Step) : Type 0 where
+  pub history : History t c ss
+  pub seen : Seen t c ss (history .events)
+
 module _ (t : Tables) (c : Clock) (s : Step) (ss : List Step) (g : Hangs t c)
-    (rest : History (stepped t c s .tables) (stepped t c s .clock) ss) where
+    (rest : Recorded (stepped t c s .tables) (stepped t c s .clock) ss) where
+  abbrev later : List Event
+  later = rest .history .events
+
+  abbrev end : Kernel
+  end = opened (ran (stepped t c s .tables) (stepped t c s .clock) ss .tables) .kernel
+
   -- an accepted step adds its events
-  told-first : isAccepted (stepped t c s .outcome) ≡ true → History t c (s ∷ ss)
+  told-first : isAccepted (stepped t c s .outcome) ≡ true → Recorded t c (s ∷ ss)
   unfolding ran ticksIn signalsIn
   told-first a =
       let d = step-told t c s g (eqb-true (stepped t c s .outcome .code) 0 a) in
       let k : Kernel = opened (stepped t c s .tables) .kernel in
-      let h : Kernel = opened (ran (stepped t c s .tables) (stepped t c s .clock) ss .tables) .kernel in
       record {
-        events = (d .events ++ (endStep ∷ [])) ++ rest .events;
-        chain = chain-then (d .chain) (subst (λ (y : Sizes). Chain y h k (rest .events)) (d .sizes) (rest .chain));
-        ticks =
-            step-count isTick (d .events) (rest .events) refl (λ i m. refl) (λ i m x. refl) (λ i. refl) (λ i x. refl) (λ q. refl)
-            ∙ rw (d .calls, tick-called (opened t) s, rest .ticks, a);
-        signals = λ q.
-            step-count (isSignal q) (d .events) (rest .events) refl (λ i m. refl) (λ i m x. refl) (λ i. refl) (λ i x. refl) (λ r. refl)
-            ∙ rw (d .calls, rest .signals q, a);
-        woken = λ i l. step-some (isWoke i) (d .events) (rest .events) refl ∙ rw (sym (d .woken i l), rest .woken i l);
-        finished = λ i l. step-some (isEnded i) (d .events) (rest .events) refl ∙ rw (sym (d .finished i l), rest .finished i l);
+        history = record {
+          events = (d .events ++ (endStep ∷ [])) ++ later;
+          chain = chain-then (d .chain) (subst (λ (y : Sizes). Chain y end k later) (d .sizes) (rest .history .chain));
+          ticks =
+              step-count isTick (d .events) later refl (λ i m. refl) (λ i m x. refl) (λ i. refl) (λ i x. refl) (λ q. refl)
+              ∙ rw (d .calls, tick-called (opened t) s, rest .history .ticks, a);
+          signals = λ q.
+              step-count (isSignal q) (d .events) later refl (λ i m. refl) (λ i m x. refl) (λ i. refl) (λ i x. refl) (λ r. refl)
+              ∙ rw (d .calls, rest .history .signals q, a);
+        };
+        seen = record {
+          woken = λ i l. step-some (isWoke i) (d .events) later refl ∙ rw (sym (d .woken i l), rest .seen .woken i l);
+          finished = λ i l. step-some (isEnded i) (d .events) later refl ∙ rw (sym (d .finished i l), rest .seen .finished i l);
+        };
       }
 
   -- a refused one adds none
-  told-none : isAccepted (stepped t c s .outcome) ≡ false → History t c (s ∷ ss)
+  told-none : isAccepted (stepped t c s .outcome) ≡ false → Recorded t c (s ∷ ss)
   unfolding ran ticksIn signalsIn
   told-none a =
       let u = step-refused t c s (eqb-false (stepped t c s .outcome .code) 0 a) in
-      let h : Kernel = opened (ran (stepped t c s .tables) (stepped t c s .clock) ss .tables) .kernel in
       record {
-        events = rest .events;
-        chain = subst (λ (y : Tables). Chain (y .sizes) h (opened y .kernel) (rest .events)) (u .tables) (rest .chain);
-        ticks = rw a (rest .ticks ∙ sym (zero-add _));
-        signals = λ q. rw a (rest .signals q ∙ sym (zero-add _));
-        woken = λ i l. rest .woken i l ∙ rw (u .nobody-woken, no-bit i);
-        finished = λ i l. rest .finished i l ∙ rw (u .nothing-finished, no-bit i);
+        history = record {
+          events = later;
+          chain = subst (λ (y : Tables). Chain (y .sizes) end (opened y .kernel) later) (u .tables) (rest .history .chain);
+          ticks = rw a (rest .history .ticks ∙ sym (zero-add _));
+          signals = λ q. rw a (rest .history .signals q ∙ sym (zero-add _));
+        };
+        seen = record {
+          woken = λ i l. rest .seen .woken i l ∙ rw (u .nobody-woken, no-bit i);
+          finished = λ i l. rest .seen .finished i l ∙ rw (u .nothing-finished, no-bit i);
+        };
       }
 
 -- no step, no event
-told-nothing : (t : Tables) (c : Clock) → History t c []
+told-nothing : (t : Tables) (c : Clock) → Recorded t c []
 unfolding ran ticksIn signalsIn countIn
 told-nothing t c =
-    record { events = []; chain = stop; ticks = refl; signals = λ q. refl; woken = λ i l. refl; finished = λ i l. refl }
+    record {
+      history = record { events = []; chain = stop; ticks = refl; signals = λ q. refl };
+      seen = record { woken = λ i l. refl; finished = λ i l. refl };
+    }
 
--- EVERY RUN FROM TABLES THAT HANG TOGETHER HAS ITS HISTORY
-pub history : (ss : List Step) (t : Tables) (c : Clock) → Hangs t c → History t c ss
-history [] t c g = told-nothing t c
-history (s ∷ ss) t c g =
-    let rest = history ss (stepped t c s .tables) (stepped t c s .clock) (step-hangs t c s g) in
+-- EVERY RUN FROM TABLES THAT HANG TOGETHER HAS ITS HISTORY, and its results show it
+pub recorded : (ss : List Step) (t : Tables) (c : Clock) → Hangs t c → Recorded t c ss
+recorded [] t c g = told-nothing t c
+recorded (s ∷ ss) t c g =
+    let rest = recorded ss (stepped t c s .tables) (stepped t c s .clock) (step-hangs t c s g) in
     split (isAccepted (stepped t c s .outcome)) (told-first t c s ss g rest) (told-none t c s ss g rest)
