@@ -30,3 +30,4 @@ pub mod History
 pub mod Lives
 pub mod Turns
 pub mod Demands
+pub mod Shown
