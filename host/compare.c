@@ -10,7 +10,7 @@
 #include "director.h"
 #include "scenario.h"
 #include "spoil.h"
-#include "trace.h"
+#include "traces.h"
 
 #include <stdio.h>
 #include <stdlib.h>
@@ -26,98 +26,34 @@ static uint64_t table_codes[SPOIL_WAYS][CODES];
 
 /* ---- random traces ---------------------------------------------------- */
 
-/* A trace as the two readers go through it, and as the archive writes it. */
-struct course {
-    const struct bytes *trace;
-    struct reader second;
-    size_t at;
-    struct bytes *copy;
-};
-
-/* What stands behind a record in the buffer is not written. */
-static void expect_written(struct where at, const struct course *c,
-                           uint8_t code, size_t next)
-{
-    expect(code == 0 && next == c->second.offset, at, "the writer refused");
-    expect(memcmp(c->copy->at, c->trace->at, next) == 0, at,
-           "the writer wrote other bytes");
-    expect(c->copy->at[next] == 0xee, at, "the writer wrote beyond its record");
-}
-
-static bool open_trace(struct where at, struct course *c, struct sizes *z)
-{
-    size_t next = 0;
-    nil_read_result r;
-    nil_sizes sizes;
-    int code = trace_open(&c->second, c->trace->at, c->trace->length, z);
-
-    nil_read(c->trace->at, c->trace->length, 0, &r);
-    expect(r.code == (uint32_t)code, at, "record 0: the codes differ");
-    if (code != 0) {
-        read_codes[code]++;
-        expect(r.found == NIL_FOUND_NOTHING && r.next == 0 && r.number == 0,
-               at, "record 0: a refused read moved");
-        return false;
-    }
-    sizes = nil_sizes_of(z);
-    expect(r.found == NIL_FOUND_SIZES && r.next == c->second.offset
-           && memcmp(&r.sizes, &sizes, sizeof sizes) == 0, at,
-           "record 0: the sizes differ");
-    c->at = r.next;
-    memset(c->copy->at, 0xee, sizeof c->copy->at);
-    expect_written(at, c,
-                   nil_write_sizes(c->copy->at, TRACE_LIMIT, &sizes, &next),
-                   next);
-    return true;
-}
-
-static bool next_of_trace(struct where at, struct course *c, struct step *s)
-{
-    size_t next = 0;
-    nil_read_result r;
-    nil_request request;
-    int code = trace_next(&c->second, s);
-
-    nil_read(c->trace->at, c->trace->length, c->at, &r);
-    if (code != 0) {
-        code = code == TRACE_END ? 0 : code;
-        read_codes[code]++;
-        expect(r.code == (uint32_t)code, at,
-               "the reader's codes differ");
-        expect(r.found == NIL_FOUND_NOTHING && r.next == c->at
-               && r.number == c->second.record, at, "a refused read moved");
-        return false;
-    }
-    request = nil_request_of(s);
-    expect(r.code == 0 && r.found == NIL_FOUND_STEP
-           && r.next == c->second.offset
-           && memcmp(&r.step, &request, sizeof request) == 0, at,
-           "the steps read differ");
-    expect_written(at, c,
-                   nil_write_step(c->copy->at, TRACE_LIMIT, c->at, &request,
-                                  &next), next);
-    c->at = r.next;
-    return true;
-}
-
 /* Returns how many steps were made, at most as many as are wanted. */
 static uint64_t run_trace(uint64_t seed, uint64_t wanted)
 {
     static struct bytes trace, copy;
     static struct plant plant;
     struct course c = { &trace, { 0 }, 0, &copy };
+    struct random random = { seed };
     struct where at = { seed, 0 };
     struct sizes z;
     struct step s;
+    int code;
 
     make_scenario(seed, SHAPE_ANY, &trace);
-    if (!open_trace(at, &c, &z)) {
-        return 0;
+    try_places(&random, at, &trace);
+    code = both_open(at, &c, &z);
+    if (code == 0) {
+        both_fresh(at, &z, DEFAULT_FREQUENCY, &plant);
     }
-    both_fresh(at, &z, DEFAULT_FREQUENCY, &plant);
-    while (at.number < wanted && next_of_trace(at, &c, &s)) {
+    while (code == 0 && at.number < wanted) {
         at.number++;
-        step_codes[both_step(at, &plant, &s)]++;
+        code = both_next(at, &c, &s);
+        if (code == 0) {
+            step_codes[both_step(at, &plant, &s)]++;
+        }
+    }
+    if (code != 0) {
+        read_codes[code == TRACE_END ? 0 : code]++;
+        at.number -= at.number > 0; /* the last number was no step's */
     }
     return at.number;
 }
@@ -164,6 +100,7 @@ static void try_fresh(struct random *r, struct where at, struct sizes z,
 
     *size[which] = random_chance(r, 80) ? random_below(r, 19)
                                         : random_below(r, 65536);
+    try_buffers(r, at, &z);
     fresh_codes[both_fresh(at, &z, given, plant)]++;
 }
 
