@@ -28,6 +28,9 @@ enum {
     PATIENCE = 8
 };
 
+/* As the firmware was compiled with it: the manual's number. */
+#define TIME_INFINITE UINT32_C(0)
+
 /* Where a thread's code stands: which of its calls is the next one. */
 enum stage { ASKS, WORKS, HANDS_ON };
 
@@ -72,7 +75,8 @@ static nil_result run_printer(struct plant *p, uint32_t i, nil_answer last)
         return step(p, NIL_SLEEP_FOR, (uint8_t)i, 0, 0, PRINTING);
     }
     p->stage[i] = WORKS;
-    return step(p, NIL_FETCH, (uint8_t)i, LABELS, 0, NIL_INFINITE);
+    return step(p, NIL_FETCH, (uint8_t)i, LABELS, 0,
+                nil_timeout(TIME_INFINITE));
 }
 
 /* What the filler does once its wait for a bottle has ended. */
@@ -98,7 +102,7 @@ static nil_result run_filler(struct plant *p, uint32_t i, nil_answer last)
         p->stage[i] = ASKS;
         say(p, i, "hands on bottle", p->bottle[i]);
         return step(p, NIL_POST, (uint8_t)i, LABELS, p->bottle[i],
-                    NIL_INFINITE);
+                    nil_timeout(TIME_INFINITE));
     default:
         p->stage[i] = WORKS;
         if (p->bottle[i] > 0) {
