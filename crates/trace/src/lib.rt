@@ -2,4 +2,5 @@
 pub mod numbers;
 pub mod ordered;
 pub mod reader;
+pub mod reading;
 pub mod writer;
