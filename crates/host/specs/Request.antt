@@ -1,5 +1,4 @@
 -- A step as a host asks for it, and its result as a host gets it.
-use Prim.Native.Nat.{ℕ}
 use mathlib.Core.Bool.{_&&_}
 use lib.Dec.{eqb}
 use Rattle.kernel.specs.declared.clock.Clock.{Clock}

@@ -1,5 +1,4 @@
 -- The parts are what the callees ensure of the read.
-use borrow.Author.Needs.{needs}
 use Rattle.host.proofs.reads.find.Statement.{statement}
 use Rattle.host.proofs.reads.find.Tie as tie
 

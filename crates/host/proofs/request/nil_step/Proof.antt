@@ -2,7 +2,7 @@
 -- called on them; what it returned is stored behind the result's borrow, and behind the tables' if the step was accepted. At a tick
 -- the clock's borrow is given to `tick` for good.
 -- Assumes nothing.
-use mathlib.Core.Path.{_≡_, refl, ap, subst, sym, _∙_}
+use mathlib.Core.Path.{_≡_, refl, ap, subst, sym}
 use Prim.Native.Nat.{ℕ}
 use lib.Dec.{T as Holds}
 use mathlib.Core.List.{[], _∷_, List}
