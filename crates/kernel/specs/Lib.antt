@@ -1,6 +1,7 @@
 -- The meanings that the contracts cite, in the order in which they build on each other.
 pub mod Numbers
 pub mod Time
+pub mod Clock
 pub mod Units
 pub mod Walk
 pub mod Records

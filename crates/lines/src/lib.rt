@@ -24,8 +24,8 @@ use library::tables::Tables;
 use steps::stepping::Outcome;
 use steps::stepping::step;
 use trace::reader::Found;
-use trace::reader::next_record;
 use trace::reader::number_at;
+use trace::reading::read_at;
 ghost use Prim.Native.Nat.{_≤_};
 ghost use mathlib.Core.Path.{_≡_};
 ghost use Rattle.lines.specs.Ending.{placeAfter};
@@ -497,7 +497,7 @@ pub fn list_trace(s: &[u8], whole: bool) -> usize
     let mut at: usize = 0;
     let mut left = READS;
     while 0 < left {
-        let r = next_record(s, at);
+        let r = read_at(s, at);
         let found = r.found;
         let sizes = r.sizes;
         let next = r.next;

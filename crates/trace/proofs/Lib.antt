@@ -8,6 +8,7 @@ pub mod Runs
 pub mod BodyLaws
 pub mod WritingLaws
 pub mod ReadingLaws
+pub mod MovedLaws
 pub mod AgainLaws
 pub mod TraceLaws
 pub mod Unique

@@ -2,5 +2,6 @@
 pub mod Ordered
 pub mod TraceBytes
 pub mod Reader
+pub mod Reading
 pub mod Writer
 pub mod Traces

@@ -34,8 +34,8 @@ begin-requires c κs = tt
 loop-holds : tie.Need-loop-holds Inv-loop μ-loop
 loop-holds c = refl
 
-next-record-requires : tie.Need-next-record-requires Inv-loop μ-loop
-next-record-requires c κs = tt
+read-at-requires : tie.Need-read-at-requires Inv-loop μ-loop
+read-at-requires c κs = tt
 
 list-found-requires : tie.Need-list-found-requires Inv-loop μ-loop
 list-found-requires c κs = tt
@@ -50,7 +50,7 @@ loop-again : tie.Need-loop-again Inv-loop μ-loop
 loop-again c =
     let here = c .before .before .before .before .before .before in
     let at = here .before .before .loop in
-    read-last (at .left) _ (at .at) (here .next-record .result) (here .next-record .ensures) (c .if1 .taken) ∙ at .inv
+    read-last (at .left) _ (at .at) (here .read-at .result) (here .read-at .ensures) (c .if1 .taken) ∙ at .inv
 
 loop-less-2 : tie.Need-loop-less-2 Inv-loop μ-loop
 loop-less-2 c = omega arith
@@ -59,7 +59,7 @@ loop-again-2 : tie.Need-loop-again-2 Inv-loop μ-loop
 loop-again-2 c =
     let here = c .before .before .before .before .before .before in
     let at = here .before .before .loop in
-    read-more (at .left) _ (at .at) (here .next-record .result) (here .next-record .ensures) (here .before .loop-test .taken) ∙ at .inv
+    read-more (at .left) _ (at .at) (here .read-at .result) (here .read-at .ensures) (here .before .loop-test .taken) ∙ at .inv
 
 write-out-requires : tie.Need-write-out-requires Inv-loop μ-loop
 write-out-requires c κs = tt
@@ -83,7 +83,7 @@ list-trace-spec =
     no-sizes-requires
     begin-requires
     loop-holds
-    next-record-requires
+    read-at-requires
     list-found-requires
     sub-left
     loop-less

@@ -1,0 +1,5 @@
+-- What the walks of this crate share, and the laws that they cite.
+pub mod Told
+pub mod RequestLaws
+pub mod SetupLaws
+pub mod Unique

@@ -1,0 +1,5 @@
+-- The meanings that the contracts cite.
+pub mod Request
+pub mod Setup
+pub mod Reads
+pub mod Writes

@@ -1,0 +1,242 @@
+/*
+ * The comparison: compare [STEPS [TABLES [SEED]]]. Drives the archive beside
+ * the second program, with STEPS steps of the random traces that ./fuzz has,
+ * read and written back through the archive too, and with one step on each of
+ * TABLES damaged tables. It stops at the first answer or byte that differs.
+ *
+ * Seeds count up from SEED: one for each trace, and then one for each plant
+ * whose tables are damaged.
+ */
+#include "director.h"
+#include "scenario.h"
+#include "spoil.h"
+#include "traces.h"
+
+#include <stdio.h>
+#include <stdlib.h>
+#include <string.h>
+
+enum { PLANT_STEPS = 60, DAMAGES = 4 };
+
+/* How often each code was answered. */
+static uint64_t read_codes[CODES];
+static uint64_t fresh_codes[CODES];
+static uint64_t step_codes[CODES];
+static uint64_t table_codes[SPOIL_WAYS][CODES];
+
+/* ---- random traces ---------------------------------------------------- */
+
+/* Returns how many steps were made, at most as many as are wanted. */
+static uint64_t run_trace(uint64_t seed, uint64_t wanted)
+{
+    static struct bytes trace, copy;
+    static struct plant plant;
+    struct course c = { &trace, { 0 }, 0, &copy };
+    struct random random = { seed };
+    struct where at = { seed, 0 };
+    struct sizes z;
+    struct step s;
+    int code;
+
+    make_scenario(seed, SHAPE_ANY, &trace);
+    try_places(&random, at, &trace);
+    code = both_open(at, &c, &z);
+    if (code == 0) {
+        both_fresh(at, &z, DEFAULT_FREQUENCY, &plant);
+    }
+    while (code == 0 && at.number < wanted) {
+        at.number++;
+        code = both_next(at, &c, &s);
+        if (code == 0) {
+            step_codes[both_step(at, &plant, &s)]++;
+        }
+    }
+    if (code != 0) {
+        read_codes[code == TRACE_END ? 0 : code]++;
+        at.number -= at.number > 0; /* the last number was no step's */
+    }
+    return at.number;
+}
+
+static uint64_t run_traces(uint64_t seed, uint64_t wanted)
+{
+    for (uint64_t done = 0; done < wanted; seed++) {
+        done += run_trace(seed, wanted - done);
+    }
+    return seed;
+}
+
+/* ---- damaged tables --------------------------------------------------- */
+
+static struct sizes some_sizes(struct random *r)
+{
+    struct sizes z = { 0 };
+
+    z.threads = random_between(r, 1, MAX_THREADS);
+    z.semaphores = random_below(r, MAX_SEMAPHORES + 1);
+    z.queues = random_below(r, MAX_QUEUES + 1);
+    z.references = random_below(r, MAX_REFERENCES + 1);
+    z.mailboxes = random_below(r, MAX_MAILBOXES + 1);
+    z.pools = random_below(r, MAX_POOLS + 1);
+    for (uint32_t m = 0; m < z.mailboxes; m++) {
+        z.slots[m] = random_between(r, 1, MAX_SLOTS);
+    }
+    return z;
+}
+
+/* Sizes and a frequency that may be refused, over whatever is there. */
+static void try_fresh(struct random *r, struct where at, struct sizes z,
+                      struct plant *plant)
+{
+    static const uint32_t frequency[] = {
+        0, 1, DEFAULT_FREQUENCY, MAX_FREQUENCY, MAX_FREQUENCY + 1, UINT32_MAX
+    };
+    uint32_t *const size[] = {
+        &z.threads, &z.semaphores, &z.queues, &z.references, &z.mailboxes,
+        &z.pools, &z.slots[0], &z.slots[1], &z.slots[2], &z.slots[3]
+    };
+    uint32_t which = random_below(r, sizeof size / sizeof size[0]);
+    uint32_t given = frequency[random_below(r, 6)];
+
+    *size[which] = random_chance(r, 80) ? random_below(r, 19)
+                                        : random_below(r, 65536);
+    try_buffers(r, at, &z);
+    fresh_codes[both_fresh(at, &z, given, plant)]++;
+}
+
+/* Nearly half of them one field: there the rules are told apart best. */
+static uint32_t some_way(struct random *r)
+{
+    return random_chance(r, 40) ? ONE_FIELD : random_below(r, SPOIL_WAYS);
+}
+
+/* The step is chosen for the good tables; the damaged ones must refuse it or
+   make it just as the second program does. */
+static void step_on_damaged(struct random *r, struct where at,
+                            const struct plant *good, const struct step *s)
+{
+    struct plant damaged = *good;
+    uint32_t way = some_way(r);
+
+    spoil(r, way, &damaged);
+    table_codes[way][both_step(at, &damaged, s)]++;
+}
+
+/* A plant lives on between its damages. Returns how many there were. */
+static uint64_t run_plant(uint64_t seed, uint64_t wanted)
+{
+    struct random random = { seed };
+    struct sizes z = some_sizes(&random);
+    struct director d = new_director(&random, FAMILIES, 10);
+    struct where at = { seed, 0 };
+    struct plant plant;
+    struct tables t;
+
+    memset(&plant, 0xee, sizeof plant);
+    try_fresh(&random, at, z, &plant);
+    both_fresh(at, &z, random_between(&random, 1, MAX_FREQUENCY), &plant);
+    for (uint32_t k = 0; k < PLANT_STEPS && at.number < wanted; k++) {
+        struct step s;
+
+        to_second(&plant.tables, &plant.clock, &t);
+        s = next_step(&d, &t);
+        for (uint32_t n = 0; n < DAMAGES && at.number < wanted; n++) {
+            at.number++;
+            step_on_damaged(&random, at, &plant, &s);
+        }
+        both_step(at, &plant, &s);
+    }
+    return at.number;
+}
+
+static uint64_t run_plants(uint64_t seed, uint64_t wanted)
+{
+    for (uint64_t done = 0; done < wanted; seed++) {
+        done += run_plant(seed, wanted - done);
+    }
+    return seed;
+}
+
+/* ---- report ----------------------------------------------------------- */
+
+static void print_codes(const char *name, const uint64_t *codes)
+{
+    uint64_t sum = 0;
+
+    printf("  %-22s", name);
+    for (uint32_t k = 0; k <= BAD_MOMENT; k++) {
+        printf(" %7llu", (unsigned long long)codes[k]);
+        sum += codes[k];
+    }
+    printf(" %8llu\n", (unsigned long long)sum);
+}
+
+static void print_heading(void)
+{
+    printf("  %-22s", "code");
+    for (uint32_t k = 0; k <= BAD_MOMENT; k++) {
+        printf(" %7u", (unsigned)k);
+    }
+    printf(" %8s\n", "all");
+}
+
+static void report_tables(void)
+{
+    uint64_t sum[CODES] = { 0 };
+
+    for (uint32_t way = 0; way < SPOIL_WAYS; way++) {
+        print_codes(spoil_name(way), table_codes[way]);
+        for (uint32_t k = 0; k < CODES; k++) {
+            sum[k] += table_codes[way][k];
+        }
+    }
+    print_codes("damaged tables", sum);
+}
+
+/* The codes that were met, each with its number. */
+static void print_met(const char *name, const uint64_t *codes)
+{
+    const char *between = "";
+
+    printf("  %s:", name);
+    for (uint32_t k = 0; k < CODES; k++) {
+        if (codes[k] > 0) {
+            printf("%s code %u %llu", between, (unsigned)k,
+                   (unsigned long long)codes[k]);
+            between = ",";
+        }
+    }
+    printf("\n");
+}
+
+static bool read_number(const char *text, uint64_t *number)
+{
+    char *end;
+
+    *number = strtoull(text, &end, 10);
+    return text[0] >= '0' && text[0] <= '9' && *end == '\0';
+}
+
+int main(int argc, char **argv)
+{
+    uint64_t given[] = { 100000, 100000, 1 };
+    uint64_t middle, last;
+
+    for (int k = 1; k < argc; k++) {
+        if (k > 3 || !read_number(argv[k], &given[k - 1])) {
+            fputs("usage: compare [STEPS [TABLES [SEED]]]\n", stderr);
+            return 2;
+        }
+    }
+    middle = run_traces(given[2], given[0]);
+    last = run_plants(middle, given[1]);
+    printf("compare: seeds %llu to %llu, traces before %llu; all answers and "
+           "bytes equal\n", (unsigned long long)given[2],
+           (unsigned long long)last - 1, (unsigned long long)middle);
+    print_heading();
+    print_codes("random steps", step_codes);
+    report_tables();
+    print_met("traces read", read_codes);
+    print_met("fresh tables asked for", fresh_codes);
+    return 0;
+}

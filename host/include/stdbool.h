@@ -1,0 +1,8 @@
+#ifndef NIL_TEST_STDBOOL_H
+#define NIL_TEST_STDBOOL_H
+
+#define bool _Bool
+#define true 1
+#define false 0
+
+#endif

@@ -1,0 +1,9 @@
+#ifndef NIL_TEST_STDDEF_H
+#define NIL_TEST_STDDEF_H
+
+typedef __SIZE_TYPE__ size_t;
+
+#define NULL ((void *)0)
+#define offsetof(type, member) __builtin_offsetof(type, member)
+
+#endif

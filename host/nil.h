@@ -1,0 +1,368 @@
+/*
+ * The proved kernel model for a host in C or C++: link libhost.a, for x86-64
+ * Linux. docs/HOST.md says how, and what each call costs.
+ *
+ * The model keeps nothing between two calls. The host owns the tables and the
+ * clock and lends them for the length of a call; so plants do not know of each
+ * other, and a call may be made wherever its tables are not in use.
+ *
+ * Every function answers for any values behind its pointers. The host sees to
+ * the pointers themselves: none is null, each is aligned as its type says and
+ * leads to as much memory as it says, and no two of one call overlap.
+ *
+ * No struct has padding, so that all bytes of the tables are its fields.
+ */
+#ifndef NIL_H
+#define NIL_H
+
+#include <stddef.h>
+#include <stdint.h>
+
+#ifdef __cplusplus
+extern "C" {
+#endif
+
+/* ---- numbers ---------------------------------------------------------- */
+
+/* How many rows each table has. A plant uses the first of them, as many as its
+   sizes say; the others are never read and never written. */
+enum {
+    NIL_THREADS = 16,
+    NIL_SEMAPHORES = 16,
+    NIL_QUEUES = 8,
+    NIL_REFERENCES = 8,
+    NIL_MAILBOXES = 4,
+    NIL_SLOTS = 16, /* of one mailbox; 1 at least */
+    NIL_POOLS = 4,
+    NIL_OBJECTS = 32 /* of one pool, numbered 0 to 31 */
+};
+
+/* No thread: idle as the running one, an interrupt as the caller, nobody in an
+   empty reference. */
+enum { NIL_IDLE = 255, NIL_INTERRUPT = 255, NIL_NOBODY = 255 };
+
+/* MSG_OK, MSG_TIMEOUT and MSG_RESET of the manual. */
+enum { NIL_OK = 0, NIL_TIMEOUT = -1, NIL_RESET = -2 };
+
+/*
+ * Timeouts, in ticks. The manual's TIME_IMMEDIATE is -1 and its TIME_INFINITE
+ * is 0; here it is the other way round. Compiled firmware passes the manual's
+ * numbers: the host translates them, by nil_timeout() below.
+ */
+#define NIL_IMMEDIATE UINT32_C(0)
+#define NIL_INFINITE UINT32_C(4294967295)
+#define NIL_LONGEST UINT32_C(4294967294)
+
+/* Ticks a second: 1 to NIL_MAX_FREQUENCY, and the usual one. */
+#define NIL_FREQUENCY UINT32_C(1000)
+#define NIL_MAX_FREQUENCY UINT32_C(1000000)
+
+/* The kinds of step, with what their object is, what `a` is, and whether they
+   have a timeout. Fields that a kind does not name are ignored. */
+enum {
+    NIL_TICK = 1,            /* by an interrupt */
+    NIL_SEMAPHORE_WAIT = 2,  /* semaphore, timeout; not by an interrupt */
+    NIL_SIGNAL = 3,          /* semaphore */
+    NIL_SEMAPHORE_RESET = 4, /* semaphore, a: the counter to be */
+    NIL_BINARY_SIGNAL = 5,   /* semaphore */
+    NIL_QUEUE_WAIT = 6,      /* queue, timeout; not by an interrupt */
+    NIL_RELEASE_FIRST = 7,   /* queue, a: the message */
+    NIL_RELEASE_ALL = 8,     /* queue, a: the message */
+    NIL_SUSPEND = 9,         /* reference, timeout; not by an interrupt */
+    NIL_RESUME = 10,         /* reference, a: the message */
+    NIL_SLEEP_FOR = 11,      /* timeout; not by an interrupt */
+    NIL_SLEEP_UNTIL = 12,    /* a: the system time; not by an interrupt */
+    NIL_EVENT_SIGNAL = 13,   /* thread, a: the flags */
+    NIL_EVENT_WAIT = 14,     /* a: the mask, timeout; not by an interrupt */
+    NIL_POST = 15,           /* mailbox, a: the message, timeout */
+    NIL_POST_AHEAD = 16,     /* mailbox, a: the message, timeout */
+    NIL_FETCH = 17,          /* mailbox, timeout; the datum is the message */
+    NIL_MAILBOX_RESET = 18,  /* mailbox */
+    NIL_MAILBOX_RESUME = 19, /* mailbox */
+    NIL_ALLOC = 20,          /* pool, timeout; the datum is the object */
+    NIL_FREE = 21,           /* pool, a: the object */
+    NIL_ADD = 22             /* pool, a: the object */
+};
+
+/* Codes: 0, or the number of a refusal. */
+enum {
+    NIL_ACCEPTED = 0,
+    NIL_BROKEN_TABLES = 1, /* they do not hang together */
+    NIL_BAD_KIND = 2,
+    NIL_BAD_CALLER = 3,  /* neither an interrupt nor the running thread */
+    NIL_BAD_CONTEXT = 4, /* not this kind by a thread, or by an interrupt */
+    NIL_BAD_OBJECT = 5,  /* not in the configuration */
+    NIL_BAD_VALUE = 6,   /* `a`, the timeout or a frequency out of range */
+    NIL_BAD_MOMENT = 7,  /* the object is not in the state that is needed */
+    NIL_BAD_VERSION = 11, /* an empty trace, or one of another version */
+    NIL_CUT_SHORT = 12,   /* a trace that ends inside a record */
+    NIL_BAD_LENGTH = 13,  /* a record of a wrong length */
+    NIL_BAD_SIZE = 14,    /* a size out of its limits */
+    NIL_TOO_LONG = 15,    /* a trace above NIL_TRACE_LIMIT bytes */
+    NIL_NO_SPACE = 16     /* a buffer too short */
+};
+
+/* A thread's states. */
+enum {
+    NIL_READY = 0,
+    NIL_SLEEPING = 1,
+    NIL_SUSPENDED = 2,
+    NIL_QUEUED = 3,
+    NIL_AWAITING = 4 /* events */
+};
+
+/* Where threads queue: the number of an object is added to its range's first
+   place. The place is the index of its counter. */
+enum {
+    NIL_SEMAPHORE_PLACE = 0,
+    NIL_POOL_PLACE = 16,
+    NIL_QUEUE_PLACE = 20,
+    NIL_WRITERS_PLACE = 28, /* of a mailbox */
+    NIL_READERS_PLACE = 32, /* of a mailbox */
+    NIL_PLACES = 36
+};
+
+/* The mark of a pool's object. */
+enum { NIL_ABSENT = 0, NIL_FREE_MARK = 1, NIL_OUT = 2 };
+
+/* Lengths of a trace, of its head and of the record of a step, in bytes. */
+enum {
+    NIL_TRACE_LIMIT = 60000,
+    NIL_TRACE_HEAD = 13, /* at most: 9 bytes, and one a mailbox */
+    NIL_STEP_RECORD = 13
+};
+
+/* What nil_read found. */
+enum { NIL_FOUND_NOTHING = 0, NIL_FOUND_SIZES = 1, NIL_FOUND_STEP = 2 };
+
+/* ---- what a host keeps ------------------------------------------------ */
+
+/* An unfinished call; all 0 without one. The timeout is the full one. */
+typedef struct nil_call {
+    uint16_t kind;
+    uint16_t object;
+    uint32_t operand;
+    uint32_t timeout;
+} nil_call;
+
+/* What a call answered. */
+typedef struct nil_answer {
+    int32_t message;
+    uint32_t datum;
+} nil_answer;
+
+typedef struct nil_thread {
+    uint16_t state;
+    uint16_t place;     /* queued: a counter's; suspended: a reference; else 0 */
+    uint32_t remaining; /* ticks, 0 for none */
+    uint32_t pending;   /* event flags */
+    uint32_t awaited;   /* the mask of an unfinished event wait, else 0 */
+    int32_t message;    /* with which it was last made ready */
+    nil_call call;
+    nil_answer answer; /* of its last finished call; 0 and 0 in a sleep */
+} nil_thread;
+
+typedef struct nil_mailbox {
+    uint16_t read;
+    uint16_t write;
+    uint16_t count;
+    uint16_t reset; /* any value but 0 is the reset state */
+    uint32_t messages[NIL_SLOTS];
+} nil_mailbox;
+
+typedef struct nil_pool {
+    uint16_t length;           /* of the free list */
+    uint8_t list[NIL_OBJECTS]; /* the last used place is the top */
+    uint8_t marks[NIL_OBJECTS];
+} nil_pool;
+
+/* Thread 0 is the highest in priority. */
+typedef struct nil_sizes {
+    uint16_t threads; /* 1 to 16 */
+    uint16_t semaphores;
+    uint16_t queues;
+    uint16_t references;
+    uint16_t mailboxes;
+    uint16_t pools;
+    uint16_t slots[NIL_MAILBOXES];
+} nil_sizes;
+
+typedef struct nil_tables {
+    nil_thread threads[NIL_THREADS];
+    int32_t counters[NIL_PLACES];
+    uint8_t references[NIL_REFERENCES]; /* a thread, or NIL_NOBODY */
+    nil_mailbox mailboxes[NIL_MAILBOXES];
+    nil_pool pools[NIL_POOLS];
+    nil_sizes sizes;
+} nil_tables;
+
+typedef struct nil_clock {
+    uint32_t time;
+    uint32_t frequency; /* ticks a second */
+} nil_clock;
+
+/* ---- what goes in and comes out --------------------------------------- */
+
+/* One call of a thread or an interrupt, or one tick. */
+typedef struct nil_request {
+    uint8_t kind;
+    uint8_t caller;
+    uint8_t object;
+    uint8_t unused; /* any value */
+    uint32_t a;
+    uint32_t timeout;
+} nil_request;
+
+/* The masks have bit i for thread i. Message and datum are the caller's call's,
+   0 and 0 as long as it is not finished. A refusal has its code, the running
+   thread (NIL_IDLE with code 1), and 0 in all else. */
+typedef struct nil_result {
+    uint16_t code;
+    uint16_t running;
+    uint16_t woken;
+    uint16_t finished;
+    int32_t message;
+    uint32_t datum;
+} nil_result;
+
+/* What stands at a place of a trace. */
+typedef struct nil_read_result {
+    size_t next;      /* the place after it; the same place if nothing is found */
+    size_t number;    /* of the record at the place */
+    nil_request step; /* where one is found, else 0 */
+    nil_sizes sizes;  /* where they are found, else 0 */
+    uint32_t found;
+    uint32_t code; /* a refusal, or 0: nothing found with code 0 is the end */
+} nil_read_result;
+
+/* ---- functions -------------------------------------------------------- */
+
+/* Sets up fresh tables and a fresh clock, and returns 0; or NIL_BAD_SIZE, then
+   NIL_BAD_VALUE for the frequency, with nothing written. */
+uint8_t nil_fresh(nil_tables *tables, nil_clock *clock, const nil_sizes *sizes,
+                  uint32_t frequency);
+
+/* Makes one step: the tables, and at a tick the clock, are changed where they
+   lie. A refused step writes the result and nothing else. */
+void nil_step(nil_tables *tables, nil_clock *clock, const nil_request *request,
+              nil_result *result);
+
+/* Reads the record at a place of a trace of `length` bytes: the sizes at place
+   0, a step elsewhere. The next read goes to `next`. */
+void nil_read(const uint8_t *trace, size_t length, size_t at,
+              nil_read_result *result);
+
+/* Writes a trace's head for the sizes, the place after it to `next`, and
+   returns 0; or NIL_BAD_SIZE or NIL_NO_SPACE, with nothing written. */
+uint8_t nil_write_sizes(uint8_t *buffer, size_t length, const nil_sizes *sizes,
+                        size_t *next);
+
+/* Writes the record of a step at a place, the place after it to `next`, and
+   returns 0; or NIL_TOO_LONG or NIL_NO_SPACE, with nothing written. */
+uint8_t nil_write_step(uint8_t *buffer, size_t length, size_t at,
+                       const nil_request *request, size_t *next);
+
+/* The timeout here for a timeout of compiled firmware: its TIME_INFINITE (0)
+   and TIME_IMMEDIATE (4294967295) change places, all others stay. */
+static inline uint32_t nil_timeout(uint32_t firmware)
+{
+    return firmware == 0 ? NIL_INFINITE
+         : firmware == UINT32_C(4294967295) ? NIL_IMMEDIATE
+         : firmware;
+}
+
+/* ---- layout ----------------------------------------------------------- */
+
+/* A compiler that lays a struct out in another way stops here. */
+#ifdef __cplusplus
+#define NIL_HOLDS(test) static_assert(test, #test)
+#else
+#define NIL_HOLDS(test) _Static_assert(test, #test)
+#endif
+#define NIL_AT(type, field, at) NIL_HOLDS(offsetof(type, field) == at)
+
+NIL_HOLDS(sizeof(nil_call) == 12);
+NIL_AT(nil_call, kind, 0);
+NIL_AT(nil_call, object, 2);
+NIL_AT(nil_call, operand, 4);
+NIL_AT(nil_call, timeout, 8);
+
+NIL_HOLDS(sizeof(nil_answer) == 8);
+NIL_AT(nil_answer, message, 0);
+NIL_AT(nil_answer, datum, 4);
+
+NIL_HOLDS(sizeof(nil_thread) == 40);
+NIL_AT(nil_thread, state, 0);
+NIL_AT(nil_thread, place, 2);
+NIL_AT(nil_thread, remaining, 4);
+NIL_AT(nil_thread, pending, 8);
+NIL_AT(nil_thread, awaited, 12);
+NIL_AT(nil_thread, message, 16);
+NIL_AT(nil_thread, call, 20);
+NIL_AT(nil_thread, answer, 32);
+
+NIL_HOLDS(sizeof(nil_mailbox) == 72);
+NIL_AT(nil_mailbox, read, 0);
+NIL_AT(nil_mailbox, write, 2);
+NIL_AT(nil_mailbox, count, 4);
+NIL_AT(nil_mailbox, reset, 6);
+NIL_AT(nil_mailbox, messages, 8);
+
+NIL_HOLDS(sizeof(nil_pool) == 66);
+NIL_AT(nil_pool, length, 0);
+NIL_AT(nil_pool, list, 2);
+NIL_AT(nil_pool, marks, 34);
+
+NIL_HOLDS(sizeof(nil_sizes) == 20);
+NIL_AT(nil_sizes, threads, 0);
+NIL_AT(nil_sizes, semaphores, 2);
+NIL_AT(nil_sizes, queues, 4);
+NIL_AT(nil_sizes, references, 6);
+NIL_AT(nil_sizes, mailboxes, 8);
+NIL_AT(nil_sizes, pools, 10);
+NIL_AT(nil_sizes, slots, 12);
+
+NIL_HOLDS(sizeof(nil_tables) == 1364);
+NIL_AT(nil_tables, threads, 0);
+NIL_AT(nil_tables, counters, 640);
+NIL_AT(nil_tables, references, 784);
+NIL_AT(nil_tables, mailboxes, 792);
+NIL_AT(nil_tables, pools, 1080);
+NIL_AT(nil_tables, sizes, 1344);
+
+NIL_HOLDS(sizeof(nil_clock) == 8);
+NIL_AT(nil_clock, time, 0);
+NIL_AT(nil_clock, frequency, 4);
+
+NIL_HOLDS(sizeof(nil_request) == 12);
+NIL_AT(nil_request, kind, 0);
+NIL_AT(nil_request, caller, 1);
+NIL_AT(nil_request, object, 2);
+NIL_AT(nil_request, unused, 3);
+NIL_AT(nil_request, a, 4);
+NIL_AT(nil_request, timeout, 8);
+
+NIL_HOLDS(sizeof(nil_result) == 16);
+NIL_AT(nil_result, code, 0);
+NIL_AT(nil_result, running, 2);
+NIL_AT(nil_result, woken, 4);
+NIL_AT(nil_result, finished, 6);
+NIL_AT(nil_result, message, 8);
+NIL_AT(nil_result, datum, 12);
+
+NIL_HOLDS(sizeof(nil_read_result) == 56);
+NIL_AT(nil_read_result, next, 0);
+NIL_AT(nil_read_result, number, 8);
+NIL_AT(nil_read_result, step, 16);
+NIL_AT(nil_read_result, sizes, 28);
+NIL_AT(nil_read_result, found, 48);
+NIL_AT(nil_read_result, code, 52);
+
+#undef NIL_AT
+#undef NIL_HOLDS
+
+#ifdef __cplusplus
+}
+#endif
+
+#endif

@@ -1,0 +1,517 @@
+//! The proved kernel model for a host in Rust: link `libhost.a`, for x86-64 Linux. It is `nil.h` with references in place of
+//! pointers: what the C caller has to promise of its pointers, Rust's own rules see to, so that every function here is safe.
+//!
+//! The model keeps nothing between two calls, and every function answers for any values. A refusal is a number, as in `nil.h`.
+//! It needs nothing but `core`, from Rust 1.63 on.
+
+/// How many rows each table has; a plant uses the first of them, as many as its sizes say.
+pub const THREADS: usize = 16;
+pub const SEMAPHORES: usize = 16;
+pub const QUEUES: usize = 8;
+pub const REFERENCES: usize = 8;
+pub const MAILBOXES: usize = 4;
+/// Of one mailbox.
+pub const SLOTS: usize = 16;
+pub const POOLS: usize = 4;
+/// Of one pool.
+pub const OBJECTS: usize = 32;
+/// Where threads queue: semaphores 0, pools 16, queues 20, mailboxes' writers 28, their readers 32.
+pub const PLACES: usize = 36;
+
+/// Idle as the running thread, an interrupt as the caller, nobody in an empty reference.
+pub const NOBODY: u8 = 255;
+
+/// `MSG_OK`, `MSG_TIMEOUT` and `MSG_RESET` of the manual.
+pub const OK: i32 = 0;
+pub const TIMEOUT: i32 = -1;
+pub const RESET: i32 = -2;
+
+/// Timeouts, in ticks. The manual's `TIME_IMMEDIATE` is -1 and its `TIME_INFINITE` is 0; here it is the other way round.
+/// Compiled firmware passes the manual's numbers: the host translates them, by [`timeout`].
+pub const IMMEDIATE: u32 = 0;
+pub const INFINITE: u32 = 4294967295;
+pub const LONGEST: u32 = 4294967294;
+
+/// Ticks a second where the firmware names none; 1 to 1,000,000 are accepted.
+pub const FREQUENCY: u32 = 1000;
+
+/// The kinds of step. `nil.h` says what each makes of its fields.
+pub mod kind {
+    pub const TICK: u8 = 1;
+    pub const SEMAPHORE_WAIT: u8 = 2;
+    pub const SIGNAL: u8 = 3;
+    pub const SEMAPHORE_RESET: u8 = 4;
+    pub const BINARY_SIGNAL: u8 = 5;
+    pub const QUEUE_WAIT: u8 = 6;
+    pub const RELEASE_FIRST: u8 = 7;
+    pub const RELEASE_ALL: u8 = 8;
+    pub const SUSPEND: u8 = 9;
+    pub const RESUME: u8 = 10;
+    pub const SLEEP_FOR: u8 = 11;
+    pub const SLEEP_UNTIL: u8 = 12;
+    pub const EVENT_SIGNAL: u8 = 13;
+    pub const EVENT_WAIT: u8 = 14;
+    pub const POST: u8 = 15;
+    pub const POST_AHEAD: u8 = 16;
+    pub const FETCH: u8 = 17;
+    pub const MAILBOX_RESET: u8 = 18;
+    pub const MAILBOX_RESUME: u8 = 19;
+    pub const ALLOC: u8 = 20;
+    pub const FREE: u8 = 21;
+    pub const ADD: u8 = 22;
+}
+
+/// The numbers of refusals; 0 is none.
+pub mod code {
+    pub const ACCEPTED: u8 = 0;
+    pub const BROKEN_TABLES: u8 = 1;
+    pub const BAD_KIND: u8 = 2;
+    pub const BAD_CALLER: u8 = 3;
+    pub const BAD_CONTEXT: u8 = 4;
+    pub const BAD_OBJECT: u8 = 5;
+    pub const BAD_VALUE: u8 = 6;
+    pub const BAD_MOMENT: u8 = 7;
+    pub const BAD_VERSION: u8 = 11;
+    pub const CUT_SHORT: u8 = 12;
+    pub const BAD_LENGTH: u8 = 13;
+    pub const BAD_SIZE: u8 = 14;
+    pub const TOO_LONG: u8 = 15;
+    pub const NO_SPACE: u8 = 16;
+}
+
+/// A thread's states.
+pub mod state {
+    pub const READY: u16 = 0;
+    pub const SLEEPING: u16 = 1;
+    pub const SUSPENDED: u16 = 2;
+    pub const QUEUED: u16 = 3;
+    pub const AWAITING: u16 = 4;
+}
+
+/// An unfinished call; all 0 without one. The timeout is the full one.
+#[repr(C)]
+#[derive(Clone, Copy, Debug, Default, PartialEq, Eq)]
+pub struct Call {
+    pub kind: u16,
+    pub object: u16,
+    pub operand: u32,
+    pub timeout: u32,
+}
+
+/// What a call answered.
+#[repr(C)]
+#[derive(Clone, Copy, Debug, Default, PartialEq, Eq)]
+pub struct Answer {
+    pub message: i32,
+    pub datum: u32,
+}
+
+/// `place` is a counter's for a queued thread, a reference for a suspended one, else 0.
+#[repr(C)]
+#[derive(Clone, Copy, Debug, Default, PartialEq, Eq)]
+pub struct Thread {
+    pub state: u16,
+    pub place: u16,
+    pub remaining: u32,
+    pub pending: u32,
+    pub awaited: u32,
+    pub message: i32,
+    pub call: Call,
+    pub answer: Answer,
+}
+
+/// Any value of `reset` but 0 is the reset state.
+#[repr(C)]
+#[derive(Clone, Copy, Debug, Default, PartialEq, Eq)]
+pub struct Mailbox {
+    pub read: u16,
+    pub write: u16,
+    pub count: u16,
+    pub reset: u16,
+    pub messages: [u32; SLOTS],
+}
+
+/// The last used place of the list is its top. An object is absent (0), free (1) or out (2).
+#[repr(C)]
+#[derive(Clone, Copy, Debug, Default, PartialEq, Eq)]
+pub struct Pool {
+    pub length: u16,
+    pub list: [u8; OBJECTS],
+    pub marks: [u8; OBJECTS],
+}
+
+/// How many threads and objects a plant has. Thread 0 is the highest in priority.
+#[repr(C)]
+#[derive(Clone, Copy, Debug, Default, PartialEq, Eq)]
+pub struct Sizes {
+    pub threads: u16,
+    pub semaphores: u16,
+    pub queues: u16,
+    pub references: u16,
+    pub mailboxes: u16,
+    pub pools: u16,
+    pub slots: [u16; MAILBOXES],
+}
+
+#[repr(C)]
+#[derive(Clone, Copy, Debug, PartialEq, Eq)]
+pub struct Tables {
+    pub threads: [Thread; THREADS],
+    pub counters: [i32; PLACES],
+    pub references: [u8; REFERENCES],
+    pub mailboxes: [Mailbox; MAILBOXES],
+    pub pools: [Pool; POOLS],
+    pub sizes: Sizes,
+}
+
+#[repr(C)]
+#[derive(Clone, Copy, Debug, Default, PartialEq, Eq)]
+pub struct Clock {
+    pub time: u32,
+    pub frequency: u32,
+}
+
+/// One call of a thread or an interrupt, or one tick. `unused` may have any value.
+#[repr(C)]
+#[derive(Clone, Copy, Debug, Default, PartialEq, Eq)]
+pub struct Request {
+    pub kind: u8,
+    pub caller: u8,
+    pub object: u8,
+    pub unused: u8,
+    pub a: u32,
+    pub timeout: u32,
+}
+
+/// A step's result. The masks have bit i for thread i; a refusal has its code, the running thread, and 0 in all else.
+#[repr(C)]
+#[derive(Clone, Copy, Debug, Default, PartialEq, Eq)]
+pub struct Outcome {
+    pub code: u16,
+    pub running: u16,
+    pub woken: u16,
+    pub finished: u16,
+    pub message: i32,
+    pub datum: u32,
+}
+
+/// What stands at a place of a trace.
+#[derive(Clone, Copy, Debug, PartialEq, Eq)]
+pub enum Found {
+    Sizes(Sizes),
+    Step(Request),
+    End,
+    /// The refusal's number.
+    Refused(u8),
+}
+
+/// A read: what was found, the record's number, and the place after it, which is the same place if no record was read.
+#[derive(Clone, Copy, Debug, PartialEq, Eq)]
+pub struct Read {
+    pub found: Found,
+    pub number: usize,
+    pub next: usize,
+}
+
+/// A read as it crosses the boundary.
+#[repr(C)]
+#[derive(Clone, Copy, Default)]
+struct RawRead {
+    next: usize,
+    number: usize,
+    step: Request,
+    sizes: Sizes,
+    found: u32,
+    code: u32,
+}
+
+extern "C" {
+    fn nil_fresh(tables: *mut Tables, clock: *mut Clock, sizes: *const Sizes, frequency: u32)
+        -> u8;
+    fn nil_step(
+        tables: *mut Tables,
+        clock: *mut Clock,
+        request: *const Request,
+        result: *mut Outcome,
+    );
+    fn nil_read(trace: *const u8, length: usize, at: usize, result: *mut RawRead);
+    fn nil_write_sizes(buffer: *mut u8, length: usize, sizes: *const Sizes, next: *mut usize)
+        -> u8;
+    fn nil_write_step(
+        buffer: *mut u8,
+        length: usize,
+        at: usize,
+        request: *const Request,
+        next: *mut usize,
+    ) -> u8;
+}
+
+impl Tables {
+    /// Tables of no sizes: a place for fresh ones. A step on them is refused with 1.
+    pub const NONE: Tables = Tables {
+        threads: [Thread {
+            state: 0,
+            place: 0,
+            remaining: 0,
+            pending: 0,
+            awaited: 0,
+            message: 0,
+            call: Call {
+                kind: 0,
+                object: 0,
+                operand: 0,
+                timeout: 0,
+            },
+            answer: Answer {
+                message: 0,
+                datum: 0,
+            },
+        }; THREADS],
+        counters: [0; PLACES],
+        references: [NOBODY; REFERENCES],
+        mailboxes: [Mailbox {
+            read: 0,
+            write: 0,
+            count: 0,
+            reset: 0,
+            messages: [0; SLOTS],
+        }; MAILBOXES],
+        pools: [Pool {
+            length: 0,
+            list: [0; OBJECTS],
+            marks: [0; OBJECTS],
+        }; POOLS],
+        sizes: Sizes {
+            threads: 0,
+            semaphores: 0,
+            queues: 0,
+            references: 0,
+            mailboxes: 0,
+            pools: 0,
+            slots: [0; MAILBOXES],
+        },
+    };
+}
+
+fn accepted<T>(code: u8, value: T) -> Result<T, u8> {
+    if code == code::ACCEPTED {
+        Ok(value)
+    } else {
+        Err(code)
+    }
+}
+
+/// Sets up fresh tables and a fresh clock; or refuses with 14 for a size, then 6 for the frequency, and writes nothing.
+pub fn fresh(
+    tables: &mut Tables,
+    clock: &mut Clock,
+    sizes: &Sizes,
+    frequency: u32,
+) -> Result<(), u8> {
+    // SAFETY: the references are valid and aligned, and no two of them overlap.
+    let code = unsafe { nil_fresh(tables, clock, sizes, frequency) };
+    accepted(code, ())
+}
+
+/// Makes one step. A refused one leaves every byte of the tables and the clock.
+pub fn step(tables: &mut Tables, clock: &mut Clock, request: &Request) -> Outcome {
+    let mut result = Outcome::default();
+    // SAFETY: as in `fresh`; the result is a local of its own.
+    unsafe { nil_step(tables, clock, request, &mut result) };
+    result
+}
+
+/// Reads the record at a place of a trace: the sizes at place 0, a step or the end elsewhere.
+pub fn read(trace: &[u8], at: usize) -> Read {
+    let mut raw = RawRead::default();
+    // SAFETY: a slice's pointer is never null and leads to its length of bytes; the result is a local of its own.
+    unsafe { nil_read(trace.as_ptr(), trace.len(), at, &mut raw) };
+    let found = match (raw.code, raw.found) {
+        (0, 0) => Found::End,
+        (0, 1) => Found::Sizes(raw.sizes),
+        (0, _) => Found::Step(raw.step),
+        (code, _) => Found::Refused(code as u8),
+    };
+    Read {
+        found,
+        number: raw.number,
+        next: raw.next,
+    }
+}
+
+/// Writes a trace's head and gives the place after it; or refuses with 14 or 16, and writes nothing.
+pub fn write_sizes(buffer: &mut [u8], sizes: &Sizes) -> Result<usize, u8> {
+    let mut next = 0;
+    // SAFETY: as in `read`; a slice that may be changed overlaps nothing else.
+    let code = unsafe { nil_write_sizes(buffer.as_mut_ptr(), buffer.len(), sizes, &mut next) };
+    accepted(code, next)
+}
+
+/// Writes the record of a step at a place and gives the place after it; or refuses with 15 or 16, and writes nothing.
+pub fn write_step(buffer: &mut [u8], at: usize, request: &Request) -> Result<usize, u8> {
+    let mut next = 0;
+    // SAFETY: as in `write_sizes`.
+    let code = unsafe { nil_write_step(buffer.as_mut_ptr(), buffer.len(), at, request, &mut next) };
+    accepted(code, next)
+}
+
+/// The timeout here for a timeout of compiled firmware: its `TIME_INFINITE` (0) and `TIME_IMMEDIATE` (4294967295) change
+/// places, all others stay.
+pub fn timeout(firmware: u32) -> u32 {
+    match firmware {
+        0 => INFINITE,
+        4294967295 => IMMEDIATE,
+        ticks => ticks,
+    }
+}
+
+/// The layout, as `nil.h` has it. Of each struct a value is made whose fields hold 1, 2, 3 and so on, and its bytes are looked
+/// at: a field that lies elsewhere is an error of the compiler, and so is padding, whose bytes have no value. (`offset_of!`
+/// would say the same; it is younger than the compilers of some plants.)
+#[allow(dead_code)] // Rust 1.63 does not see that `const _` uses a constant
+mod layout {
+    use super::*;
+    use core::mem::transmute;
+
+    const CALL: Call = Call {
+        kind: 1,
+        object: 2,
+        operand: 3,
+        timeout: 4,
+    };
+    const ANSWER: Answer = Answer {
+        message: 1,
+        datum: 2,
+    };
+    const THREAD: Thread = Thread {
+        state: 1,
+        place: 2,
+        remaining: 3,
+        pending: 4,
+        awaited: 5,
+        message: 6,
+        call: CALL,
+        answer: ANSWER,
+    };
+    const MAILBOX: Mailbox = Mailbox {
+        read: 1,
+        write: 2,
+        count: 3,
+        reset: 4,
+        messages: [5; SLOTS],
+    };
+    const POOL: Pool = Pool {
+        length: 1,
+        list: [2; OBJECTS],
+        marks: [3; OBJECTS],
+    };
+    const SIZES: Sizes = Sizes {
+        threads: 1,
+        semaphores: 2,
+        queues: 3,
+        references: 4,
+        mailboxes: 5,
+        pools: 6,
+        slots: [7, 8, 9, 10],
+    };
+    const REQUEST: Request = Request {
+        kind: 1,
+        caller: 2,
+        object: 3,
+        unused: 4,
+        a: 5,
+        timeout: 6,
+    };
+
+    const _: () = {
+        let b: [u8; 12] = unsafe { transmute(CALL) };
+        assert!(b[0] == 1 && b[2] == 2 && b[4] == 3 && b[8] == 4);
+        let b: [u8; 8] = unsafe { transmute(ANSWER) };
+        assert!(b[0] == 1 && b[4] == 2);
+        let b: [u8; 40] = unsafe { transmute(THREAD) };
+        assert!(b[0] == 1 && b[2] == 2 && b[4] == 3 && b[8] == 4 && b[12] == 5 && b[16] == 6);
+        assert!(b[20] == 1 && b[28] == 4 && b[32] == 1 && b[36] == 2);
+    };
+
+    const _: () = {
+        let b: [u8; 72] = unsafe { transmute(MAILBOX) };
+        assert!(b[0] == 1 && b[2] == 2 && b[4] == 3 && b[6] == 4 && b[8] == 5 && b[68] == 5);
+        let b: [u8; 66] = unsafe { transmute(POOL) };
+        assert!(b[0] == 1 && b[2] == 2 && b[33] == 2 && b[34] == 3 && b[65] == 3);
+        let b: [u8; 20] = unsafe { transmute(SIZES) };
+        assert!(b[0] == 1 && b[2] == 2 && b[4] == 3 && b[6] == 4 && b[8] == 5 && b[10] == 6);
+        assert!(b[12] == 7 && b[14] == 8 && b[16] == 9 && b[18] == 10);
+    };
+
+    const _: () = {
+        let b: [u8; 1364] = unsafe {
+            transmute(Tables {
+                threads: [THREAD; THREADS],
+                counters: [11; PLACES],
+                references: [12; REFERENCES],
+                mailboxes: [MAILBOX; MAILBOXES],
+                pools: [POOL; POOLS],
+                sizes: SIZES,
+            })
+        };
+        assert!(
+            b[0] == 1
+                && b[600] == 1
+                && b[640] == 11
+                && b[780] == 11
+                && b[784] == 12
+                && b[791] == 12
+        );
+        assert!(
+            b[792] == 1
+                && b[800] == 5
+                && b[1080] == 1
+                && b[1082] == 2
+                && b[1344] == 1
+                && b[1362] == 10
+        );
+    };
+
+    const _: () = {
+        let b: [u8; 8] = unsafe {
+            transmute(Clock {
+                time: 1,
+                frequency: 2,
+            })
+        };
+        assert!(b[0] == 1 && b[4] == 2);
+        let b: [u8; 12] = unsafe { transmute(REQUEST) };
+        assert!(b[0] == 1 && b[1] == 2 && b[2] == 3 && b[3] == 4 && b[4] == 5 && b[8] == 6);
+        let b: [u8; 16] = unsafe {
+            transmute(Outcome {
+                code: 1,
+                running: 2,
+                woken: 3,
+                finished: 4,
+                message: 5,
+                datum: 6,
+            })
+        };
+        assert!(b[0] == 1 && b[2] == 2 && b[4] == 3 && b[6] == 4 && b[8] == 5 && b[12] == 6);
+        let b: [u8; 56] = unsafe {
+            transmute(RawRead {
+                next: 1,
+                number: 2,
+                step: REQUEST,
+                sizes: SIZES,
+                found: 3,
+                code: 4,
+            })
+        };
+        assert!(
+            b[0] == 1
+                && b[8] == 2
+                && b[16] == 1
+                && b[24] == 6
+                && b[28] == 1
+                && b[46] == 10
+                && b[48] == 3
+                && b[52] == 4
+        );
+    };
+}

@@ -1,0 +1,164 @@
+//! The Rust wrapper at work: document 01's own six steps are written as a trace, read back and made, with the listing's lines
+//! as what is expected; then what each function refuses. It ends with status 0, or panics at the first surprise.
+//!
+//! It has C's `main`: what Rust does before its own reads /proc/self/maps, at which the kit's emulator ends.
+#![no_main]
+
+#[allow(dead_code)] // a host uses what it needs of the wrapper
+#[path = "nil.rs"]
+mod nil;
+
+use nil::kind::{SEMAPHORE_WAIT, SIGNAL, TICK};
+use nil::{Clock, Found, Outcome, Request, Sizes, Tables, NOBODY};
+
+const SIZES: Sizes = Sizes {
+    threads: 2,
+    semaphores: 1,
+    queues: 0,
+    references: 0,
+    mailboxes: 0,
+    pools: 0,
+    slots: [0; 4],
+};
+
+fn request(kind: u8, caller: u8, timeout: u32) -> Request {
+    Request {
+        kind,
+        caller,
+        timeout,
+        ..Request::default()
+    }
+}
+
+fn six_steps() -> [Request; 6] {
+    [
+        request(SEMAPHORE_WAIT, 0, 3),
+        request(SIGNAL, 1, 0),
+        request(SEMAPHORE_WAIT, 0, 2),
+        request(TICK, NOBODY, 0),
+        request(TICK, NOBODY, 0),
+        request(SIGNAL, 1, 0),
+    ]
+}
+
+/// Code, running thread, woken and finished mask, as the paper lists them; the last two are the answer.
+const EXPECTED: [(u16, u16, u16, u16, i32); 6] = [
+    (0, 1, 0, 0, 0),
+    (0, 0, 1, 3, 0),
+    (0, 1, 0, 0, 0),
+    (0, 1, 0, 0, 0),
+    (0, 0, 1, 1, 0),
+    (3, 0, 0, 0, 0),
+];
+
+fn written() -> Vec<u8> {
+    let mut buffer = [0; 200];
+    let mut at = nil::write_sizes(&mut buffer, &SIZES).unwrap();
+    assert_eq!(at, 9);
+    for step in six_steps().iter() {
+        at = nil::write_step(&mut buffer, at, step).unwrap();
+    }
+    buffer[..at].to_vec()
+}
+
+fn plays_the_six_steps() {
+    let trace = written();
+    let head = nil::read(&trace, 0);
+    assert_eq!(
+        (head.found, head.number, head.next),
+        (Found::Sizes(SIZES), 0, 9)
+    );
+    let (mut tables, mut clock) = (Tables::NONE, Clock::default());
+    nil::fresh(&mut tables, &mut clock, &SIZES, nil::FREQUENCY).unwrap();
+    let mut at = head.next;
+    for (k, (step, line)) in six_steps().iter().zip(EXPECTED.iter()).enumerate() {
+        let read = nil::read(&trace, at);
+        assert_eq!((read.found, read.number), (Found::Step(*step), k + 1));
+        at = read.next;
+        let &(code, running, woken, finished, message) = line;
+        let expected = Outcome {
+            code,
+            running,
+            woken,
+            finished,
+            message,
+            datum: 0,
+        };
+        assert_eq!(
+            nil::step(&mut tables, &mut clock, step),
+            expected,
+            "step {}",
+            k + 1
+        );
+    }
+    assert_eq!(nil::read(&trace, at).found, Found::End);
+    assert_eq!(clock.time, 2);
+    assert_eq!(tables.threads[0].answer.message, nil::TIMEOUT);
+}
+
+fn refuses_and_keeps_every_byte() {
+    let (mut tables, mut clock) = (Tables::NONE, Clock::default());
+    let too_many = Sizes {
+        threads: 17,
+        ..SIZES
+    };
+    assert_eq!(
+        nil::fresh(&mut tables, &mut clock, &too_many, 1000),
+        Err(nil::code::BAD_SIZE)
+    );
+    assert_eq!(
+        nil::fresh(&mut tables, &mut clock, &SIZES, 0),
+        Err(nil::code::BAD_VALUE)
+    );
+    assert_eq!((tables, clock), (Tables::NONE, Clock::default()));
+    let refused = nil::step(&mut tables, &mut clock, &request(TICK, NOBODY, 0));
+    assert_eq!(
+        refused,
+        Outcome {
+            code: 1,
+            running: 255,
+            ..Outcome::default()
+        }
+    );
+    assert_eq!((tables, clock), (Tables::NONE, Clock::default()));
+}
+
+fn refuses_traces_and_buffers() {
+    let trace = written();
+    let cut = nil::read(&trace[..trace.len() - 1], trace.len() - 13);
+    assert_eq!(
+        (cut.found, cut.number, cut.next),
+        (Found::Refused(nil::code::CUT_SHORT), 6, trace.len() - 13)
+    );
+    assert_eq!(
+        nil::read(&[], 0).found,
+        Found::Refused(nil::code::BAD_VERSION)
+    );
+    let mut short = [7; 8];
+    assert_eq!(
+        nil::write_sizes(&mut short, &SIZES),
+        Err(nil::code::NO_SPACE)
+    );
+    assert_eq!(
+        nil::write_step(&mut short, 60000, &request(TICK, 255, 0)),
+        Err(nil::code::TOO_LONG)
+    );
+    assert_eq!(short, [7; 8]);
+}
+
+fn translates_timeouts() {
+    assert_eq!(
+        [0, 1, 4294967294, 4294967295].map(nil::timeout),
+        [nil::INFINITE, 1, nil::LONGEST, nil::IMMEDIATE]
+    );
+}
+
+#[no_mangle]
+pub extern "C" fn main() -> i32 {
+    plays_the_six_steps();
+    refuses_and_keeps_every_byte();
+    refuses_traces_and_buffers();
+    translates_timeouts();
+    println!("nil_test: the wrapper does as the paper lists");
+    0
+}

@@ -1,0 +1,38 @@
+/*
+ * The archive and the second program side by side: each step is made by both,
+ * and every answer and every byte of the tables and the clock is compared.
+ */
+#ifndef PAIR_H
+#define PAIR_H
+
+#include "bridge.h"
+
+/* What a host keeps of one plant, in one piece and without padding. */
+struct plant {
+    nil_tables tables;
+    nil_clock clock;
+};
+
+_Static_assert(sizeof(struct plant) == sizeof(nil_tables) + sizeof(nil_clock),
+               "a plant without padding");
+
+enum { CODES = 17 };
+
+/* Names a run in messages: a seed, and a number within it. */
+struct where {
+    uint64_t seed;
+    uint64_t number;
+};
+
+/* Ends the program, with the message, where the test is false. */
+void expect(bool fine, struct where at, const char *what);
+
+/* Fresh tables by both sides, held together. The sizes may be refused. */
+uint32_t both_fresh(struct where at, const struct sizes *z, uint32_t frequency,
+                    struct plant *plant);
+
+/* One step by both sides from the same tables, whatever they hold. The plant
+   is then as the archive leaves it, and the code is returned. */
+uint32_t both_step(struct where at, struct plant *plant, const struct step *s);
+
+#endif
