@@ -17,3 +17,8 @@ pub mod ReferenceRule
 pub mod KernelSteps
 pub mod RingKept
 pub mod PoolKept
+pub mod PaperWords
+pub mod PaperQueues
+pub mod PaperSemaphores
+pub mod PaperReferences
+pub mod PaperDelays
