@@ -22,3 +22,5 @@ pub mod PaperQueues
 pub mod PaperSemaphores
 pub mod PaperReferences
 pub mod PaperDelays
+pub mod PaperEvents
+pub mod PaperTick

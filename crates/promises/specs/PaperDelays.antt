@@ -9,7 +9,7 @@ use Rattle.kernel.specs.declared.records.Kernel.{Kernel}
 use Rattle.kernel.specs.Numbers.{nowhere, sleeping, infinite}
 use Rattle.kernel.specs.Tables.{threadAt}
 use Rattle.kernel.specs.Time.{differed}
-use Rattle.kernel.specs.Moves.{slept, putOn}
+use Rattle.kernel.specs.Moves.{slept}
 use Rattle.kernel.specs.Delay.{sleptFor, sleptUntil}
 use Rattle.kernel.proofs.TablesLaws.{Sized}
 use Rattle.promises.specs.PaperWords.{ObjectsKept, Slept, sleep-slept, sleep-alone, freshKernel, fresh-sized}

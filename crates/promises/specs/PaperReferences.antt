@@ -11,7 +11,7 @@ use Rattle.kernel.specs.declared.records.Call.{Call}
 use Rattle.kernel.specs.declared.records.Kernel.{Kernel}
 use Rattle.kernel.specs.Numbers.{nobody, suspended, timedOut}
 use Rattle.kernel.specs.Tables.{threadAt, holderAt}
-use Rattle.kernel.specs.Moves.{blocked, putOn, slept}
+use Rattle.kernel.specs.Moves.{putOn, slept}
 use Rattle.kernel.specs.Reference.{suspendedOn, resumed}
 use Rattle.kernel.proofs.TablesLaws.{Sized, sized-kept}
 use Rattle.kernel.proofs.MovesLaws.{block-immediate, block-sleeps, sleep-sizes}
