@@ -24,3 +24,4 @@ pub mod PaperReferences
 pub mod PaperDelays
 pub mod PaperEvents
 pub mod PaperTick
+pub mod PaperMailboxes

@@ -40,7 +40,8 @@ before-mod p slots h =
     let first : p ≡ 0 = omega arith in
     rw (le-ltb 0 p l, end, mod-self slots) (sym first))
 
-before-lt : (p slots : ℕ) → p < slots → placeBefore p slots < slots
+-- which is in the ring too
+pub before-lt : (p slots : ℕ) → p < slots → placeBefore p slots < slots
 before-lt p slots h = chosen (λ x. x < slots) (ltb 0 p) (λ e. omega arith) (λ e. omega arith)
 
 -- ---- the slot of a call, or none
