@@ -18,6 +18,7 @@ pub mod KernelSteps
 pub mod RingKept
 pub mod PoolKept
 pub mod PaperWords
+pub mod PaperSteps
 pub mod PaperQueues
 pub mod PaperSemaphores
 pub mod PaperReferences
@@ -25,3 +26,4 @@ pub mod PaperDelays
 pub mod PaperEvents
 pub mod PaperTick
 pub mod PaperMailboxes
+pub mod PaperPools

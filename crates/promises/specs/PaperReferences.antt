@@ -5,7 +5,7 @@ use mathlib.Core.Path.{_≡_, refl}
 use mathlib.Core.Logic.{_≢_}
 use mathlib.Core.Bool.{true}
 use lib.IntN.{ℤ, negsuc}
-use borrow.Author.Tests.{ne-eqb, lt-leb}
+use borrow.Author.Tests.{ne-eqb}
 use Rattle.kernel.specs.declared.clock.Clock.{Clock}
 use Rattle.kernel.specs.declared.records.Call.{Call}
 use Rattle.kernel.specs.declared.records.Kernel.{Kernel}
@@ -20,6 +20,7 @@ use Rattle.library.specs.declared.calls.Step.{Step}
 use Rattle.library.specs.declared.tables.Plant.{Plant}
 use Rattle.rules.specs.Hanging.{hangsTogether}
 use Rattle.steps.specs.Refusal.{callerFits, refusalOf}
+use Rattle.promises.specs.PaperSteps.{state-refused}
 use Rattle.promises.specs.PaperWords.{
   OneReference,
   Woke,
@@ -58,16 +59,9 @@ module _ (k : Kernel) (z : Sized k) (i r : ℕ) (call : Call) where
 pub suspend-refused : (p : Plant) (c : Clock) (s : Step) → hangsTogether p c ≡ true
     → callerFits (p .kernel) (p .sizes .threads) (s .caller) ≡ true → s .caller ≢ nobody → s .kind ≡ 9
     → s .object < p .sizes .references → holderAt (p .kernel) (s .object) ≢ nobody → refusalOf p c s ≡ 7
-unfolding refusalOf
 suspend-refused p c s hangs caller thread kind object held =
-    rw (
-      hangs,
-      caller,
-      kind,
-      ne-eqb (s .caller) nobody thread,
-      lt-leb (p .sizes .references) (s .object) object,
-      ne-eqb (holderAt (p .kernel) (s .object)) nobody held,
-    )
+    state-refused p c s hangs (rw kind) caller (rw (kind, ne-eqb (s .caller) nobody thread)) (rw kind object) (rw kind)
+    (rw (kind, ne-eqb (holderAt (p .kernel) (s .object)) nobody held))
 
 -- ---- 10: resume
 

@@ -7,7 +7,7 @@ use mathlib.Core.Bool.{true, false}
 use lib.Dec.{eqb}
 use lib.IntN.{ℤ, pos, negsuc, _+ℤ_, _-ℤ_}
 use lib.Signed.{ltZ}
-use borrow.Author.Tests.{lt-leb, ltb-true}
+use borrow.Author.Tests.{ltb-true}
 use Rattle.kernel.specs.declared.clock.Clock.{Clock}
 use Rattle.kernel.specs.declared.records.Call.{Call}
 use Rattle.kernel.specs.declared.records.Kernel.{Kernel}
@@ -17,7 +17,7 @@ use Rattle.kernel.specs.Tables.{counterAt}
 use Rattle.kernel.specs.Moves.{putOn, slept, finished}
 use Rattle.kernel.specs.Waiters.{firstWaiter}
 use Rattle.kernel.specs.Semaphore.{taken, waited, signalled, resetTo}
-use Rattle.kernel.proofs.Cases.{split, contrary}
+use Rattle.kernel.proofs.Cases.{contrary}
 use Rattle.kernel.proofs.TablesLaws.{Sized, sized-kept, counter-sizes}
 use Rattle.kernel.proofs.CountersLaws.{debt-some, up-exact, down-exact}
 use Rattle.kernel.proofs.WaitersLaws.{first-waiter-counted}
@@ -53,6 +53,7 @@ use Rattle.promises.specs.PaperWords.{
   two-sized,
   two-highest,
 }
+use Rattle.promises.specs.PaperSteps.{any-caller, state-refused}
 use Rattle.promises.specs.PaperQueues.{
   ReleasedAll,
   queue-wait-now,
@@ -164,10 +165,8 @@ module _ (k : Kernel) (z : Sized k) (n p : ℕ) where
 pub signal-refused : (p : Plant) (c : Clock) (s : Step) → hangsTogether p c ≡ true
     → callerFits (p .kernel) (p .sizes .threads) (s .caller) ≡ true → s .kind ≡ 3 → s .object < p .sizes .semaphores
     → counterAt (p .kernel) (s .object) ≡ pos 2147483647 → refusalOf p c s ≡ 7
-unfolding refusalOf
 signal-refused p c s hangs caller kind object top =
-    rw (hangs, caller, kind, lt-leb (p .sizes .semaphores) (s .object) object, top)
-    (split (eqb (s .caller) nobody) (λ e. rw e) (λ e. rw e))
+    state-refused p c s hangs (rw kind) caller (rw kind (any-caller (eqb (s .caller) nobody))) (rw kind object) (rw kind) (rw (kind, top))
 
 -- ---- 4: reset
 
