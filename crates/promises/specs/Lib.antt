@@ -27,3 +27,4 @@ pub mod PaperEvents
 pub mod PaperTick
 pub mod PaperMailboxes
 pub mod PaperPools
+pub mod PaperSettling

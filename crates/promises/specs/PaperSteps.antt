@@ -18,6 +18,7 @@ use Rattle.kernel.specs.Reference.{suspendedOn, resumed}
 use Rattle.kernel.specs.Delay.{sleptFor, sleptUntil}
 use Rattle.kernel.specs.Event.{eventSignalled, eventWaited}
 use Rattle.kernel.specs.Ticking.{ticked}
+use Rattle.kernel.proofs.TablesLaws.{Sized}
 use Rattle.library.specs.declared.calls.Step.{Step}
 use Rattle.library.specs.declared.tables.Plant.{Plant}
 use Rattle.library.specs.Tables.{withKernel}
@@ -27,10 +28,15 @@ use Rattle.library.specs.Pool.{allocTried, putBack}
 use Rattle.library.specs.Acting.{messageOf, finishedAtOnce, waitBegun, effected, actedOnKernel, boxEffected, actedOnBox, acted}
 use Rattle.rules.specs.Hanging.{hangsTogether}
 use Rattle.steps.specs.Refusal.{kindFits, callerFits, contextFits, objectLimit, valueFits, stateFits, refusalOf}
+use Rattle.promises.specs.PaperWords.{OnlyAnswered, finish-only}
 
 -- "A thread's call that doesn't sleep finishes at once", and "An answer or datum not named is 0"
 abbrev pub atOnce : Plant → Kernel → Step → Plant
 atOnce p k s = withKernel p (finished k (s .caller) (pos 0) 0)
+
+-- with 0 and 0, the thread's or the interrupt's, and that is all
+pub at-once-answers : (p : Plant) (k : Kernel) (s : Step) → Sized k → OnlyAnswered k (atOnce p k s .kernel) (s .caller) (pos 0) 0
+at-once-answers p k s z = finish-only k z (s .caller) (pos 0) 0
 
 -- the rows, kind by kind; "A call that sleeps keeps 0 for unused fields"
 pub record Rows (p : Plant) (now : SystemTime) (s : Step) : Type 0 where
