@@ -28,3 +28,4 @@ pub mod PaperTick
 pub mod PaperMailboxes
 pub mod PaperPools
 pub mod PaperSettling
+pub mod PaperAnswers
