@@ -12,13 +12,13 @@ use borrow.Author.Tests.{eq-eqb, ne-eqb}
 use Rattle.kernel.specs.declared.records.Call.{Call}
 use Rattle.kernel.specs.declared.records.Thread.{Thread}
 use Rattle.kernel.specs.declared.records.Kernel.{Kernel}
-use Rattle.kernel.specs.Numbers.{nobody, nowhere, ready, awaiting, timedOut}
-use Rattle.kernel.specs.Tables.{threadAt}
+use Rattle.kernel.specs.Numbers.{nobody, nowhere, ready, awaiting, ok, timedOut}
+use Rattle.kernel.specs.Tables.{threadAt, withThread}
 use Rattle.kernel.specs.Moves.{putOn, slept, woken, finished}
-use Rattle.kernel.specs.Event.{flagged, isMet, eventSignalled, eventWaited}
+use Rattle.kernel.specs.Event.{flagged, isMet, tookFlags, eventSignalled, eventWaited}
 use Rattle.kernel.proofs.Cases.{same-or, second-fails, first-fails}
 use Rattle.kernel.proofs.TablesLaws.{wokenAt, finishedAt, Sized, sized-kept, thread-same, thread-other}
-use Rattle.kernel.proofs.MovesLaws.{sleep-sizes, block-immediate, block-sleeps}
+use Rattle.kernel.proofs.MovesLaws.{wake-answer, finish-answer, sleep-sizes, block-immediate, block-sleeps}
 use Rattle.kernel.proofs.EventLaws.{
   took,
   metBy,
@@ -30,6 +30,7 @@ use Rattle.kernel.proofs.EventLaws.{
   take-woken,
   take-counters,
   take-references,
+  event-signal-met,
   event-signal-unmet,
   event-signal-others,
   event-signal-row,
@@ -119,6 +120,11 @@ taken-flags t mask =
       awaited = refl;
     }
 
+-- an interrupt's answer stays
+take-answer : (k : Kernel) (i mask : ℕ) → i ≢ nobody → tookFlags k i mask .answer ≡ k .answer
+unfolding tookFlags
+take-answer k i mask d = finish-answer _ i ok (bitAnd (threadAt k i .pending) mask) d
+
 -- "it is made ready"
 pub record EventCame (t u : Thread) (flags : ℕ) : Type 0 where
   pub state : u .state ≡ ready
@@ -144,6 +150,7 @@ pub record FlagsCame (k h : Kernel) (i mask : ℕ) : Type 0 where
   pub woken-others : (j : ℕ) → j ≢ i → wokenAt h j ≡ wokenAt k j
   pub finished : finishedAt h i ≡ true
   pub finished-others : (j : ℕ) → j ≢ i → finishedAt h j ≡ finishedAt k j
+  pub answer : h .answer ≡ k .answer
   pub objects : ObjectsKept k h
 
 module _ (k : Kernel) (z : Sized k) (i mask : ℕ) (here : i < 16) where
@@ -191,6 +198,7 @@ module _ (k : Kernel) (z : Sized k) (i mask : ℕ) (here : i < 16) where
         woken-others = event-signal-woken-others k i mask;
         finished = flags .1;
         finished-others = event-signal-finished-others k i mask;
+        answer = rw (event-signal-met k i mask met) (take-answer (woken (withThread k i (flagged t mask)) i ok) i (t .awaited) thread ∙ wake-answer (withThread k i (flagged t mask)) i ok);
         objects = record {
           counters = λ q. rw (event-signal-counters k i mask);
           references = λ r. rw (event-signal-references k i mask);
@@ -231,6 +239,7 @@ pub record OnlyTook (k h : Kernel) (i mask : ℕ) : Type 0 where
   pub finished : finishedAt h i ≡ true
   pub finished-others : (j : ℕ) → j ≢ i → finishedAt h j ≡ finishedAt k j
   pub woken : (j : ℕ) → wokenAt h j ≡ wokenAt k j
+  pub answer : h .answer ≡ k .answer
   pub objects : ObjectsKept k h
 
 -- the thread awaits the flags of its call's mask, and that is all
@@ -257,6 +266,7 @@ module _ (k : Kernel) (z : Sized k) (i : ℕ) (call : Call) (here : i < 16) wher
         finished = take-flag k i mask thread (rw (z .finished) here);
         finished-others = take-flag-others k i mask;
         woken = λ j. rw (take-woken k i mask);
+        answer = take-answer k i mask thread;
         objects = record { counters = λ q. rw (take-counters k i mask); references = λ r. rw (take-references k i mask) };
       })
 

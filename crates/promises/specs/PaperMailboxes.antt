@@ -44,7 +44,7 @@ use Rattle.library.specs.Mailbox.{
   mailboxReset,
   mailboxResumed,
 }
-use Rattle.promises.specs.Good.{GoodMailbox}
+use Rattle.promises.specs.Good.{GoodMailbox, Good}
 use Rattle.promises.specs.Tallies.{Tallies, release-all-tallies}
 use Rattle.promises.specs.RingKept.{after-mod, before-lt, before-mod, posted-slot, ahead-slot, fetched-slot}
 use Rattle.promises.specs.PaperWords.{
@@ -78,6 +78,19 @@ pub record BoxThere (p : Plant) (b : ℕ) : Type 0 where
   pub messages : length (mailboxAt p b .messages) ≡ 16
   pub few : slotsAt (p .sizes) b ≤ 16
   pub good : GoodMailbox (mailboxAt p b .positions) (slotsAt (p .sizes) b)
+
+-- such are those of tables that hang together
+pub good-box : (p : Plant) (b : ℕ) → Good p → length (p .mailboxes) ≡ 4 → length (mailboxAt p b .messages) ≡ 16 → b < p .sizes .mailboxes
+    → BoxThere p b
+good-box p b g four sixteen h =
+    let few = g .sizes .mailboxes in
+    record {
+      number = omega arith;
+      row = rw four (omega arith);
+      messages = sixteen;
+      few = g .sizes .slots b h .1;
+      good = g .mailboxes b h;
+    }
 
 -- no mailbox and no pool changes
 pub record BoxesKept (p h : Plant) : Type 0 where
@@ -117,6 +130,7 @@ pub record Served (k h : Kernel) (j i q d : ℕ) : Type 0 where
   pub finished : i < 16 → finishedAt h i ≡ true
   pub finished-others : (x : ℕ) → x ≢ i → finishedAt h x ≡ finishedAt k x
   pub interrupt : i ≡ nobody → h .answer ≡ record { message = pos 0; datum = d }
+  pub answer : i ≢ nobody → h .answer ≡ k .answer
   pub objects : OneCounter k h q (counterAt k q +ℤ pos 1)
 
 served : (k w h : Kernel) (j i q d : ℕ) → j ≢ i → WokeFrom k w j q (pos 0) → OnlyAnswered w h i (pos 0) d → Served k h j i q d
@@ -130,6 +144,7 @@ served k w h j i q d apart a b =
       finished = b .call .finished;
       finished-others = λ x n. b .call .finished-others x n ∙ a .thread .finished x;
       interrupt = b .call .interrupt;
+      answer = λ n. b .call .answer n ∙ a .thread .answer;
       objects = record {
         counter = b .objects .counters q ∙ a .objects .counter;
         counters = λ x n. b .objects .counters x ∙ a .objects .counters x n;

@@ -10,26 +10,40 @@ use lib.ListN.{length, getD-replicate}
 use lib.Seq.{getD-set-same, getD-set-other}
 use lib.IntN.{ℤ, pos, negsuc, _-ℤ_}
 use lib.Signed.{ltZ}
-use borrow.Author.Tests.{ne-eqb, lt-ltb, le-leb}
+use borrow.Author.Tests.{eq-eqb, ne-eqb, lt-ltb, le-leb}
 use Rattle.kernel.specs.declared.clock.Clock.{Clock}
 use Rattle.kernel.specs.declared.records.Call.{Call}
 use Rattle.kernel.specs.declared.records.Kernel.{Kernel}
-use Rattle.kernel.specs.Numbers.{nobody, ok}
+use Rattle.kernel.specs.Numbers.{nobody, ready, ok}
 use Rattle.kernel.specs.Places.{poolPlace}
-use Rattle.kernel.specs.Tables.{counterAt}
+use Rattle.kernel.specs.Tables.{usedRows, threadAt, counterAt}
 use Rattle.kernel.specs.Counters.{down}
 use Rattle.kernel.specs.Walk.{countOf}
 use Rattle.kernel.specs.Semaphore.{taken}
-use Rattle.kernel.proofs.TablesLaws.{Sized}
+use Rattle.kernel.proofs.WalkLaws.{count-some}
+use Rattle.kernel.proofs.TablesLaws.{Sized, used-all}
 use Rattle.library.specs.declared.calls.Step.{Step}
 use Rattle.library.specs.declared.tables.Pool.{Pool}
 use Rattle.library.specs.declared.tables.Plant.{Plant}
 use Rattle.library.specs.Tables.{blankPool, mailboxAt, poolAt, withKernel}
 use Rattle.library.specs.Pool.{absent, free, out, listedAt, markAt, topOf, popped, pushed, handedOver, allocTried, putBack}
-use Rattle.rules.specs.PoolRules.{occurrences}
+use Rattle.rules.specs.PoolRules.{promisedBy, promisedCount, occurrences}
 use Rattle.rules.specs.Hanging.{hangsTogether}
 use Rattle.steps.specs.Refusal.{callerFits, refusalOf}
-use Rattle.promises.specs.PoolKept.{Listed, PoolSized, Popped, Pushed, pop-kept, push-kept, alloc-above, alloc-not-above}
+use Rattle.promises.specs.Good.{Good}
+use Rattle.promises.specs.PoolKept.{
+  Listed,
+  PoolSized,
+  good-listed,
+  stocked,
+  promised-stocked,
+  Popped,
+  Pushed,
+  pop-kept,
+  push-kept,
+  alloc-above,
+  alloc-not-above,
+}
 use Rattle.promises.specs.PaperWords.{
   ObjectsKept,
   OneCounter,
@@ -50,6 +64,28 @@ pub record PoolThere (p : Plant) (n : ℕ) : Type 0 where
   pub row : n < length (p .pools)
   pub listed : Listed (poolAt p n)
   pub sized : PoolSized (poolAt p n)
+
+-- such are those of tables that hang together; and a list has an object where the laws below ask for one
+module _ (p : Plant) (g : Good p) (n : ℕ) (there : n < p .sizes .pools) where
+  -- the pool is there
+  pub good-pool-there : length (p .pools) ≡ 4 → PoolSized (poolAt p n) → PoolThere p n
+  good-pool-there four s =
+      let few = g .sizes .pools in
+      record { number = omega arith; row = rw four (omega arith); listed = good-listed (g .pools n there); sized = s }
+
+  -- a counter above 0 has an object that nobody was promised
+  pub counter-stocked : ltZ (pos 0) (counterAt (p .kernel) (poolPlace n)) ≡ true → 0 < poolAt p n .length
+  counter-stocked e = stocked (g .pools n there) e
+
+  -- "plus the ready threads whose unfinished alloc was woken with 0": each of them has one
+  pub promise-stocked : (i : ℕ) → i < p .sizes .threads → threadAt (p .kernel) i .state ≡ ready → threadAt (p .kernel) i .call .kind ≡ 20
+      → threadAt (p .kernel) i .message ≡ pos 0 → threadAt (p .kernel) i .call .object ≡ n → 0 < poolAt p n .length
+  unfolding promisedCount
+  promise-stocked i h s k m o =
+      promised-stocked (g .pools n there)
+      (count-some (λ j. promisedBy n (threadAt (p .kernel) j)) (usedRows (p .sizes .threads)) i
+      (rw (used-all (p .sizes .threads) (g .sizes .threads .1)) h)
+      (rw (s, k, m, o, eq-eqb n n refl)))
 
 -- no other pool than n and no mailbox changes
 pub record OtherPoolsKept (p h : Plant) (n : ℕ) : Type 0 where

@@ -44,6 +44,7 @@ use Rattle.kernel.proofs.MovesLaws.{
   sleep-holder-others,
   sleep-sizes,
   finish-interrupt,
+  finish-answer,
   finish-row,
   finish-others,
   finish-flag,
@@ -193,6 +194,7 @@ pub record Answered (k h : Kernel) (i : ℕ) (m : ℤ) (d : ℕ) : Type 0 where
   pub finished : i < 16 → finishedAt h i ≡ true
   pub finished-others : (j : ℕ) → j ≢ i → finishedAt h j ≡ finishedAt k j
   pub interrupt : i ≡ nobody → h .answer ≡ record { message = m; datum = d }
+  pub answer : i ≢ nobody → h .answer ≡ k .answer
   pub woken : (j : ℕ) → wokenAt h j ≡ wokenAt k j
 
 -- ---- both together
@@ -343,6 +345,7 @@ module _ (k : Kernel) (z : Sized k) (i : ℕ) (m : ℤ) (d : ℕ) where
         finished = λ h. finish-flag k i m d (thread h) (rw (z .finished) h);
         finished-others = finish-flag-others k i m d;
         interrupt = λ e. rw (finish-interrupt k i m d e);
+        answer = finish-answer k i m d;
         woken = λ j. rw (finish-woken k i m d);
       }
 
@@ -362,6 +365,7 @@ counter-answered p c a =
       finished = a .finished;
       finished-others = a .finished-others;
       interrupt = a .interrupt;
+      answer = a .answer;
       woken = a .woken;
     }
 
