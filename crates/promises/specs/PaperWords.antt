@@ -1,5 +1,6 @@
--- The words in which the Paper files state document 01's sentences, each as named facts of fields. They take nothing from the meanings
--- that the contracts cite, so that a law stated in them can be held against the paper alone. `Sized` tables are those that a step has.
+-- The words in which the Paper files state document 01's sentences: named facts about fields, for every thread and every place. They
+-- take from the meanings that the contracts cite only how a table is read (`threadAt`, `counterAt`, `holderAt`, `wokenAt`, `finishedAt`)
+-- and the paper's numbers, so that a law stated in them can be held against the paper alone.
 use Prim.Native.Nat.{ℕ, zero, suc, _≤_, _<_}
 use native.Mathlib.Omega.{arith}
 use mathlib.Core.Path.{_≡_, refl, sym, _∙_}
@@ -231,18 +232,21 @@ pub record HighestWaiter (k : Kernel) (n p i : ℕ) : Type 0 where
 abbrev pub NoWaiter : Kernel → ℕ → ℕ → Type 0
 NoWaiter k n p = (j : ℕ) → j < n → Waiting k p j → ⊥
 
--- the kernel's test of it
+-- the kernel's test of it, both ways
 pub waiting-waits : {k : Kernel} {p i : ℕ} → Waiting k p i → waits k p i ≡ true
 waiting-waits {k} {p} {i} w = both-true (eq-eqb (threadAt k i .state) queued (w .state)) (eq-eqb (threadAt k i .place) p (w .place))
 
+-- who passes the test waits
 pub waits-waiting : (k : Kernel) (p i : ℕ) → waits k p i ≡ true → Waiting k p i
 waits-waiting k p i e =
     let both = both-means (eqb (threadAt k i .state) queued) (eqb (threadAt k i .place) p) e in
     record { state = eqb-true (threadAt k i .state) queued (both .0); place = eqb-true (threadAt k i .place) p (both .1) }
 
+-- who does not wait fails it
 pub waiting-not : (k : Kernel) (p i : ℕ) → (Waiting k p i → ⊥) → waits k p i ≡ false
 waiting-not k p i n = split (waits k p i) (λ e. absurd (n (waits-waiting k p i e))) (λ e. e)
 
+-- where nobody waits, all fail it
 pub none-waiting : (k : Kernel) (n p : ℕ) → NoWaiter k n p → None (waits k p) n
 none-waiting k n p w i h = waiting-not k p i (w i h)
 
@@ -264,6 +268,7 @@ module _ (k : Kernel) (z : Sized k) (i : ℕ) (here : i < 16) where
   rows : i < length (k .threads)
   rows = rw (z .threads) here
 
+  -- to be made ready
   pub wake-woke : (m : ℤ) → Woke k (woken k i m) i m
   wake-woke m =
       record {
@@ -275,6 +280,7 @@ module _ (k : Kernel) (z : Sized k) (i : ℕ) (here : i < 16) where
         answer = wake-answer k i m;
       }
 
+  -- to go to sleep
   pub sleep-slept : (s p : ℕ) (c : Call) → Slept k (slept k i s p c) i s p c
   sleep-slept s p c =
       record {
@@ -349,6 +355,7 @@ module _ (k : Kernel) (z : Sized k) (i : ℕ) (m : ℤ) (d : ℕ) where
         woken = λ j. rw (finish-woken k i m d);
       }
 
+  -- the end of a call
   pub finish-only : OnlyAnswered k (finished k i m d) i m d
   finish-only =
       record {
@@ -380,6 +387,7 @@ counter-one k z p c within =
 abbrev pub freshKernel : Kernel
 freshKernel = begun freshRecords
 
+-- they have their lengths
 pub fresh-sized : Sized freshKernel
 fresh-sized = record { threads = refl; counters = refl; references = refl; woken = refl; finished = refl }
 
@@ -387,6 +395,7 @@ fresh-sized = record { threads = refl; counters = refl; references = refl; woken
 abbrev pub twoAsleep : ℕ → Call → Kernel
 twoAsleep p c = slept (slept freshKernel 2 queued p c) 1 queued p c
 
+-- which keeps the lengths
 pub two-sized : (p : ℕ) (c : Call) → Sized (twoAsleep p c)
 two-sized p c =
     sized-kept (sleep-sizes (slept freshKernel 2 queued p c) 1 queued p c)
