@@ -29,3 +29,4 @@ pub mod PaperMailboxes
 pub mod PaperPools
 pub mod PaperSettling
 pub mod PaperAnswers
+pub mod PaperRefusals

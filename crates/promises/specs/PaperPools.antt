@@ -1,20 +1,17 @@
 -- Rows 20 to 22 of document 01's table: its paragraph on pools, for any pool.
-use Prim.Native.Nat.{ℕ, _-_, _%_, _≤_, _<_}
-use native.Mathlib.Nat.{mod-eq-of-lt}
+use Prim.Native.Nat.{ℕ, _-_, _≤_, _<_}
 use native.Mathlib.Omega.{arith}
 use mathlib.Core.Path.{_≡_, refl, sym, _∙_, subst}
 use mathlib.Core.Logic.{_≢_, inl}
 use mathlib.Core.Bool.{true, false}
-use lib.Dec.{eqb}
 use lib.ListN.{length, getD-replicate}
 use lib.Seq.{getD-set-same, getD-set-other}
 use lib.IntN.{ℤ, pos, negsuc, _-ℤ_}
 use lib.Signed.{ltZ}
-use borrow.Author.Tests.{eq-eqb, ne-eqb, lt-ltb, le-leb}
-use Rattle.kernel.specs.declared.clock.Clock.{Clock}
+use borrow.Author.Tests.{eq-eqb, lt-ltb}
 use Rattle.kernel.specs.declared.records.Call.{Call}
 use Rattle.kernel.specs.declared.records.Kernel.{Kernel}
-use Rattle.kernel.specs.Numbers.{nobody, ready, ok}
+use Rattle.kernel.specs.Numbers.{ready, ok}
 use Rattle.kernel.specs.Places.{poolPlace}
 use Rattle.kernel.specs.Tables.{usedRows, threadAt, counterAt}
 use Rattle.kernel.specs.Counters.{down}
@@ -22,14 +19,11 @@ use Rattle.kernel.specs.Walk.{countOf}
 use Rattle.kernel.specs.Semaphore.{taken}
 use Rattle.kernel.proofs.WalkLaws.{count-some}
 use Rattle.kernel.proofs.TablesLaws.{Sized, used-all}
-use Rattle.library.specs.declared.calls.Step.{Step}
 use Rattle.library.specs.declared.tables.Pool.{Pool}
 use Rattle.library.specs.declared.tables.Plant.{Plant}
 use Rattle.library.specs.Tables.{blankPool, mailboxAt, poolAt, withKernel}
-use Rattle.library.specs.Pool.{absent, free, out, listedAt, markAt, topOf, popped, pushed, handedOver, allocTried, putBack}
+use Rattle.library.specs.Pool.{free, listedAt, markAt, topOf, popped, pushed, handedOver, allocTried, putBack}
 use Rattle.rules.specs.PoolRules.{promisedBy, promisedCount, occurrences}
-use Rattle.rules.specs.Hanging.{hangsTogether}
-use Rattle.steps.specs.Refusal.{callerFits, refusalOf}
 use Rattle.promises.specs.Good.{Good}
 use Rattle.promises.specs.PoolKept.{
   Listed,
@@ -53,7 +47,6 @@ use Rattle.promises.specs.PaperWords.{
   finish-only,
   counter-answered,
 }
-use Rattle.promises.specs.PaperSteps.{any-caller, state-refused}
 use Rattle.promises.specs.PaperQueues.{queue-wait-now, queue-wait-sleeps}
 use Rattle.promises.specs.PaperSemaphores.{OnlyRaised, counter-taken, taken-sized, signal-wakes, signal-raises}
 use Rattle.promises.specs.PaperMailboxes.{PlantAnswered, PlantSlept, kernel-only, freshPlant}
@@ -225,24 +218,6 @@ module _ (p : Plant) (n o : ℕ) (there : PoolThere p n) where
         → OnlyRaised k (putBack p n o .kernel) (poolPlace n)
     unfolding putBack
     put-back-raises e low = signal-raises k z (p .sizes .threads) (poolPlace n) (omega (arith, there .number)) e low
-
--- "7: free of an object not out; add of one not absent", where no earlier refusal is given
-module _ (p : Plant) (c : Clock) (s : Step) (hangs : hangsTogether p c ≡ true)
-    (caller : callerFits (p .kernel) (p .sizes .threads) (s .caller) ≡ true) (object : s .object < p .sizes .pools) (value : s .a ≤ 31) where
-  small : s .a % 256 ≡ s .a
-  small = mod-eq-of-lt (omega arith)
-
-  -- free
-  pub free-refused : s .kind ≡ 21 → markAt (poolAt p (s .object)) (s .a) ≢ out → refusalOf p c s ≡ 7
-  free-refused kind d =
-      state-refused p c s hangs (rw kind) caller (rw kind (any-caller (eqb (s .caller) nobody))) (rw kind object)
-      (rw (kind, le-leb (s .a) 31 value)) (rw (kind, small, ne-eqb (markAt (poolAt p (s .object)) (s .a)) out d))
-
-  -- add
-  pub add-refused : s .kind ≡ 22 → markAt (poolAt p (s .object)) (s .a) ≢ absent → refusalOf p c s ≡ 7
-  add-refused kind d =
-      state-refused p c s hangs (rw kind) caller (rw kind (any-caller (eqb (s .caller) nobody))) (rw kind object)
-      (rw (kind, le-leb (s .a) 31 value)) (rw (kind, small, ne-eqb (markAt (poolAt p (s .object)) (s .a)) absent d))
 
 -- ---- an example
 

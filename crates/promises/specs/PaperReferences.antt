@@ -3,10 +3,7 @@ use Prim.Native.Nat.{ℕ, _<_}
 use native.Mathlib.Omega.{arith}
 use mathlib.Core.Path.{_≡_, refl}
 use mathlib.Core.Logic.{_≢_}
-use mathlib.Core.Bool.{true}
 use lib.IntN.{ℤ, negsuc}
-use borrow.Author.Tests.{ne-eqb}
-use Rattle.kernel.specs.declared.clock.Clock.{Clock}
 use Rattle.kernel.specs.declared.records.Call.{Call}
 use Rattle.kernel.specs.declared.records.Kernel.{Kernel}
 use Rattle.kernel.specs.Numbers.{nobody, suspended, timedOut}
@@ -16,11 +13,6 @@ use Rattle.kernel.specs.Reference.{suspendedOn, resumed}
 use Rattle.kernel.proofs.TablesLaws.{Sized, sized-kept}
 use Rattle.kernel.proofs.MovesLaws.{block-immediate, block-sleeps, sleep-sizes}
 use Rattle.kernel.proofs.ReferenceLaws.{resume-wakes, resume-none}
-use Rattle.library.specs.declared.calls.Step.{Step}
-use Rattle.library.specs.declared.tables.Plant.{Plant}
-use Rattle.rules.specs.Hanging.{hangsTogether}
-use Rattle.steps.specs.Refusal.{callerFits, refusalOf}
-use Rattle.promises.specs.PaperSteps.{state-refused}
 use Rattle.promises.specs.PaperWords.{
   OneReference,
   Woke,
@@ -54,14 +46,6 @@ module _ (k : Kernel) (z : Sized k) (i r : ℕ) (call : Call) where
   suspend-sleeps d here within =
       rw (block-sleeps k i suspended r call d)
       (record { thread = sleep-slept k z i here suspended r call; objects = sleep-holds k z i here r call within })
-
--- "7: suspend on a held reference", where no earlier refusal is given
-pub suspend-refused : (p : Plant) (c : Clock) (s : Step) → hangsTogether p c ≡ true
-    → callerFits (p .kernel) (p .sizes .threads) (s .caller) ≡ true → s .caller ≢ nobody → s .kind ≡ 9
-    → s .object < p .sizes .references → holderAt (p .kernel) (s .object) ≢ nobody → refusalOf p c s ≡ 7
-suspend-refused p c s hangs caller thread kind object held =
-    state-refused p c s hangs (rw kind) caller (rw (kind, ne-eqb (s .caller) nobody thread)) (rw kind object) (rw kind)
-    (rw (kind, ne-eqb (holderAt (p .kernel) (s .object)) nobody held))
 
 -- ---- 10: resume
 

@@ -4,14 +4,12 @@ use native.Mathlib.Omega.{arith}
 use mathlib.Core.Path.{_≡_, refl, _∙_}
 use mathlib.Core.Logic.{_≢_}
 use mathlib.Core.Bool.{true, false}
-use lib.Dec.{eqb}
 use lib.IntN.{ℤ, pos, negsuc, _+ℤ_, _-ℤ_}
 use lib.Signed.{ltZ}
 use borrow.Author.Tests.{ltb-true}
-use Rattle.kernel.specs.declared.clock.Clock.{Clock}
 use Rattle.kernel.specs.declared.records.Call.{Call}
 use Rattle.kernel.specs.declared.records.Kernel.{Kernel}
-use Rattle.kernel.specs.Numbers.{nobody, ok, wasReset}
+use Rattle.kernel.specs.Numbers.{ok, wasReset}
 use Rattle.kernel.specs.Counters.{up, down}
 use Rattle.kernel.specs.Tables.{counterAt}
 use Rattle.kernel.specs.Moves.{putOn, slept, finished}
@@ -30,11 +28,7 @@ use Rattle.kernel.proofs.SemaphoreLaws.{
   reset-counter,
   reset-counter-others,
 }
-use Rattle.library.specs.declared.calls.Step.{Step}
-use Rattle.library.specs.declared.tables.Plant.{Plant}
 use Rattle.library.specs.Binary.{binarySignalled}
-use Rattle.rules.specs.Hanging.{hangsTogether}
-use Rattle.steps.specs.Refusal.{callerFits, refusalOf}
 use Rattle.promises.specs.Tallies.{Tallies}
 use Rattle.promises.specs.PaperWords.{
   OneCounter,
@@ -53,7 +47,6 @@ use Rattle.promises.specs.PaperWords.{
   two-sized,
   two-highest,
 }
-use Rattle.promises.specs.PaperSteps.{any-caller, state-refused}
 use Rattle.promises.specs.PaperQueues.{
   ReleasedAll,
   queue-wait-now,
@@ -160,13 +153,6 @@ module _ (k : Kernel) (z : Sized k) (n p : ℕ) where
           references = one .references;
         };
       })
-
--- "7: 3 at counter 2147483647", where no earlier refusal is given
-pub signal-refused : (p : Plant) (c : Clock) (s : Step) → hangsTogether p c ≡ true
-    → callerFits (p .kernel) (p .sizes .threads) (s .caller) ≡ true → s .kind ≡ 3 → s .object < p .sizes .semaphores
-    → counterAt (p .kernel) (s .object) ≡ pos 2147483647 → refusalOf p c s ≡ 7
-signal-refused p c s hangs caller kind object top =
-    state-refused p c s hangs (rw kind) caller (rw kind (any-caller (eqb (s .caller) nobody))) (rw kind object) (rw kind) (rw (kind, top))
 
 -- ---- 4: reset
 

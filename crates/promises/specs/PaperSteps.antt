@@ -3,11 +3,9 @@
 use Prim.Native.Nat.{ℕ, suc, _-_, _%_, _≤_, _<_}
 use native.Mathlib.Nat.{mod-eq-of-lt}
 use native.Mathlib.Omega.{arith}
-use mathlib.Core.Path.{_≡_, refl}
-use mathlib.Core.Bool.{Bool, true, false, cond}
+use mathlib.Core.Path.{_≡_}
 use lib.IntN.{pos, negsuc}
-use borrow.Author.Tests.{lt-ltb, le-ltb, lt-leb}
-use Rattle.kernel.specs.declared.clock.Clock.{Clock}
+use borrow.Author.Tests.{lt-ltb, le-ltb}
 use Rattle.kernel.specs.declared.time.SystemTime.{SystemTime}
 use Rattle.kernel.specs.declared.records.Call.{Call}
 use Rattle.kernel.specs.declared.records.Kernel.{Kernel}
@@ -27,8 +25,6 @@ use Rattle.library.specs.Binary.{binarySignalled}
 use Rattle.library.specs.Mailbox.{postTried, fetchTried, mailboxReset, mailboxResumed}
 use Rattle.library.specs.Pool.{allocTried, putBack}
 use Rattle.library.specs.Acting.{messageOf, waitBegun, effected, actedOnKernel, boxEffected, actedOnBox, acted}
-use Rattle.rules.specs.Hanging.{hangsTogether}
-use Rattle.steps.specs.Refusal.{kindFits, callerFits, contextFits, objectLimit, valueFits, stateFits, refusalOf}
 use Rattle.promises.specs.PaperWords.{OnlyAnswered, finish-only}
 
 -- "A thread's call that doesn't sleep finishes at once", and "An answer or datum not named is 0"
@@ -114,18 +110,3 @@ rows p now s =
   where
     small : s .a ≤ 31 → s .a % 256 ≡ s .a
     small h = mod-eq-of-lt (omega arith)
-
--- ---- refusal 7, where no earlier one is given
-
--- either caller may
-pub any-caller : (b : Bool) → cond b true true ≡ true
-any-caller true = refl
-any-caller false = refl
-
--- "7: 3 at counter 2147483647; suspend on a held reference; free of an object not out; add of one not absent"
-pub state-refused : (p : Plant) (c : Clock) (s : Step) → hangsTogether p c ≡ true → kindFits (s .kind) ≡ true
-    → callerFits (p .kernel) (p .sizes .threads) (s .caller) ≡ true → contextFits s ≡ true → s .object < objectLimit (p .sizes) (s .kind)
-    → valueFits (c .time) s ≡ true → stateFits p s ≡ false → refusalOf p c s ≡ 7
-unfolding refusalOf
-state-refused p c s hangs kind caller context object value state =
-    rw (hangs, kind, caller, context, lt-leb (objectLimit (p .sizes) (s .kind)) (s .object) object, value, state)
