@@ -1,6 +1,7 @@
 -- "A finished call's answer stays in the thread's record until its next accepted call": whatever other threads and interrupts do, and
 -- whatever settling continues, a thread without an unfinished call keeps its last answer.
 use Prim.Native.Nat.{ℕ, zero, suc, _<_}
+use native.Mathlib.Omega.{arith}
 use mathlib.Core.Path.{_≡_, refl, sym, ap, _∙_}
 use mathlib.Core.Logic.{_≢_, _⊎_, inl, inr}
 use mathlib.Core.Bool.{false}
@@ -36,12 +37,14 @@ use Rattle.kernel.proofs.DelayLaws.{forCall, untilCall}
 use Rattle.kernel.proofs.EventLaws.{event-signal-unmet, event-signal-others, event-wait-others}
 use Rattle.kernel.proofs.TickingLaws.{tick-keeps}
 use Rattle.library.specs.declared.calls.Step.{Step}
+use Rattle.library.specs.declared.sizes.Sizes.{Sizes}
 use Rattle.library.specs.declared.tables.Plant.{Plant}
 use Rattle.library.specs.declared.tables.Tables.{Tables}
 use Rattle.library.specs.Calls.{callOf}
 use Rattle.library.specs.Sizes.{slotsAt}
 use Rattle.library.specs.Ring.{noSlot, fetched}
 use Rattle.library.specs.Tables.{opened, mailboxAt, poolAt}
+use Rattle.library.specs.Fresh.{freshTables}
 use Rattle.library.specs.Binary.{binarySignalled}
 use Rattle.library.specs.Mailbox.{
   messageAt,
@@ -245,7 +248,9 @@ module _ (j : ℕ) (a : Answer) (p : Plant) (r : Rests j a (p .kernel)) where
     box-effect-rests =
         let b = s .object in
         chosen (RestsIn j a) (eqb (s .kind) 18)
-        (λ e. record { row = release-all-rests j a (releasedAll k n (writersPlace b) wasReset) n (readersPlace b) wasReset (release-all-rests j a k n (writersPlace b) wasReset r) })
+        (λ e.
+        let half = release-all-rests j a k n (writersPlace b) wasReset r in
+        record { row = release-all-rests j a (releasedAll k n (writersPlace b) wasReset) n (readersPlace b) wasReset half })
         (λ e. chosen (RestsIn j a) (eqb (s .kind) 19) (λ f. record { row = r })
         (λ f. record { row = signal-rests j a k r n (poolPlace b) }))
 
@@ -302,3 +307,13 @@ module _ (t : Tables) (c : Clock) (s : Step) (j : ℕ) (thread : j < t .sizes .t
       settled-answer e =
           settle-rests j (rowAt t j .answer) (budgetOf (t .sizes .threads)) (acted (opened t) (c .time) s)
           (act-rests j (rowAt t j .answer) (opened t) (rests-before e) (c .time) s other .row) .answer
+
+-- ---- an example
+
+-- thread 1 of fresh tables keeps its answer, whatever thread 0 does
+pub answer-example : (z : Sizes) (c : Clock) (s : Step) → 1 < z .threads → s .caller ≡ 0
+    → rowAt (stepped (freshTables z) c s .tables) 1 .answer ≡ record { message = pos 0; datum = 0 }
+answer-example z c s two e = answer-stays (freshTables z) c s 1 two refl (inl (λ one. apart (sym e ∙ one)))
+  where
+    apart : _≡_ {A = ℕ} 0 1 → ⊥
+    apart x = omega arith

@@ -37,7 +37,8 @@ module _ (k : Kernel) (z : Sized k) (i : ℕ) (here : i < 16) where
 
   module _ (now until : SystemTime) where
     -- "12: sleep until a": "12's full timeout is the interval slept"
-    pub sleep-until-sleeps : differed now until .0 ≢ infinite → SleptFor k (sleptUntil k i now until) i 12 (until .0) (differed now until .0)
+    pub sleep-until-sleeps : differed now until .0 ≢ infinite
+        → SleptFor k (sleptUntil k i now until) i 12 (until .0) (differed now until .0)
     unfolding sleptUntil
     sleep-until-sleeps finite = sleeps k z i here 12 (until .0) (differed now until .0) finite
 

@@ -158,7 +158,8 @@ module _ (k : Kernel) (z : Sized k) (i mask : ℕ) (here : i < 16) where
   t = threadAt k i
 
   -- a thread that does not await events, or none of the flags that are now pending
-  pub signal-flags : (t .state ≡ awaiting → bitAnd (bitOr (t .pending) mask) (t .awaited) ≡ 0) → OnlyFlagged k (eventSignalled k i mask) i mask
+  pub signal-flags : (t .state ≡ awaiting → bitAnd (bitOr (t .pending) mask) (t .awaited) ≡ 0)
+      → OnlyFlagged k (eventSignalled k i mask) i mask
   signal-flags n =
       rw (event-signal-unmet k i mask unmet)
       (record {
@@ -182,14 +183,16 @@ module _ (k : Kernel) (z : Sized k) (i mask : ℕ) (here : i < 16) where
     where
       unmet : isMet (flagged t mask) ≡ false
       unmet =
-          same-or (t .state) awaiting (λ e. second-fails (eqb (t .state) awaiting) (rw (eq-eqb (bitAnd (bitOr (t .pending) mask) (t .awaited)) 0 (n e))))
-          (λ d. first-fails (not (eqb (bitAnd (bitOr (t .pending) mask) (t .awaited)) 0)) (ne-eqb (t .state) awaiting d))
+          let came = bitAnd (bitOr (t .pending) mask) (t .awaited) in
+          same-or (t .state) awaiting (λ e. second-fails (eqb (t .state) awaiting) (rw (eq-eqb came 0 (n e))))
+          (λ d. first-fails (not (eqb came 0)) (ne-eqb (t .state) awaiting d))
 
   -- one that awaits any of them: "at the waking, the awaited flags then pending are cleared, are the datum with message 0, and the
   -- call is finished"
   pub signal-comes : t .state ≡ awaiting → bitAnd (bitOr (t .pending) mask) (t .awaited) ≢ 0 → FlagsCame k (eventSignalled k i mask) i mask
   signal-comes s d =
       let thread : i ≢ nobody = omega arith in
+      let told = withThread k i (flagged t mask) in
       let flags = event-signal-flags k i mask met thread (rw (z .woken) here) (rw (z .finished) here) in
       record {
         row = rw (event-signal-row k i mask met thread) came;
@@ -198,7 +201,7 @@ module _ (k : Kernel) (z : Sized k) (i mask : ℕ) (here : i < 16) where
         woken-others = event-signal-woken-others k i mask;
         finished = flags .1;
         finished-others = event-signal-finished-others k i mask;
-        answer = rw (event-signal-met k i mask met) (take-answer (woken (withThread k i (flagged t mask)) i ok) i (t .awaited) thread ∙ wake-answer (withThread k i (flagged t mask)) i ok);
+        answer = rw (event-signal-met k i mask met) (take-answer (woken told i ok) i (t .awaited) thread ∙ wake-answer told i ok);
         objects = record {
           counters = λ q. rw (event-signal-counters k i mask);
           references = λ r. rw (event-signal-references k i mask);

@@ -247,7 +247,8 @@ module _ (p : Plant) (i : ℕ) (call : Call) where
     unfolding postTried
     room-done l = rw (eq-eqb (mailboxAt p b .reset) 0 works, ne-eqb (placed .slot) noSlot (placed-room l))
 
-    done-box : (x : Placed) → mailboxAt (postDone p i call x) b ≡ withMessage (withPositions (mailboxAt p b) (x .positions)) (x .slot) (call .operand)
+    done-box : (x : Placed)
+        → mailboxAt (postDone p i call x) b ≡ withMessage (withPositions (mailboxAt p b) (x .positions)) (x .slot) (call .operand)
     unfolding postDone
     done-box x = getD-set-same (p .mailboxes) b _ blankMailbox (there .row)
 

@@ -112,7 +112,8 @@ pub record Allocated (p h : Plant) (i n : ℕ) : Type 0 where
   pub objects : OneCounter (p .kernel) (h .kernel) (poolPlace n) (counterAt (p .kernel) (poolPlace n) -ℤ pos 1)
 
 -- "pool, message 0: it takes the top"
-pub hand-over-takes : (p : Plant) (i n : ℕ) → Sized (p .kernel) → PoolThere p n → 0 < poolAt p n .length → HandedOver p (handedOver p i n) i n
+pub hand-over-takes : (p : Plant) (i n : ℕ) → Sized (p .kernel) → PoolThere p n → 0 < poolAt p n .length
+    → HandedOver p (handedOver p i n) i n
 unfolding handedOver
 hand-over-takes p i n z there some =
     let only = finish-only (p .kernel) z i ok (topOf (poolAt p n)) in
@@ -142,7 +143,8 @@ module _ (p : Plant) (i : ℕ) (call : Call) (z : Sized (p .kernel)) (there : Po
 
   -- "Alloc waits on the counter, then takes the top as its datum": "counter above 0: less 1, answer 0"
   pub alloc-takes : ltZ (pos 0) c ≡ true → 0 < poolAt p n .length → Allocated p (allocTried p i call) i n
-  alloc-takes e some = rw (alloc-above p i call e) (as-allocated (hand-over-takes begun i n (taken-sized (p .kernel) (poolPlace n) z) here some))
+  alloc-takes e some =
+      rw (alloc-above p i call e) (as-allocated (hand-over-takes begun i n (taken-sized (p .kernel) (poolPlace n) z) here some))
     where
       begun : Plant
       begun = withKernel p (taken (p .kernel) (poolPlace n))

@@ -15,7 +15,7 @@ use Rattle.kernel.specs.Numbers.{nobody, infinite}
 use Rattle.kernel.specs.Time.{differed}
 use Rattle.kernel.specs.Tables.{counterAt, holderAt}
 use Rattle.kernel.specs.Waiters.{firstReady}
-use Rattle.kernel.specs.Walk.{firstFrom}
+use Rattle.kernel.specs.Walk.{firstFrom, allFrom, countOf}
 use Rattle.kernel.proofs.Cases.{split, same-or, in-or-out, contrary, both-true, both-means, second-fails}
 use Rattle.kernel.proofs.WalkLaws.{First, first-cases}
 use Rattle.library.specs.declared.calls.Step.{Step}
@@ -25,11 +25,19 @@ use Rattle.library.specs.Tables.{poolAt}
 use Rattle.library.specs.Pool.{absent, out, markAt}
 use Rattle.library.specs.Acting.{kernelWaits}
 use Rattle.library.specs.Settling.{isBoxCall}
-use Rattle.rules.specs.Hanging.{hangsTogether}
+use Rattle.library.specs.Sizes.{sizesFit}
+use Rattle.library.specs.Fresh.{freshClock}
+use Rattle.rules.specs.RowRules.{callFits, waitFits, ticksFit, flagsFit, rowFits, rowsFit}
+use Rattle.rules.specs.PlaceRules.{queuedCount, countersFit}
+use Rattle.rules.specs.ReferenceRules.{holderFits, referencesFit}
+use Rattle.rules.specs.MailboxRules.{positionsFit, mailboxesFit}
+use Rattle.rules.specs.PoolRules.{promisedCount, occurrences, entriesFit, objectsFit, poolFits, poolsFit}
+use Rattle.rules.specs.Hanging.{runningFree, hangsTogether}
 use Rattle.steps.specs.Refusal.{kindFits, callerFits, contextFits, objectLimit, isSpan, valueFits, stateFits, refusalOf}
 use Rattle.promises.specs.Tests.{either-means, neither-means}
 use Rattle.promises.specs.Good.{HangTogether}
 use Rattle.promises.specs.Hanging.{test-hangs, hangs-test}
+use Rattle.promises.specs.PaperMailboxes.{freshPlant}
 
 -- "2, 6, 9, 11, 12, 14"
 abbrev pub KernelWait : ℕ → Type 0
@@ -267,7 +275,9 @@ module _ (p : Plant) (c : Clock) (s : Step) where
       (λ n12. same-or k 14 (λ e. mask e (none (leb-false 1 (s .a) (rw e at h))))
       (λ n14. same-or k 21 (λ e. pool-object (inl e) (leb-false (s .a) 31 (rw e at h)))
       (λ n21. same-or k 22 (λ e. pool-object (inr e) (leb-false (s .a) 31 (rw e at h)))
-      (λ n22. contrary refl (rw (ne-eqb k 4 n4, ne-eqb k 11 n11, ne-eqb k 12 n12, ne-eqb k 14 n14, ne-eqb k 21 n21, ne-eqb k 22 n22) at h)))))))
+      (λ n22.
+      contrary refl
+      (rw (ne-eqb k 4 n4, ne-eqb k 11 n11, ne-eqb k 12 n12, ne-eqb k 14 n14, ne-eqb k 21 n21, ne-eqb k 22 n22) at h)))))))
     where
       none : s .a < 1 → s .a ≡ 0
       none l = omega arith
@@ -278,9 +288,13 @@ module _ (p : Plant) (c : Clock) (s : Step) where
       same-or k 3 (λ e. signal e (rw e at h))
       (λ n3. same-or k 9 (λ e. suspend e (eqb-false (holderAt (p .kernel) (s .object)) nobody (rw e at h)))
       (λ n9. same-or k 21
-      (λ e. let l = leb-true (s .a) 31 (rw e at v) in free e l (eqb-false (markAt (poolAt p (s .object)) (s .a)) out (rw (e, small l) at h)))
+      (λ e.
+      let l = leb-true (s .a) 31 (rw e at v) in
+      free e l (eqb-false (markAt (poolAt p (s .object)) (s .a)) out (rw (e, small l) at h)))
       (λ n21. same-or k 22
-      (λ e. let l = leb-true (s .a) 31 (rw e at v) in add e l (eqb-false (markAt (poolAt p (s .object)) (s .a)) absent (rw (e, small l) at h)))
+      (λ e.
+      let l = leb-true (s .a) 31 (rw e at v) in
+      add e l (eqb-false (markAt (poolAt p (s .object)) (s .a)) absent (rw (e, small l) at h)))
       (λ n22. contrary refl (rw (ne-eqb k 3 n3, ne-eqb k 9 n9, ne-eqb k 21 n21, ne-eqb k 22 n22) at h)))))
 
   -- the rule of a number whose test is the first to fail
@@ -352,7 +366,8 @@ module _ (p : Plant) (c : Clock) (s : Step) (byte : s .object < 256) where
 
   -- "Given exactly when": the rule of the number is broken, and none before it
   pub refused-exactly : (n : ℕ) → n ≢ 0 → (refusalOf p c s ≡ n) ↔ (Breaks p c s n × ((m : ℕ) → m < n → Breaks p c s m → ⊥))
-  refused-exactly n d = (λ e. (rw e at (first-broken .broken (λ z. d (sym e ∙ z))), rw e at (first-broken .before)), λ b. back (b .0) (b .1))
+  refused-exactly n d =
+      (λ e. (rw e at (first-broken .broken (λ z. d (sym e ∙ z))), rw e at (first-broken .before)), λ b. back (b .0) (b .1))
     where
       back : Breaks p c s n → ((m : ℕ) → m < n → Breaks p c s m → ⊥) → refusalOf p c s ≡ n
       back b none =
@@ -364,3 +379,11 @@ module _ (p : Plant) (c : Clock) (s : Step) (byte : s .object < 256) where
   pub accepted-exactly : (refusalOf p c s ≡ 0) ↔ ((n : ℕ) → Breaks p c s n → ⊥)
   accepted-exactly =
       (first-broken .none, λ b. same-or (refusalOf p c s) 0 (λ e. e) (λ z. absurd (b (refusalOf p c s) (first-broken .broken z))))
+
+-- ---- an example
+
+-- fresh tables have one semaphore: a signal of a second breaks rule 5, and none before
+pub refusal-example :
+    refusalOf freshPlant (freshClock 1000) (record { kind = 3; caller = 255; object = 1; a = 0; timeout = 0 }) ≡ 5
+unfolding firstFrom allFrom countOf firstReady sizesFit callFits waitFits ticksFit flagsFit rowFits rowsFit queuedCount countersFit holderFits referencesFit positionsFit mailboxesFit promisedCount occurrences entriesFit objectsFit poolFits poolsFit runningFree hangsTogether refusalOf
+refusal-example = refl

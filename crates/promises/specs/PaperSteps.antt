@@ -3,7 +3,7 @@
 use Prim.Native.Nat.{ℕ, suc, _-_, _%_, _≤_, _<_}
 use native.Mathlib.Nat.{mod-eq-of-lt}
 use native.Mathlib.Omega.{arith}
-use mathlib.Core.Path.{_≡_}
+use mathlib.Core.Path.{_≡_, refl}
 use lib.IntN.{pos, negsuc}
 use borrow.Author.Tests.{lt-ltb, le-ltb}
 use Rattle.kernel.specs.declared.time.SystemTime.{SystemTime}
@@ -110,3 +110,10 @@ rows p now s =
   where
     small : s .a ≤ 31 → s .a % 256 ≡ s .a
     small h = mod-eq-of-lt (omega arith)
+
+-- ---- an example
+
+-- an interrupt's signal of semaphore 0 is row 3
+pub row-example : (p : Plant) (now : SystemTime) → acted p now (record { kind = 3; caller = 255; object = 0; a = 0; timeout = 0 })
+    ≡ atOnce (withKernel p (signalled (p .kernel) (p .sizes .threads) 0)) 255
+row-example p now = rows p now (record { kind = 3; caller = 255; object = 0; a = 0; timeout = 0 }) .signal refl
