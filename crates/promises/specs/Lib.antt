@@ -30,3 +30,4 @@ pub mod PaperPools
 pub mod PaperSettling
 pub mod PaperAnswers
 pub mod PaperRefusals
+pub mod PaperAccepted

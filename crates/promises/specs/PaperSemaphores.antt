@@ -118,7 +118,8 @@ pub record OnlyRaised (k h : Kernel) (p : ℕ) : Type 0 where
   pub threads : ThreadsKept k h
   pub objects : OneCounter k h p (counterAt k p +ℤ pos 1)
 
-not-most : (c : ℤ) → ltZ c (pos 0) ≡ true → ltZ c (pos 2147483647) ≡ true
+-- a counter below 0 is below the top
+pub not-most : (c : ℤ) → ltZ c (pos 0) ≡ true → ltZ c (pos 2147483647) ≡ true
 not-most (pos n) e = absurd (omega (arith, ltb-true n 0 e))
 not-most (negsuc n) e = refl
 

@@ -35,6 +35,7 @@ use Rattle.kernel.proofs.TickingLaws.{
   tick-flag,
   tick-flag-later,
   tick-finished,
+  tick-answer,
   tick-sizes,
 }
 use Rattle.steps.specs.Stepping.{clockAfter}
@@ -115,6 +116,10 @@ module _ (k : Kernel) (z : Sized k) (n : ℕ) (few : n ≤ 16) where
       in-or-out j n
       (λ h. rw (tick-flag k n j (rw (z .threads, z .woken) (omega arith)) (rows h), ne-eqb (threadAt k j .remaining) 1 (d h)))
       (λ h. tick-flag-later k n j (rw (used-all n few) h))
+
+  -- nor is anyone else's record touched
+  pub tick-rows-later : (j : ℕ) → n ≤ j → threadAt (ticked k n) j ≡ threadAt k j
+  tick-rows-later j h = tick-later k n j (rw (used-all n few) h)
 
   -- a tick finishes no call
   pub tick-finishes-none : (j : ℕ) → finishedAt (ticked k n) j ≡ finishedAt k j
@@ -229,6 +234,39 @@ module _ (k : Kernel) (z : Sized k) where
             let y = both-means (eqb (t .state) suspended) (eqb (t .place) r) (x .1) in
             absurd (w n (omega arith) (eqb-true (t .remaining) 1 (x .0)) (eqb-true (t .state) suspended (y .0)) (eqb-true (t .place) r (y .1))))
             (λ b. b)
+
+-- ---- the whole tick
+
+-- what a tick of n threads leaves of k
+pub record Ticked (k x : Kernel) (n : ℕ) : Type 0 where
+  pub rows : (j : ℕ) → j < n → TickedRow (threadAt k j) (threadAt x j)
+  pub rows-later : (j : ℕ) → n ≤ j → threadAt x j ≡ threadAt k j
+  pub woken : (j : ℕ) → j < n → threadAt k j .remaining ≡ 1 → wokenAt x j ≡ true
+  pub woken-others : (j : ℕ) → (j < n → threadAt k j .remaining ≢ 1) → wokenAt x j ≡ wokenAt k j
+  pub finished : (j : ℕ) → finishedAt x j ≡ finishedAt k j
+  pub answer : x .answer ≡ k .answer
+  pub counters : (p : ℕ) → p < 36 → Tallies n p k → counterAt x p ≡ counterAt k p +ℤ pos (leavers k n p)
+  pub emptied : (r i : ℕ) → i < n → threadAt k i .remaining ≡ 1 → threadAt k i .state ≡ suspended → threadAt k i .place ≡ r
+      → holderAt x r ≡ nobody
+  pub held : (r : ℕ)
+      → ((j : ℕ) → j < n → threadAt k j .remaining ≡ 1 → threadAt k j .state ≡ suspended → threadAt k j .place ≡ r → ⊥)
+      → holderAt x r ≡ holderAt k r
+
+-- "time +1; in index order, each remaining count above 0 falls by 1; at 0 the thread is taken off its queue (counter +1) or reference
+-- (emptied) and made ready with -1"
+pub tick-ticks : (k : Kernel) → Sized k → (n : ℕ) → n ≤ 16 → Ticked k (ticked k n) n
+tick-ticks k z n few =
+    record {
+      rows = tick-rows k z n few;
+      rows-later = tick-rows-later k z n few;
+      woken = tick-wakes k z n few;
+      woken-others = tick-wakes-no-other k z n few;
+      finished = tick-finishes-none k z n few;
+      answer = tick-answer k n;
+      counters = λ p h g. tick-counter k z p h n few g;
+      emptied = λ r i. tick-empties k z r n i few;
+      held = λ r. tick-holds k z r n few;
+    }
 
 -- ---- an example
 
