@@ -31,3 +31,4 @@ pub mod PaperSettling
 pub mod PaperAnswers
 pub mod PaperRefusals
 pub mod PaperAccepted
+pub mod PaperAcceptedBoxes

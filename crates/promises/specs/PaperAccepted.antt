@@ -7,7 +7,6 @@ use mathlib.Core.Logic.{_≢_, _⊎_, inl, inr}
 use mathlib.Core.Bool.{true, false}
 use lib.Dec.{eqb, leb, ltb}
 use lib.Bits.{bitAnd, bitOr}
-use lib.ListN.{length}
 use lib.IntN.{ℤ, pos, negsuc, _+ℤ_}
 use lib.Signed.{ltZ}
 use borrow.Author.Tests.{eqb-true, leb-true, ltb-true}
@@ -21,7 +20,7 @@ use Rattle.kernel.specs.Time.{differed}
 use Rattle.kernel.specs.Tables.{threadAt, counterAt, holderAt}
 use Rattle.kernel.specs.Waiters.{firstReady, firstWaiter}
 use Rattle.kernel.specs.Queue.{releasedFirst, releasedAll}
-use Rattle.kernel.specs.Semaphore.{waited, signalled, resetTo}
+use Rattle.kernel.specs.Semaphore.{signalled, resetTo}
 use Rattle.kernel.specs.Reference.{resumed}
 use Rattle.kernel.specs.Event.{eventSignalled}
 use Rattle.kernel.specs.Ticking.{ticked}
@@ -35,6 +34,7 @@ use Rattle.kernel.proofs.TickingLaws.{tick-sizes}
 use Rattle.library.specs.declared.calls.Step.{Step}
 use Rattle.library.specs.declared.tables.Plant.{Plant}
 use Rattle.library.specs.Tables.{withKernel}
+use Rattle.library.specs.Fresh.{freshClock}
 use Rattle.library.specs.Acting.{messageOf, kernelWaits, acted}
 use Rattle.rules.specs.PlaceRules.{inUse}
 use Rattle.steps.specs.Refusal.{isSpan, refusalOf}
@@ -44,7 +44,7 @@ use Rattle.promises.specs.Hanging.{test-hangs}
 use Rattle.promises.specs.Tallies.{Tallies}
 use Rattle.promises.specs.CounterRule.{counters-tally, semaphore-place, queue-place}
 use Rattle.promises.specs.Accepting.{Accepted, refusal-none, waits-thread}
-use Rattle.promises.specs.PaperWords.{OnlyAnswered, WokeFrom, SleptAt, HighestWaiter, NoWaiter}
+use Rattle.promises.specs.PaperWords.{OnlyAnswered, WokeFrom, SleptAt, HighestWaiter, NoWaiter, freshKernel, fresh-sized}
 use Rattle.promises.specs.PaperSteps.{atOnce, at-once-answers, keptCall, Rows, rows}
 use Rattle.promises.specs.PaperQueues.{
   rule-high,
@@ -71,7 +71,14 @@ use Rattle.promises.specs.PaperSemaphores.{
   binary-signals,
   binary-stays,
 }
-use Rattle.promises.specs.PaperReferences.{SuspendedIn, suspend-now, suspend-sleeps, ResumedFrom, resume-holder, resume-empty}
+use Rattle.promises.specs.PaperReferences.{
+  SuspendedIn,
+  suspend-now,
+  suspend-sleeps,
+  ResumedFrom,
+  resume-holder,
+  resume-empty,
+}
 use Rattle.promises.specs.PaperDelays.{SleptFor, sleep-for-sleeps, sleep-until-sleeps}
 use Rattle.promises.specs.PaperEvents.{
   OnlyFlagged,
@@ -85,7 +92,8 @@ use Rattle.promises.specs.PaperEvents.{
   event-wait-sleeps,
 }
 use Rattle.promises.specs.PaperTick.{leavers, tick-counter, Ticked, tick-ticks}
-use Rattle.promises.specs.PaperMailboxes.{BoxesKept, kernel-only, PlantAnswered}
+use Rattle.promises.specs.PaperMailboxes.{BoxesKept, kernel-only, PlantAnswered, freshPlant}
+use Rattle.promises.specs.PaperRefusals.{stepOf, accepted-example}
 use Rattle.promises.specs.PaperSettling.{FirstReady, Idle, running-first}
 
 -- the kernel part becomes one of which P holds, and no mailbox and no pool changes
@@ -112,7 +120,8 @@ below-one (negsuc n) e = refl
 finite : (d : ℕ) → isSpan d ≡ true → d ≢ infinite
 finite d e = let l = ltb-true d infinite (both-means (leb 1 d) (ltb d infinite) e .1) in λ x. absurd (omega arith)
 
-done : (w h : Plant) (i : ℕ) (P : Plant → Type 0) → Sized (w .kernel) → P w → h ≡ atOnce w i → DoneAtOnce h i P
+-- of an effect and its finishing
+pub done : (w h : Plant) (i : ℕ) (P : Plant → Type 0) → Sized (w .kernel) → P w → h ≡ atOnce w i → DoneAtOnce h i P
 done w h i P z f e =
     rw e (record { between = w; effect = f; call = record { call = at-once-answers w i z; boxes = kernel-only w _ } })
 
@@ -143,13 +152,16 @@ module _ (p : Plant) (c : Clock) (s : Step) (z : Sized (p .kernel)) (e : refusal
   a : Accepted p c s
   a = refusal-none p c s e
 
-  whole : HangTogether p c
+  -- its tables hang together
+  pub whole : HangTogether p c
   whole = test-hangs p c (a .hangs)
 
-  few : n ≤ 16
+  -- with at most 16 threads
+  pub few : n ≤ 16
   few = whole .good .sizes .threads .1
 
-  tallies : (q : ℕ) → q < 36 → inUse (p .sizes) q ≡ true → Tallies n q k
+  -- and the counters in use tell who waits
+  pub tallies : (q : ℕ) → q < 36 → inUse (p .sizes) q ≡ true → Tallies n q k
   tallies = counters-tally k (p .sizes) (whole .good .sizes) (whole .good .counters)
 
   -- 3: the caller is an interrupt, or the first ready thread
@@ -432,3 +444,10 @@ module _ (p : Plant) (c : Clock) (s : Step) (z : Sized (p .kernel)) (e : refusal
     pub event-wait-step-sleeps : bitAnd (threadAt k i .pending) (s .a) ≡ 0 → s .timeout ≢ 0 → KernelOnly p h (λ x. Awaits k x i call14)
     event-wait-step-sleeps e t =
         kernel-waits p h _ (λ x. Awaits k x i call14) (event-wait-sleeps k z i call14 thread14 e t) (row .event-wait kind)
+
+-- ---- an example
+
+-- an interrupt's signal on fresh tables raises the counter, and that is all
+pub signal-step-example : KernelDone freshPlant (acted freshPlant (record { 0 = 0 }) (stepOf 3 255 0 0 0)) 255 (λ x. OnlyRaised freshKernel x 0)
+signal-step-example =
+    signal-step-raises freshPlant (freshClock 1000) (stepOf 3 255 0 0 0) fresh-sized (accepted-example .0) refl refl

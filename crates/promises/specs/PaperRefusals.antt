@@ -380,10 +380,21 @@ module _ (p : Plant) (c : Clock) (s : Step) (byte : s .object < 256) where
   accepted-exactly =
       (first-broken .none, λ b. same-or (refusalOf p c s) 0 (λ e. e) (λ z. absurd (b (refusalOf p c s) (first-broken .broken z))))
 
--- ---- an example
+-- ---- examples
+
+-- a step by its five fields
+abbrev pub stepOf : ℕ → ℕ → ℕ → ℕ → ℕ → Step
+stepOf k i o x t = record { kind = k; caller = i; object = o; a = x; timeout = t }
 
 -- fresh tables have one semaphore: a signal of a second breaks rule 5, and none before
-pub refusal-example :
-    refusalOf freshPlant (freshClock 1000) (record { kind = 3; caller = 255; object = 1; a = 0; timeout = 0 }) ≡ 5
+pub refusal-example : refusalOf freshPlant (freshClock 1000) (stepOf 3 255 1 0 0) ≡ 5
 unfolding firstFrom allFrom countOf firstReady sizesFit callFits waitFits ticksFit flagsFit rowFits rowsFit queuedCount countersFit holderFits referencesFit positionsFit mailboxesFit promisedCount occurrences entriesFit objectsFit poolFits poolsFit runningFree hangsTogether refusalOf
 refusal-example = refl
+
+-- an interrupt's signal of the first, thread 0's post of 7 and its adding of object 5 are accepted
+pub accepted-example :
+    (refusalOf freshPlant (freshClock 1000) (stepOf 3 255 0 0 0) ≡ 0)
+    × (refusalOf freshPlant (freshClock 1000) (stepOf 15 0 0 7 0) ≡ 0)
+    × (refusalOf freshPlant (freshClock 1000) (stepOf 22 0 0 5 0) ≡ 0)
+unfolding firstFrom allFrom countOf firstReady sizesFit callFits waitFits ticksFit flagsFit rowFits rowsFit queuedCount countersFit holderFits referencesFit positionsFit mailboxesFit promisedCount occurrences entriesFit objectsFit poolFits poolsFit runningFree hangsTogether refusalOf
+accepted-example = (refl, refl, refl)
