@@ -448,6 +448,7 @@ module _ (p : Plant) (c : Clock) (s : Step) (z : Sized (p .kernel)) (e : refusal
 -- ---- an example
 
 -- an interrupt's signal on fresh tables raises the counter, and that is all
-pub signal-step-example : KernelDone freshPlant (acted freshPlant (record { 0 = 0 }) (stepOf 3 255 0 0 0)) 255 (λ x. OnlyRaised freshKernel x 0)
+pub signal-step-example :
+    KernelDone freshPlant (acted freshPlant (record { 0 = 0 }) (stepOf 3 255 0 0 0)) 255 (λ x. OnlyRaised freshKernel x 0)
 signal-step-example =
     signal-step-raises freshPlant (freshClock 1000) (stepOf 3 255 0 0 0) fresh-sized (accepted-example .0) refl refl

@@ -95,6 +95,11 @@ pub record PlantSized (p : Plant) : Type 0 where
   pub pools : length (p .pools) ≡ 4
   pub pool : (q : ℕ) → q < 4 → PoolSized (poolAt p q)
 
+-- by the two kinds that share a row
+by-either : {A B C : Type 0} → A ⊎ B → (A → C) → (B → C) → C
+by-either (inl x) f g = f x
+by-either (inr x) f g = g x
+
 -- a counter of at most 32 is below the top
 few-free : (c : ℤ) → stock c ≤ 32 → ltZ c (pos 2147483647) ≡ true
 few-free (pos m) h = lt-ltb m 2147483647 (omega arith)
@@ -174,25 +179,14 @@ module _ (p : Plant) (c : Clock) (s : Step) (z : PlantSized p) (e : refusalOf p 
     call15 = keptCall m o (s .a) (s .timeout)
 
     posts : h ≡ postTried p i call15
-    posts = of either
-      where
-        of : (m ≡ 15) ⊎ (m ≡ 16) → h ≡ postTried p i call15
-        of (inl x) = rw x (row .post (kind ∙ x))
-        of (inr x) = rw x (row .post-ahead (kind ∙ x))
+    posts = by-either either (λ x. rw x (row .post (kind ∙ x))) (λ x. rw x (row .post-ahead (kind ∙ x)))
 
     posts-to : o < p .sizes .mailboxes
-    posts-to = of either
-      where
-        of : (m ≡ 15) ⊎ (m ≡ 16) → o < p .sizes .mailboxes
-        of (inl x) = rw (kind ∙ x) at (a .object)
-        of (inr x) = rw (kind ∙ x) at (a .object)
+    posts-to = by-either either (λ x. rw (kind ∙ x) at (a .object)) (λ x. rw (kind ∙ x) at (a .object))
 
     post-thread : s .timeout ≢ 0 → i < 16
-    post-thread = of either
-      where
-        of : (m ≡ 15) ⊎ (m ≡ 16) → s .timeout ≢ 0 → i < 16
-        of (inl x) = thread-calls (rw (kind ∙ x)) (rw (kind ∙ x))
-        of (inr x) = thread-calls (rw (kind ∙ x)) (rw (kind ∙ x))
+    post-thread =
+        by-either either (λ x. thread-calls (rw (kind ∙ x)) (rw (kind ∙ x))) (λ x. thread-calls (rw (kind ∙ x)) (rw (kind ∙ x)))
 
     -- "in reset state post .. answer -2"
     pub post-step-in-reset : mailboxAt p o .reset ≢ 0 → PlantAnswered p h i (negsuc 1) 0
@@ -259,7 +253,8 @@ module _ (p : Plant) (c : Clock) (s : Step) (z : PlantSized p) (e : refusalOf p 
         fetch-step-serves j w =
             rw fetches
             (fetch-serves p i call17 box works some (z .kernel) most j w (waiter-apart p c s (z .kernel) e (writersPlace o) j w)
-            (not-most (counterAt k (writersPlace o)) (rule-below k n (writersPlace o) j (writers-tally (rw kind at (a .object))) (w .thread) (w .waits))))
+            (not-most (counterAt k (writersPlace o))
+            (rule-below k n (writersPlace o) j (writers-tally (rw kind at (a .object))) (w .thread) (w .waits))))
 
         -- or the call finishes, and that is all
         pub fetch-step-lone : NoWaiter k n (writersPlace o)
@@ -348,37 +343,22 @@ module _ (p : Plant) (c : Clock) (s : Step) (z : PlantSized p) (e : refusalOf p 
     x = s .a
 
     put-to : o < p .sizes .pools
-    put-to = of either
-      where
-        of : (m ≡ 21) ⊎ (m ≡ 22) → o < p .sizes .pools
-        of (inl y) = rw (kind ∙ y) at (a .object)
-        of (inr y) = rw (kind ∙ y) at (a .object)
+    put-to = by-either either (λ y. rw (kind ∙ y) at (a .object)) (λ y. rw (kind ∙ y) at (a .object))
 
     -- "pool object above 31" is refused
     object : x ≤ 31
-    object = of either
-      where
-        of : (m ≡ 21) ⊎ (m ≡ 22) → x ≤ 31
-        of (inl y) = leb-true x 31 (rw (kind ∙ y) at (a .value))
-        of (inr y) = leb-true x 31 (rw (kind ∙ y) at (a .value))
+    object = by-either either (λ y. leb-true x 31 (rw (kind ∙ y) at (a .value))) (λ y. leb-true x 31 (rw (kind ∙ y) at (a .value)))
 
     puts : h ≡ atOnce (putBack p o x) i
-    puts = of either
-      where
-        of : (m ≡ 21) ⊎ (m ≡ 22) → h ≡ atOnce (putBack p o x) i
-        of (inl y) = row .free (kind ∙ y) object
-        of (inr y) = row .add (kind ∙ y) object
+    puts = by-either either (λ y. row .free (kind ∙ y) object) (λ y. row .add (kind ∙ y) object)
 
     -- "free of an object not out; add of one not absent" is refused, so that it was not free
     not-free : markAt (poolAt p o) x ≢ free
-    not-free = of either
-      where
-        small : x % 256 ≡ x
-        small = mod-eq-of-lt (omega (arith, object))
-
-        of : (m ≡ 21) ⊎ (m ≡ 22) → markAt (poolAt p o) x ≢ free
-        of (inl y) f = absurd (omega (arith, eqb-true (markAt (poolAt p o) x) out (rw (kind ∙ y, small) at (a .state))))
-        of (inr y) f = absurd (omega (arith, eqb-true (markAt (poolAt p o) x) absent (rw (kind ∙ y, small) at (a .state))))
+    not-free f =
+        let mark = markAt (poolAt p o) x in
+        let small : x % 256 ≡ x = mod-eq-of-lt (omega (arith, object)) in
+        by-either either (λ y. absurd (omega (arith, eqb-true mark out (rw (kind ∙ y, small) at (a .state)))))
+        (λ y. absurd (omega (arith, eqb-true mark absent (rw (kind ∙ y, small) at (a .state)))))
 
     tops : OnTop p (putBack p o x) o x
     tops = put-back-tops p o x (pool-there put-to) (omega (arith, object)) not-free
