@@ -25,13 +25,13 @@ use Rattle.promises.specs.Good.{GoodMailbox}
 -- ---- places in a ring
 
 -- the next place is one more, modulo slots
-after-mod : (p slots : ℕ) → p < slots → placeAfter p slots ≡ (p + 1) % slots
+pub after-mod : (p slots : ℕ) → p < slots → placeAfter p slots ≡ (p + 1) % slots
 after-mod p slots h =
     in-or-out (p + 1) slots (λ l. rw (lt-ltb (p + 1) slots l) (sym (mod-eq-of-lt l)))
     (λ l. let end : p + 1 ≡ slots = omega arith in rw (le-ltb (p + 1) slots l, end) (sym (mod-self slots)))
 
 -- and the one before is the place of which this is the next
-before-mod : (p slots : ℕ) → p < slots → (placeBefore p slots + 1) % slots ≡ p
+pub before-mod : (p slots : ℕ) → p < slots → (placeBefore p slots + 1) % slots ≡ p
 before-mod p slots h =
     in-or-out 0 p
     (λ l. let on : p - 1 + 1 ≡ p = omega arith in rw (lt-ltb 0 p l, on) (mod-eq-of-lt h))
@@ -40,7 +40,8 @@ before-mod p slots h =
     let first : p ≡ 0 = omega arith in
     rw (le-ltb 0 p l, end, mod-self slots) (sym first))
 
-before-lt : (p slots : ℕ) → p < slots → placeBefore p slots < slots
+-- which is in the ring too
+pub before-lt : (p slots : ℕ) → p < slots → placeBefore p slots < slots
 before-lt p slots h = chosen (λ x. x < slots) (ltb 0 p) (λ e. omega arith) (λ e. omega arith)
 
 -- ---- the slot of a call, or none

@@ -1,20 +1,16 @@
 -- The demands' hypotheses, met by runs from fresh tables, by computation: two threads, a semaphore and a pool.
-use Prim.Native.Nat.{ℕ, zero, suc, _+_, _≤_, _<_}
+use Prim.Native.Nat.{ℕ, zero, suc, _<_}
 use native.Mathlib.Nat.{le-refl}
 use native.Mathlib.Omega.{arith}
 use mathlib.Core.Path.{_≡_, refl}
-use mathlib.Core.Logic.{_≢_, inl, inr}
-use mathlib.Core.Bool.{Bool, true, false}
-use mathlib.Core.List.{List, [], _∷_, _++_}
+use mathlib.Core.Logic.{inl}
+use mathlib.Core.Bool.{true, false}
+use mathlib.Core.List.{List, [], _∷_}
 use lib.ListN.{getD, replicate}
-use lib.IntN.{ℤ, pos, negsuc}
 use Rattle.kernel.specs.declared.clock.Clock.{Clock}
 use Rattle.kernel.specs.declared.units.Rate.the-variants.{Standard}
 use Rattle.kernel.specs.declared.records.Call.{Call}
-use Rattle.kernel.specs.declared.records.Thread.{Thread}
-use Rattle.kernel.specs.declared.records.Kernel.{Kernel}
 use Rattle.kernel.specs.Numbers.{queued, ok, timedOut}
-use Rattle.kernel.specs.Tables.{threadAt}
 use Rattle.kernel.specs.Walk.{firstFrom, allFrom, countOf}
 use Rattle.kernel.specs.Records.{blank}
 use Rattle.kernel.specs.Moves.{readied, asleep, answered, takenOff, putOn, woken, slept, finished, blocked}
@@ -29,7 +25,6 @@ use Rattle.library.specs.Acting.{waitBegun, effected, actedOnKernel, acted}
 use Rattle.library.specs.Fresh.{made}
 use Rattle.library.specs.Settling.{continued, settled}
 use Rattle.library.specs.Sizes.{sizesFit}
-use Rattle.library.specs.Tables.{opened}
 use Rattle.rules.specs.RowRules.{callFits, waitFits, ticksFit, flagsFit, rowFits, rowsFit}
 use Rattle.rules.specs.PlaceRules.{queuedCount, countersFit}
 use Rattle.rules.specs.ReferenceRules.{holderFits, referencesFit}
@@ -39,8 +34,8 @@ use Rattle.rules.specs.Hanging.{runningFree, hangsTogether}
 use Rattle.steps.specs.Refusal.{refusalOf}
 use Rattle.steps.specs.Stepping.{maskOf, outcomeOf, doneWith, refusedWith, stepped}
 use Rattle.promises.specs.Run.{ran}
-use Rattle.promises.specs.Story.{Event, woke, sleepIn, endWith, tick, countOff, signalAt, takeAt, endStep, isWoke, isTick, countIn}
-use Rattle.promises.specs.Chain.{stop, sleeps, passes, ages, finishes, hands, begins}
+use Rattle.promises.specs.Story.{Event, woke, sleepIn, endWith, tick, countOff, signalAt, endStep, isWoke, countIn}
+use Rattle.promises.specs.Chain.{stop, sleeps, passes, ages, finishes, begins}
 use Rattle.promises.specs.Flags.{someIn}
 use Rattle.promises.specs.History.{History, ticksIn, signalsIn}
 use Rattle.promises.specs.Lives.{atWork, Lives, ownEvents}

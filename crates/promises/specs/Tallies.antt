@@ -15,6 +15,7 @@ use Rattle.kernel.specs.Numbers.{ready, queued, timedOut}
 use Rattle.kernel.specs.Tables.{threadAt, counterAt, withThread}
 use Rattle.kernel.specs.Moves.{woken, slept, finished}
 use Rattle.kernel.specs.Waiters.{queuedAt}
+use Rattle.kernel.specs.Queue.{releasedAll}
 use Rattle.kernel.specs.Ticking.{countedOff, ticked}
 use Rattle.kernel.proofs.Cases.{split, same-or, in-or-out, first-fails}
 use Rattle.kernel.proofs.WalkLaws.{count-le, count-agree, count-change, count-some}
@@ -22,7 +23,7 @@ use Rattle.kernel.proofs.TablesLaws.{thread-blank, thread-kept, counter-zero}
 use Rattle.kernel.proofs.CountersLaws.{debt, debt-below, up-not-above}
 use Rattle.kernel.proofs.WaitersLaws.{waits, waiters}
 use Rattle.kernel.proofs.MovesLaws.{wake-others, wake-counter, wake-counter-others, wake-debt, wake-sizes, sleep-past, sleep-row, sleep-others, sleep-debt, sleep-counter-others, sleep-sizes, finish-kept, finish-counters}
-use Rattle.kernel.proofs.QueueLaws.{wake-unqueued, wake-waiters, sleep-level}
+use Rattle.kernel.proofs.QueueLaws.{release-all-keeps, wake-unqueued, wake-waiters, sleep-level}
 use Rattle.kernel.proofs.TickingLaws.{tick-keeps}
 
 -- of n threads as many are queued at the place p as its counter owes; from place 20 on, a queue's, the counter is never above 0
@@ -106,7 +107,7 @@ pub finish-tallies : (k : Kernel) (i : ℕ) (m : ℤ) (d n p : ℕ) → Tallies 
 finish-tallies k i m d n p =
     same-tallies k (finished k i m d) n p (finish-kept k i m d (queuedAt p) (λ a. refl)) (rw (finish-counters k i m d))
 
--- ---- a row, and the tick
+-- ---- a row, a release of all, and the tick
 
 module _ (k : Kernel) (n q : ℕ) where
   -- a row that waits as it did
@@ -117,3 +118,6 @@ pub tick-tallies : (k : Kernel) (n q : ℕ) → Tallies n q k → Tallies n q (t
 tick-tallies k n q =
     tick-keeps k n (Tallies n q) (λ i l h. wake-tallies h i timedOut n q l)
     (λ i h. row-tallies h n q i (countedOff (threadAt h i)) (λ p. refl))
+
+pub release-all-tallies : (k : Kernel) (n p : ℕ) (m : ℤ) (q : ℕ) → Tallies n q k → Tallies n q (releasedAll k n p m)
+release-all-tallies k n p m q = release-all-keeps k n p m (Tallies n q) (λ i l h e. wake-tallies h i m n q l)
