@@ -21,7 +21,8 @@ use Rattle.kernel.specs.Ticking.{ticked}
 use Rattle.library.specs.declared.calls.Step.{Step}
 use Rattle.library.specs.declared.sizes.Sizes.{Sizes}
 use Rattle.library.specs.declared.tables.Tables.{Tables}
-use Rattle.library.specs.Acting.{waitBegun, effected, actedOnKernel, acted}
+use Rattle.library.specs.Pool.{popped, pushed, handedOver, allocTried, putBack}
+use Rattle.library.specs.Acting.{waitBegun, effected, actedOnKernel, boxEffected, actedOnBox, acted}
 use Rattle.library.specs.Fresh.{made}
 use Rattle.library.specs.Settling.{continued, settled}
 use Rattle.library.specs.Sizes.{sizesFit}
@@ -34,12 +35,12 @@ use Rattle.rules.specs.Hanging.{runningFree, hangsTogether}
 use Rattle.steps.specs.Refusal.{refusalOf}
 use Rattle.steps.specs.Stepping.{maskOf, outcomeOf, doneWith, refusedWith, stepped}
 use Rattle.promises.specs.Run.{ran}
-use Rattle.promises.specs.Story.{Event, woke, sleepIn, endWith, tick, countOff, signalAt, endStep, isWoke, countIn}
-use Rattle.promises.specs.Chain.{stop, sleeps, passes, ages, finishes, begins}
-use Rattle.promises.specs.Flags.{someIn}
-use Rattle.promises.specs.History.{History, ticksIn, signalsIn}
+use Rattle.promises.specs.Story.{Event, woke, sleepIn, endWith, tick, countOff, signalAt, takeAt, endStep, isWoke, countIn}
+use Rattle.promises.specs.Chain.{stop, sleeps, passes, ages, finishes, hands, begins}
+use Rattle.promises.specs.Flags.{someIn, maskBit}
+use Rattle.promises.specs.History.{History, ticksIn, signalsIn, someResult, run-hangs, made-hang}
 use Rattle.promises.specs.Lives.{atWork, Lives, ownEvents}
-use Rattle.promises.specs.Demands.{demand-3a, demand-3b, demand-3c, Released}
+use Rattle.promises.specs.Demands.{demand-2, Answer2, demand-3a, demand-3b, demand-3c, demand-3c-pools, ticks-wake, Released}
 
 -- two threads, one semaphore, one pool
 abbrev two : Sizes
@@ -159,3 +160,51 @@ pub demand-3c-shown : Released 1 twoSignals
 unfolding firstFrom allFrom countOf firstReady firstWaiter takenOff putOn woken slept finished blocked enqueued releasedFirst releasedAll taken waited signalled ticked sizesFit made waitBegun effected actedOnKernel acted continued settled callFits waitFits ticksFit flagsFit rowFits rowsFit queuedCount countersFit holderFits referencesFit positionsFit mailboxesFit promisedCount occurrences entriesFit objectsFit poolFits poolsFit runningFree hangsTogether refusalOf maskOf outcomeOf doneWith refusedWith stepped ran countIn ticksIn signalsIn signals-shown
 demand-3c-shown =
     demand-3c two Standard made-shown bothWait (signals ∷ (signals ∷ [])) signals-shown 1 (omega arith) 0 (omega arith) refl refl (le-refl 2)
+
+-- ---- c, of a pool: thread 0 waits for an object, and an interrupt adds one
+
+abbrev allocs : Step
+allocs = record { kind = 20; caller = 0; object = 0; a = 0; timeout = 4294967295 }
+
+abbrev adds : Step
+adds = record { kind = 22; caller = 255; object = 0; a = 5; timeout = 0 }
+
+abbrev t₂ : Tables
+t₂ = ran t₀ c₀ (allocs ∷ []) .tables
+
+abbrev c₂ : Clock
+c₂ = ran t₀ c₀ (allocs ∷ []) .clock
+
+-- it is woken with 0, and takes the object that was promised to it
+abbrev oneAdded : List Event
+oneAdded = signalAt 16 ∷ (woke 0 ok ∷ (takeAt 16 ∷ (endWith 0 ok 5 ∷ (endStep ∷ []))))
+
+adds-shown : History t₂ c₂ (adds ∷ [])
+unfolding firstFrom allFrom countOf firstReady firstWaiter takenOff putOn woken slept finished blocked enqueued releasedFirst releasedAll taken waited signalled ticked sizesFit made waitBegun effected actedOnKernel acted continued settled callFits waitFits ticksFit flagsFit rowFits rowsFit queuedCount countersFit holderFits referencesFit positionsFit mailboxesFit promisedCount occurrences entriesFit objectsFit poolFits poolsFit runningFree hangsTogether refusalOf maskOf outcomeOf doneWith refusedWith stepped ran countIn ticksIn signalsIn popped pushed handedOver allocTried putBack boxEffected actedOnBox
+adds-shown =
+    record {
+      events = oneAdded;
+      chain = passes 16 0 (omega arith) (record { below = omega arith; passes = refl; least = λ i l. absurd (omega arith) })
+          (hands 0 5 (record { within = omega arith; promised = refl }) (begins stop));
+      ticks = refl;
+      signals = λ q. omega arith;
+    }
+
+pub demand-3c-pools-shown : Released 0 oneAdded
+unfolding firstFrom allFrom countOf firstReady firstWaiter takenOff putOn woken slept finished blocked enqueued releasedFirst releasedAll taken waited signalled ticked sizesFit made waitBegun effected actedOnKernel acted continued settled callFits waitFits ticksFit flagsFit rowFits rowsFit queuedCount countersFit holderFits referencesFit positionsFit mailboxesFit promisedCount occurrences entriesFit objectsFit poolFits poolsFit runningFree hangsTogether refusalOf maskOf outcomeOf doneWith refusedWith stepped ran countIn ticksIn signalsIn popped pushed handedOver allocTried putBack boxEffected actedOnBox adds-shown
+demand-3c-pools-shown =
+    demand-3c-pools two Standard made-shown (allocs ∷ []) (adds ∷ []) adds-shown 0 (omega arith) 0 (omega arith) refl refl (le-refl 1)
+
+-- ---- as the results show it: a sleep of one tick, then the tick
+
+pub ticks-wake-shown : someResult (λ o. maskBit 0 (o .woken)) (ran (ran t₀ c₀ (waits 0 1 ∷ []) .tables) (ran t₀ c₀ (waits 0 1 ∷ []) .clock) (ticks ∷ []) .outcomes) ≡ true
+unfolding firstFrom allFrom countOf firstReady firstWaiter takenOff putOn woken slept finished blocked enqueued releasedFirst releasedAll taken waited signalled ticked sizesFit made waitBegun effected actedOnKernel acted continued settled callFits waitFits ticksFit flagsFit rowFits rowsFit queuedCount countersFit holderFits referencesFit positionsFit mailboxesFit promisedCount occurrences entriesFit objectsFit poolFits poolsFit runningFree hangsTogether refusalOf maskOf outcomeOf doneWith refusedWith stepped ran countIn ticksIn signalsIn
+ticks-wake-shown =
+    ticks-wake (ran t₀ c₀ (waits 0 1 ∷ []) .tables) (ran t₀ c₀ (waits 0 1 ∷ []) .clock) (run-hangs t₀ c₀ (waits 0 1 ∷ []) (made-hang two Standard made-shown))
+    (ticks ∷ []) 0 (omega arith) (omega arith) (omega arith) (le-refl 1)
+
+-- ---- demand 2: an accepted step
+
+pub demand-2-shown : Answer2 t₀ c₀ (waits 0 1)
+unfolding firstFrom allFrom countOf firstReady firstWaiter takenOff putOn woken slept finished blocked enqueued releasedFirst releasedAll taken waited signalled ticked sizesFit made waitBegun effected actedOnKernel acted continued settled callFits waitFits ticksFit flagsFit rowFits rowsFit queuedCount countersFit holderFits referencesFit positionsFit mailboxesFit promisedCount occurrences entriesFit objectsFit poolFits poolsFit runningFree hangsTogether refusalOf maskOf outcomeOf doneWith refusedWith stepped ran countIn ticksIn signalsIn
+demand-2-shown = demand-2 t₀ c₀ (waits 0 1) (made-hang two Standard made-shown) refl
