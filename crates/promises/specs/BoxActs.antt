@@ -152,7 +152,7 @@ module _ (p : Plant) (w : Whole (p .sizes) p) where
   boxes-done : (h : Plant) (ms : List Event) → MailboxesKept p h → Chained z k (h .kernel) ms
       → ((q : ℕ) → countIn (isTake (poolPlace q)) ms ≡ 0) → ((q : ℕ) → countIn (isSignal (poolPlace q)) ms ≡ 0) → Done z p h ms
   boxes-done h ms m c a b =
-      done z p h ms w c (m .sizes) (m .good) (m .boxes ∙ w .boxes)
+      done z p h ms w c (m .sizes) (m .good) (m .boxes ∙ w .boxes) (λ b l. m .messages b ∙ w .messages b l)
       (record {
         listed = λ o l. rw (m .pools) (w .pools .listed o (rw (m .sizes) at l));
         sized = λ o l. rw (m .pools) (w .pools .sized o (rw (m .sizes) at l));
@@ -222,7 +222,7 @@ module _ (p : Plant) (w : Whole (p .sizes) p) where
   pools-done : (h : Plant) (o : ℕ) (ms : List Event) → PoolsKept p h o → Chained z k (h .kernel) ms → InStep z p h ms → Done z p h ms
   pools-done h o ms m c l =
       done z p h ms w c (m .sizes) (λ b r. rw (m .mailboxes, m .sizes) (w .mailboxes b (rw (m .sizes) at r)))
-      (ap length (m .mailboxes) ∙ w .boxes) (m .all) (m .pools ∙ w .rows) l
+      (ap length (m .mailboxes) ∙ w .boxes) (λ b r. rw (m .mailboxes) (w .messages b r)) (m .all) (m .pools ∙ w .rows) l
 
   -- one taken off a pool
   took-step : (h : Plant) (o : ℕ) → o < z .pools → PoolsKept p h o → poolAt h o .length + 1 ≡ poolAt p o .length → InStep z p h (takeAt (poolPlace o) ∷ [])

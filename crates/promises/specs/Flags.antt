@@ -1,6 +1,7 @@
 -- "masks of threads woken and of threads whose calls finished": within a step a flag is set exactly by a waking, or a finished call, of its
 -- thread, and a mask has bit i exactly where flag i is set.
-use Prim.Native.Nat.{ℕ, zero, suc, _+_, _*_, _/_, _%_, _≤_, _<_}
+use Prim.Native.Nat.{ℕ, zero, suc, _+_, _*_, _/_, _%_, _^_, _≤_, _<_}
+use native.Mathlib.Nat.{zero-div, div-one, pow-succ', div-div-eq-div-mul}
 use native.Mathlib.Omega.{arith}
 use mathlib.Core.Path.{_≡_, refl, sym, ap, _∙_}
 use mathlib.Core.Logic.{_≢_}
@@ -17,6 +18,7 @@ use Rattle.kernel.specs.Tables.{threadAt}
 use Rattle.kernel.specs.Moves.{woken, finished}
 use Rattle.kernel.specs.Semaphore.{taken}
 use Rattle.kernel.proofs.Cases.{split, same-or, in-or-out}
+use Rattle.kernel.proofs.WalkLaws.{bit-le}
 use Rattle.kernel.proofs.TablesLaws.{Sized, wokenAt, finishedAt, used-all}
 use Rattle.kernel.proofs.MovesLaws.{wake-flag, wake-flag-others, wake-finished, sleep-woken, sleep-finished, finish-woken, finish-flag, finish-flag-others}
 use Rattle.kernel.proofs.TickingLaws.{tick-flag, tick-flag-later, tick-finished}
@@ -163,23 +165,23 @@ module _ (z : Sizes) (few : z .threads ≤ 16) (i : ℕ) (low : i < 16) where
 
 -- ---- masks
 
--- bit i of a mask
-abbrev pub maskBit : ℕ → ℕ → Bool
-maskBit zero w = eqb (w % 2) 1
-maskBit (suc i) w = maskBit i (w / 2)
-
--- a mask has bit i exactly where flag i is set
-pub mask-bit : (l : List Bool) (i : ℕ) → maskBit i (maskOf l) ≡ getD l i false
+-- bit i of a mask is flag i
+pub mask-digit : (l : List Bool) (i : ℕ) → maskOf l / 2 ^ i % 2 ≡ bit (getD l i false)
 unfolding maskOf
-mask-bit [] zero = refl
-mask-bit [] (suc i) = mask-bit [] i
-mask-bit (b ∷ l) zero = first b
+mask-digit [] i = rw (zero-div (2 ^ i))
+mask-digit (b ∷ l) zero = rw (div-one (maskOf l * 2 + bit b)) (omega (arith, bit-le b))
+mask-digit (b ∷ l) (suc i) =
+    let half : (maskOf l * 2 + bit b) / 2 ≡ maskOf l = omega (arith, bit-le b) in
+    rw (pow-succ' 2 i, ← div-div-eq-div-mul (maskOf l * 2 + bit b) 2 (2 ^ i), half) (mask-digit l i)
+
+-- whether bit i of a mask is set
+abbrev pub maskBit : ℕ → ℕ → Bool
+maskBit i w = eqb (w / 2 ^ i % 2) 1
+
+-- it is exactly where flag i is set
+pub mask-bit : (l : List Bool) (i : ℕ) → maskBit i (maskOf l) ≡ getD l i false
+mask-bit l i = rw (mask-digit l i) (is-bit (getD l i false))
   where
-    first : (b : Bool) → eqb ((maskOf l * 2 + bit b) % 2) 1 ≡ b
-    first true = eq-eqb ((maskOf l * 2 + 1) % 2) 1 (omega arith)
-    first false = ne-eqb ((maskOf l * 2 + 0) % 2) 1 (omega arith)
-mask-bit (b ∷ l) (suc i) = rw (half b) (mask-bit l i)
-  where
-    half : (b : Bool) → (maskOf l * 2 + bit b) / 2 ≡ maskOf l
-    half true = omega arith
-    half false = omega arith
+    is-bit : (b : Bool) → eqb (bit b) 1 ≡ b
+    is-bit true = refl
+    is-bit false = refl

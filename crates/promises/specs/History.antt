@@ -29,7 +29,7 @@ use Rattle.library.specs.declared.fresh.Made.{Made}
 use Rattle.library.specs.Fresh.{freshTables, made}
 use Rattle.library.specs.Sizes.{sizesFit, noSizes}
 use Rattle.library.specs.Settling.{isSettled, settled}
-use Rattle.library.specs.Tables.{blankPool, opened, closed}
+use Rattle.library.specs.Tables.{blankMailbox, blankPool, opened, closed}
 use Rattle.steps.specs.declared.stepping.Outcome.{Outcome}
 use Rattle.steps.specs.declared.stepping.Stepped.{Stepped}
 use Rattle.steps.specs.Stepping.{maskOf, clockAfter, budgetOf, outcomeOf, doneWith, stepped}
@@ -204,6 +204,7 @@ fresh-sized y =
     record {
       kernel = record { threads = refl; counters = refl; references = refl; woken = refl; finished = refl };
       mailboxes = refl;
+      messages = λ m h. rw (all-blank 4 blankMailbox m);
       pools = refl;
       pool = λ q h. rw (all-blank 4 blankPool q) (record { list = refl; marks = refl });
     }

@@ -30,10 +30,11 @@ use Rattle.library.specs.Pool.{absent, free, out, markAt, allocTried, putBack}
 use Rattle.library.specs.Acting.{kernelWaits, acted}
 use Rattle.library.specs.Settling.{isBoxCall}
 use Rattle.steps.specs.Refusal.{refusalOf}
+use Rattle.promises.specs.Whole.{PlantSized}
 use Rattle.promises.specs.Tallies.{Tallies}
 use Rattle.promises.specs.CounterRule.{pool-place, writers-place, readers-place}
 use Rattle.promises.specs.Accepting.{Accepted, refusal-none}
-use Rattle.promises.specs.PoolKept.{PoolSized, stock, good-length}
+use Rattle.promises.specs.PoolKept.{stock, good-length}
 use Rattle.promises.specs.PaperWords.{OnlyAnswered, WokeFrom, HighestWaiter, NoWaiter, freshKernel, fresh-sized}
 use Rattle.promises.specs.PaperSteps.{atOnce, keptCall, Rows, rows}
 use Rattle.promises.specs.PaperQueues.{rule-high, rule-below}
@@ -42,14 +43,6 @@ use Rattle.promises.specs.PaperMailboxes.{BoxThere, good-box, PlantAnswe
 use Rattle.promises.specs.PaperPools.{PoolThere, good-pool-there, counter-stocked, Allocated, alloc-takes, alloc-now, alloc-sleeps, OnTop, put-back-tops, put-back-wakes, put-back-raises}
 use Rattle.promises.specs.PaperRefusals.{stepOf, accepted-example}
 use Rattle.promises.specs.PaperAccepted.{DoneAtOnce, done, whole, few, tallies, caller-runs, waiter-apart}
-
--- tables of their full lengths, as a step has them
-pub record PlantSized (p : Plant) : Type 0 where
-  pub kernel : Sized (p .kernel)
-  pub mailboxes : length (p .mailboxes) ≡ 4
-  pub messages : (b : ℕ) → b < 4 → length (mailboxAt p b .messages) ≡ 16
-  pub pools : length (p .pools) ≡ 4
-  pub pool : (q : ℕ) → q < 4 → PoolSized (poolAt p q)
 
 -- by the two kinds that share a row
 by-either : {A B C : Type 0} → A ⊎ B → (A → C) → (B → C) → C
@@ -257,7 +250,7 @@ module _ (p : Plant) (c : Clock) (s : Step) (z : PlantSized p) (e : refusalOf p 
     pool-there =
         let g = whole p c s (z .kernel) e .good in
         let four = g .sizes .pools in
-        good-pool-there p g o in-range (z .pools) (z .pool o (omega arith))
+        good-pool-there p g o in-range (z .pools) (z .pool o in-range)
 
     pool-tally : Tallies n (poolPlace o) k
     pool-tally =
@@ -356,7 +349,7 @@ fresh-lengths =
       mailboxes = refl;
       messages = λ b h. rw (getD-replicate 4 b blankMailbox blankMailbox h);
       pools = refl;
-      pool = λ q h. rw (getD-replicate 4 q blankPool blankPool h) (record { list = refl; marks = refl });
+      pool = λ q h. rw (getD-replicate 4 q blankPool blankPool (omega (arith, h))) (record { list = refl; marks = refl });
     }
 
 -- thread 0 posts 7 to an empty mailbox of fresh tables

@@ -1,12 +1,10 @@
 -- Document 01's section "Settling", sentence by sentence, and what a step's result is.
-use Prim.Native.Nat.{ℕ, zero, suc, _+_, _*_, _/_, _%_, _^_, _≤_, _<_}
-use native.Mathlib.Nat.{zero-div, div-one, pow-succ', div-div-eq-div-mul}
-use native.Mathlib.Omega.{arith}
+use Prim.Native.Nat.{ℕ, suc, _/_, _%_, _^_, _≤_, _<_}
 use mathlib.Core.Path.{_≡_, refl, sym}
 use mathlib.Core.Logic.{_≢_, _⊎_, inl, inr}
-use mathlib.Core.Bool.{Bool, true, false}
-use mathlib.Core.List.{List, [], _∷_}
-use lib.ListN.{getD, replicate}
+use mathlib.Core.Bool.{true, false}
+use mathlib.Core.List.{[], _∷_}
+use lib.ListN.{replicate}
 use lib.IntN.{ℤ, pos, negsuc}
 use lib.Signed.{ltZ}
 use borrow.Author.Tests.{eqb-true, eq-eqb, ne-eqb}
@@ -21,7 +19,6 @@ use Rattle.kernel.specs.Queue.{enqueued, releasedFirst}
 use Rattle.kernel.specs.Walk.{bit, firstFrom}
 use Rattle.kernel.specs.Waiters.{isReady, firstReady, firstWaiter}
 use Rattle.kernel.proofs.Cases.{split, contrary}
-use Rattle.kernel.proofs.WalkLaws.{bit-le}
 use Rattle.kernel.proofs.TablesLaws.{wokenAt, finishedAt, Sized, used-all}
 use Rattle.kernel.proofs.WaitersLaws.{first-ready-cases}
 use Rattle.library.specs.declared.tables.Plant.{Plant}
@@ -34,7 +31,8 @@ use Rattle.library.specs.Pool.{handedOver}
 use Rattle.library.specs.Settling.{isBoxCall, answeredOnly, continued, runningIn, settled}
 use Rattle.library.proofs.SettlingLaws.{settled-quiet}
 use Rattle.steps.specs.declared.stepping.Outcome.{Outcome}
-use Rattle.steps.specs.Stepping.{maskOf, outcomeOf}
+use Rattle.steps.specs.Stepping.{outcomeOf}
+use Rattle.promises.specs.Flags.{mask-digit}
 use Rattle.promises.specs.Tests.{same-means}
 use Rattle.promises.specs.PaperWords.{finish-only, freshKernel}
 use Rattle.promises.specs.PaperMailboxes.{PlantAnswered, PlantSlept, BoxThere, positionsAt, kernel-only, post-sleeps, fetch-sleeps}
@@ -159,15 +157,6 @@ module _ (p : Plant) where
 
 -- ---- "A step's result"
 
--- bit i of a mask is flag i
-pub mask-bit : (l : List Bool) (i : ℕ) → maskOf l / 2 ^ i % 2 ≡ bit (getD l i false)
-unfolding maskOf
-mask-bit [] i = rw (zero-div (2 ^ i))
-mask-bit (b ∷ l) zero = rw (div-one (maskOf l * 2 + bit b)) (omega (arith, bit-le b))
-mask-bit (b ∷ l) (suc i) =
-    let half : (maskOf l * 2 + bit b) / 2 ≡ maskOf l = omega (arith, bit-le b) in
-    rw (pow-succ' 2 i, ← div-div-eq-div-mul (maskOf l * 2 + bit b) 2 (2 ^ i), half) (mask-bit l i)
-
 -- "code, running thread, masks of threads woken and of threads whose calls finished, and message and datum of the caller's call"
 pub record ResultOf (k : Kernel) (n caller : ℕ) (o : Outcome) : Type 0 where
   pub code : o .code ≡ 0
@@ -187,8 +176,8 @@ result-of k n caller =
     record {
       code = refl;
       running = refl;
-      woken = mask-bit (k .woken);
-      finished = mask-bit (k .finished);
+      woken = mask-digit (k .woken);
+      finished = mask-digit (k .finished);
       message = λ d. rw (ne-eqb caller nobody d);
       datum = λ d. rw (ne-eqb caller nobody d);
       interrupt-message = λ e. rw (eq-eqb caller nobody e);

@@ -167,18 +167,20 @@ MailboxesGood p = (m : ℕ) → m < p .sizes .mailboxes → GoodMailbox (mailbox
 pub record MailboxesKept (p h : Plant) : Type 0 where
   pub good : MailboxesGood h
   pub boxes : length (h .mailboxes) ≡ length (p .mailboxes)
+  -- and each has as many slots as it had
+  pub messages : (m : ℕ) → length (mailboxAt h m .messages) ≡ length (mailboxAt p m .messages)
   pub sizes : h .sizes ≡ p .sizes
   pub pools : h .pools ≡ p .pools
 
 module _ (p : Plant) (g : MailboxesGood p) where
   -- the kernel part is no part of the mailboxes
   kernel-kept : (k : Kernel) → MailboxesKept p (withKernel p k)
-  kernel-kept k = record { good = g; boxes = refl; sizes = refl; pools = refl }
+  kernel-kept k = record { good = g; boxes = refl; messages = λ m. refl; sizes = refl; pools = refl }
 
   -- one mailbox written
   box-kept : (k : Kernel) (n : ℕ) (b : Mailbox) → GoodMailbox (b .positions) (slotsAt (p .sizes) n)
-      → MailboxesKept p (withMailbox (withKernel p k) n b)
-  box-kept k n b f =
+      → length (b .messages) ≡ length (mailboxAt p n .messages) → MailboxesKept p (withMailbox (withKernel p k) n b)
+  box-kept k n b f w =
       record {
         good = λ m h.
             same-or m n
@@ -187,6 +189,12 @@ module _ (p : Plant) (g : MailboxesGood p) where
             (λ l. rw (set-out (p .mailboxes) n b l) (rw e at (g m h)))))
             (λ d. rw (getD-set-other (p .mailboxes) n m b blankMailbox d) (g m h));
         boxes = length-set (p .mailboxes) n b;
+        messages = λ m.
+            same-or m n
+            (λ e. rw e
+            (in-or-out n (length (p .mailboxes)) (λ l. rw (getD-set-same (p .mailboxes) n b blankMailbox l) w)
+            (λ l. rw (set-out (p .mailboxes) n b l))))
+            (λ d. rw (getD-set-other (p .mailboxes) n m b blankMailbox d));
         sizes = refl;
         pools = refl;
       }
@@ -201,12 +209,12 @@ module _ (p : Plant) (g : MailboxesGood p) where
     -- a post that was given the positions of a good mailbox
     pub post-done-kept : (x : Placed) → GoodMailbox (x .positions) slots → MailboxesKept p (postDone p i call x)
     unfolding postDone
-    post-done-kept x f = box-kept _ (call .object) _ f
+    post-done-kept x f = box-kept _ (call .object) _ f (length-set (box .messages) (x .slot) (call .operand))
 
     -- a fetch that was
     pub fetch-done-kept : (x : Placed) → GoodMailbox (x .positions) slots → MailboxesKept p (fetchDone p i call x)
     unfolding fetchDone
-    fetch-done-kept x f = box-kept _ (call .object) _ f
+    fetch-done-kept x f = box-kept _ (call .object) _ f refl
 
     module _ (there : call .object < p .sizes .mailboxes) where
       placed-good : GoodMailbox (placedFor box (call .kind) slots .positions) slots
@@ -238,9 +246,9 @@ module _ (p : Plant) (g : MailboxesGood p) where
     pub reset-kept : MailboxesKept p (mailboxReset p n)
     unfolding mailboxReset
     reset-kept =
-        box-kept _ n _ (emptied-good (mailboxAt p n .positions) (slotsAt (p .sizes) n) (omega (arith, g n there .read)))
+        box-kept _ n _ (emptied-good (mailboxAt p n .positions) (slotsAt (p .sizes) n) (omega (arith, g n there .read))) refl
 
     -- a resume
     pub resume-kept : MailboxesKept p (mailboxResumed p n)
     unfolding mailboxResumed
-    resume-kept = box-kept (p .kernel) n _ (g n there)
+    resume-kept = box-kept (p .kernel) n _ (g n there) refl

@@ -16,7 +16,7 @@ use Rattle.kernel.proofs.Cases.{contrary, second-fails}
 use Rattle.kernel.proofs.TablesLaws.{Sized}
 use Rattle.library.specs.declared.sizes.Sizes.{Sizes}
 use Rattle.library.specs.declared.tables.Plant.{Plant}
-use Rattle.library.specs.Tables.{poolAt, withKernel}
+use Rattle.library.specs.Tables.{mailboxAt, poolAt, withKernel}
 use Rattle.rules.specs.PoolRules.{promisedCount}
 use Rattle.promises.specs.Good.{GoodSizes, Good}
 use Rattle.promises.specs.CounterRule.{counters-tally, tally-counters}
@@ -32,6 +32,7 @@ use Rattle.promises.specs.Owed.{isSignal, isTake, owed-is, chain-owed}
 pub record PlantSized (p : Plant) : Type 0 where
   pub kernel : Sized (p .kernel)
   pub mailboxes : length (p .mailboxes) ≡ 4
+  pub messages : (m : ℕ) → m < 4 → length (mailboxAt p m .messages) ≡ 16
   pub pools : length (p .pools) ≡ 4
   pub pool : (q : ℕ) → q < p .sizes .pools → PoolSized (poolAt p q)
 
@@ -42,6 +43,7 @@ pub record Whole (z : Sizes) (p : Plant) : Type 0 where
   pub kernel : Sound z (p .kernel)
   pub mailboxes : MailboxesGood p
   pub boxes : length (p .mailboxes) ≡ 4
+  pub messages : (m : ℕ) → m < 4 → length (mailboxAt p m .messages) ≡ 16
   pub pools : PoolsListed p
   pub rows : length (p .pools) ≡ 4
   -- "its length is the larger of counter and 0, plus" the objects promised
@@ -64,6 +66,7 @@ module _ (p : Plant) where
         };
         mailboxes = g .mailboxes;
         boxes = s .mailboxes;
+        messages = s .messages;
         pools = record { listed = λ q h. good-listed (g .pools q h); sized = s .pool };
         rows = s .pools;
         lengths = λ q h. good-length (g .pools q h);
@@ -88,7 +91,7 @@ module _ (p : Plant) where
 
   pub whole-sized : (z : Sizes) → Whole z p → PlantSized p
   whole-sized z w =
-      record { kernel = w .kernel .rules .sized; mailboxes = w .boxes; pools = w .rows; pool = w .pools .sized }
+      record { kernel = w .kernel .rules .sized; mailboxes = w .boxes; messages = w .messages; pools = w .rows; pool = w .pools .sized }
 
 -- ---- a chain leaves them so
 
@@ -114,8 +117,8 @@ module _ (z : Sizes) (p h : Plant) (ms : List Event) (w : Whole z p) (c : Chaine
       rw (sym (c .marks), a, b, owed-is z (w .sizes) q there (h .kernel), owed-is z (w .sizes) q there (p .kernel)) e
 
   -- whole tables, with mailboxes and pools kept in step
-  pub done : h .sizes ≡ p .sizes → MailboxesGood h → length (h .mailboxes) ≡ 4 → PoolsListed h → length (h .pools) ≡ 4 → InStep z p h ms → Done z p h ms
-  done e m b o r l =
+  pub done : h .sizes ≡ p .sizes → MailboxesGood h → length (h .mailboxes) ≡ 4 → ((m : ℕ) → m < 4 → length (mailboxAt h m .messages) ≡ 16) → PoolsListed h → length (h .pools) ≡ 4 → InStep z p h ms → Done z p h ms
+  done e m b x o r l =
       record {
         chained = c;
         whole = record {
@@ -124,6 +127,7 @@ module _ (z : Sizes) (p h : Plant) (ms : List Event) (w : Whole z p) (c : Chaine
           kernel = chain-sound z (w .sizes) (c .chain) (w .kernel);
           mailboxes = m;
           boxes = b;
+          messages = x;
           pools = o;
           rows = r;
           lengths = λ q there. omega (arith, l q there, owed-marks q there, w .lengths q there);
@@ -134,7 +138,7 @@ module _ (z : Sizes) (p h : Plant) (ms : List Event) (w : Whole z p) (c : Chaine
 pub kernel-done : (z : Sizes) (p : Plant) (k : Kernel) (ms : List Event) → Whole z p → Chained z (p .kernel) k ms
     → ((q : ℕ) → q < z .pools → countIn (isTake (poolPlace q)) ms ≡ countIn (isSignal (poolPlace q)) ms) → Done z p (withKernel p k) ms
 kernel-done z p k ms w c e =
-    done z p (withKernel p k) ms w c refl (w .mailboxes) (w .boxes) (record { listed = w .pools .listed; sized = w .pools .sized }) (w .rows)
+    done z p (withKernel p k) ms w c refl (w .mailboxes) (w .boxes) (w .messages) (record { listed = w .pools .listed; sized = w .pools .sized }) (w .rows)
     (λ q there. ap (λ (x : ℕ). poolAt p q .length + x) (e q there))
 
 -- ---- whose step it is
