@@ -193,7 +193,7 @@ pub demand-1 : (t : Tables) (c : Clock) (s : Step)
 demand-1 t c s = (step-code t c s, step-answers t c s)
 
 -- DEMAND 2: an accepted step on tables that hang together is its act, settled wholly; and that is the only answer
-pub record Answer2 (t : Tables) (c : Clock) (s : Step) : Type 0 where
+pub record DoneWholly (t : Tables) (c : Clock) (s : Step) : Type 0 where
   pub done : stepped t c s ≡ doneWith (settled (budgetOf (t .sizes .threads)) (acted (opened t) (c .time) s)) c s
   -- "Settling ends when the running thread has no unfinished call"
   pub ended : isSettled (settled (budgetOf (t .sizes .threads)) (acted (opened t) (c .time) s)) ≡ true
@@ -203,7 +203,7 @@ pub record Answer2 (t : Tables) (c : Clock) (s : Step) : Type 0 where
   -- two answers that meet the statement coincide
   pub only : (r q : Stepped) → r ≡ stepped t c s → q ≡ stepped t c s → r ≡ q
 
-pub demand-2 : (t : Tables) (c : Clock) (s : Step) → Hangs t c → stepped t c s .outcome .code ≡ 0 → Answer2 t c s
+pub demand-2 : (t : Tables) (c : Clock) (s : Step) → Hangs t c → stepped t c s .outcome .code ≡ 0 → DoneWholly t c s
 demand-2 t c s g e =
     record {
       done = step-done t c s e;

@@ -40,7 +40,7 @@ use Rattle.promises.specs.Chain.{stop, sleeps, passes, ages, finishes, h
 use Rattle.promises.specs.Flags.{someIn, maskBit}
 use Rattle.promises.specs.History.{History, ticksIn, signalsIn, someResult, run-hangs, made-hang}
 use Rattle.promises.specs.Lives.{atWork, Lives, ownEvents}
-use Rattle.promises.specs.Demands.{demand-2, Answer2, demand-3a, demand-3b, demand-3c, demand-3c-pools, ticks-wake, Released}
+use Rattle.promises.specs.Demands.{demand-2, DoneWholly, demand-3a, demand-3b, demand-3c, demand-3c-pools, ticks-wake, Released}
 
 -- two threads, one semaphore, one pool
 abbrev two : Sizes
@@ -205,6 +205,6 @@ ticks-wake-shown =
 
 -- ---- demand 2: an accepted step
 
-pub demand-2-shown : Answer2 t₀ c₀ (waits 0 1)
+pub demand-2-shown : DoneWholly t₀ c₀ (waits 0 1)
 unfolding firstFrom allFrom countOf firstReady firstWaiter takenOff putOn woken slept finished blocked enqueued releasedFirst releasedAll taken waited signalled ticked sizesFit made waitBegun effected actedOnKernel acted continued settled callFits waitFits ticksFit flagsFit rowFits rowsFit queuedCount countersFit holderFits referencesFit positionsFit mailboxesFit promisedCount occurrences entriesFit objectsFit poolFits poolsFit runningFree hangsTogether refusalOf maskOf outcomeOf doneWith refusedWith stepped ran countIn ticksIn signalsIn
 demand-2-shown = demand-2 t₀ c₀ (waits 0 1) (made-hang two Standard made-shown) refl
