@@ -36,13 +36,13 @@ use Rattle.promises.specs.Answers.{step-answers, step-done}
 use Rattle.promises.specs.Good.{HangTogether}
 use Rattle.promises.specs.Hanging.{all-blank}
 use Rattle.promises.specs.CounterRule.{semaphore-place, pool-place}
-use Rattle.promises.specs.Story.{Event, sleepIn, isWoke, isTick, countIn, Idle, Story, story-sleeps}
+use Rattle.promises.specs.Story.{Event, sleepIn, isWoke, Idle, Story, story-sleeps}
 use Rattle.promises.specs.Chain.{Sound, chain-story}
 use Rattle.promises.specs.Whole.{good-whole}
 use Rattle.promises.specs.Settles.{settled-whole}
 use Rattle.promises.specs.Flags.{someIn, maskBit}
 use Rattle.promises.specs.History.{Hangs, History, recorded, run-hangs, made-hang, ticksIn, signalsIn, someResult, settles}
-use Rattle.promises.specs.Lives.{EndsInTime, ends-at, story-ends, chain-fair, fair-all, none-counted, Mode, atWork, Lives, InMode, modeAfter, ownEvents, story-lives, wokeWith, story-message}
+use Rattle.promises.specs.Lives.{EndsInTime, ends-at, story-ends, chain-counted, counted-all, WokenWithin, none-counted, Mode, atWork, Lives, InMode, modeAfter, ownEvents, story-lives, wokeWith, story-message}
 use Rattle.promises.specs.Turns.{beginsAt, higher, chain-turn}
 
 -- thread i is made ready, "with 0 unless its timeout or a reset made it ready sooner"
@@ -69,7 +69,7 @@ module _ (t : Tables) (c : Clock) (g : Hangs t c) (ss : List Step) (h : History 
 
     -- a. "a sleep with timeout t ends by its t-th later accepted tick", wherever in the run it began
     pub sleeps-end : (call : Call) (before after : List Event) → h .events ≡ before ++ (sleepIn i call ∷ after) → EndsInTime i call after
-    sleeps-end call before after e = ends-at i call before after (rw e at (story-ends story (chain-fair i within (h .chain))))
+    sleeps-end call before after e = ends-at i call before after (rw e at (story-ends story false (chain-counted i within (h .chain))))
 
     -- b. "each sleep ends at most once, at its first waking, with that waking's message"
     pub one-waking : (m : Mode) → InMode m (threadAt k i)
@@ -110,7 +110,7 @@ ticks-wake t c g ss i within asleep timed ticks = sym (recorded ss t c g .seen .
         (λ e.
         let none = none-counted (isWoke i) (h .events) e in
         let x = story-sleeps (story t c g ss h i within) asleep none .timed timed in
-        let f = fair-all i (h .events) (chain-fair i within (h .chain)) in
+        let f = counted-all i false (h .events) (chain-counted i within (h .chain)) in
         absurd (omega (arith, ticks, h .ticks, f, none, x .0, left (threadAt (opened (ran t c ss .tables) .kernel) i .remaining) (x .1))))
 
 -- ---- the demands
@@ -151,7 +151,7 @@ module _ (y : Sizes) (r : Rate) (legal : made y r .code ≡ 0) where
   module _ (ss : List Step) (h : History t₀ c₀ ss) (i : ℕ) (within : i < y .threads) where
     -- DEMAND 3 a: "a sleep with timeout t ends by its t-th later accepted tick"
     pub demand-3a : (call : Call) (before after : List Event) → h .events ≡ before ++ (sleepIn i call ∷ after)
-        → 1 ≤ call .timeout → call .timeout ≤ 4294967294 → call .timeout ≤ countIn isTick after → someIn (isWoke i) after ≡ true
+        → 1 ≤ call .timeout → call .timeout ≤ 4294967294 → WokenWithin i (call .timeout) after
     demand-3a = sleeps-end t₀ c₀ (made-hang y r legal) ss h i (in-sizes within)
 
     -- DEMAND 3 b: "each sleep ends at most once, at its first waking, with that waking's message", which the record holds until the call is continued

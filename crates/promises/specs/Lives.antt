@@ -1,7 +1,6 @@
 -- Demand 3 of one thread, as laws of its story: a timed sleep ends by its last tick; between two sleeps there is exactly one waking, the call
 -- answers from that waking's message, and the record holds that message until the call is continued.
-use Prim.Native.Nat.{ℕ, zero, suc, _+_, _≤_, _<_}
-use native.Mathlib.Nat.{zero-add}
+use Prim.Native.Nat.{ℕ, zero, suc, _+_, _-_, _≤_, _<_}
 use native.Mathlib.Omega.{arith}
 use mathlib.Core.Path.{_≡_, refl, sym, ap, _∙_}
 use mathlib.Core.Logic.{_≢_, _⊎_}
@@ -14,99 +13,116 @@ use Rattle.kernel.specs.declared.records.Call.{Call}
 use Rattle.kernel.specs.declared.records.Thread.{Thread}
 use Rattle.kernel.specs.declared.records.Kernel.{Kernel}
 use Rattle.kernel.specs.Numbers.{ready, infinite, ok, timedOut, wasReset}
+use Rattle.kernel.specs.Walk.{bit}
 use Rattle.kernel.specs.Tables.{threadAt}
 use Rattle.kernel.specs.Moves.{readied, answered, ticksOf}
 use Rattle.kernel.specs.Event.{withPending}
 use Rattle.kernel.specs.Ticking.{countedOff}
 use Rattle.kernel.specs.Waiters.{queuedAt}
+use Rattle.kernel.proofs.WalkLaws.{bit-le}
 use Rattle.kernel.proofs.Cases.{split, same-or, contrary}
 use Rattle.library.specs.declared.sizes.Sizes.{Sizes}
 use Rattle.library.specs.Settling.{isBoxCall}
-use Rattle.rules.specs.RowRules.{isMailing, waitState}
+use Rattle.rules.specs.RowRules.{isMailing}
 use Rattle.promises.specs.Good.{CallKind}
-use Rattle.promises.specs.Story.{Event, woke, sleepIn, endWith, tick, countOff, signalAt, takeAt, endStep, isOf, isWoke, isCounted, isTick, countIn, Follows, asleepIn, Story, rests, apart, rouses, dozes, closes, counts, marks, Again, Idle, kind-some, apart-woke, story-sleeps, waits-unready}
+use Rattle.promises.specs.Story.{Event, woke, sleepIn, endWith, tick, countOff, signalAt, takeAt, endStep, isOf, isWoke, isCounted, isTick, countIn, Follows, asleepIn, Story, rests, apart, rouses, dozes, closes, counts, marks, Again, Idle, kind-some, apart-woke, waits-unready}
 use Rattle.promises.specs.Chain.{Chain, stop, wakes, passes, raises, ages, sleeps, takes, sets, finishes, hands, answers, flags, begins, tickEvent, tickThen, queued-unready}
 use Rattle.promises.specs.Flags.{someIn}
 
 -- ---- a. a sleep with a timeout ends
 
--- from here on, each tick counts one off thread i, or makes it ready
-abbrev pub Fair : ℕ → List Event → Type 0
-Fair i [] = Unit {0}
-Fair i (e ∷ es) =
-    (countIn isTick (e ∷ es) ≤ countIn (isCounted i) (e ∷ es) + countIn (isWoke i) (e ∷ es)) × Fair i es
+-- every tick counts one off thread i, or makes it ready, before its step is over; due says that one is to come
+abbrev pub Counted : ℕ → Bool → List Event → Type 0
+Counted i due [] = due ≡ false
+Counted i due (woke j m ∷ es) = Counted i (cond (eqb j i) false due) es
+Counted i due (sleepIn j c ∷ es) = Counted i due es
+Counted i due (endWith j m d ∷ es) = Counted i due es
+Counted i due (tick ∷ es) = (due ≡ false) × Counted i true es
+Counted i due (countOff j ∷ es) = Counted i (cond (eqb j i) false due) es
+Counted i due (signalAt p ∷ es) = Counted i due es
+Counted i due (takeAt p ∷ es) = Counted i due es
+Counted i due (endStep ∷ es) = (due ≡ false) × Counted i due es
 
-pub fair-all : (i : ℕ) (es : List Event) → Fair i es → countIn isTick es ≤ countIn (isCounted i) es + countIn (isWoke i) es
+-- so there are no more ticks than are counted off it or wake it
+pub counted-all : (i : ℕ) (due : Bool) (es : List Event) → Counted i due es
+    → countIn isTick es + bit due ≤ countIn (isCounted i) es + countIn (isWoke i) es
 unfolding countIn
-fair-all i [] f = omega arith
-fair-all i (e ∷ es) f = f .0
+counted-all i due [] f = rw f (omega arith)
+counted-all i due (woke j m ∷ es) f =
+    split (eqb j i) (λ e. rw e (omega (arith, bit-le due, counted-all i false es (rw e at f)))) (λ e. rw e (omega (arith, counted-all i due es (rw e at f))))
+counted-all i due (sleepIn j c ∷ es) f = omega (arith, counted-all i due es f)
+counted-all i due (endWith j m d ∷ es) f = omega (arith, counted-all i due es f)
+counted-all i due (tick ∷ es) f = rw (f .0) (omega (arith, counted-all i true es (f .1)))
+counted-all i due (countOff j ∷ es) f =
+    split (eqb j i) (λ e. rw e (omega (arith, bit-le due, counted-all i false es (rw e at f)))) (λ e. rw e (omega (arith, counted-all i due es (rw e at f))))
+counted-all i due (signalAt p ∷ es) f = omega (arith, counted-all i due es f)
+counted-all i due (takeAt p ∷ es) f = omega (arith, counted-all i due es f)
+counted-all i due (endStep ∷ es) f = omega (arith, counted-all i due es (f .1))
 
--- what is no tick keeps it so
-fair-more : (i : ℕ) (e : Event) (es : List Event) → isTick e ≡ false → Fair i es → Fair i (e ∷ es)
-unfolding countIn
-fair-more i e es n f = (rw n (omega (arith, fair-all i es f)), f)
-
--- and so does a tick with all that it is to the threads
+-- what a tick is to the threads before i, to i, and to those after it
 module _ (k : Kernel) (i : ℕ) where
-  event-plain : (j : ℕ) → isTick (tickEvent k j) ≡ false
-  event-plain j = split (eqb (threadAt k j .remaining) 1) (λ e. rw e) (λ e. rw e)
+  tick-own : (es : List Event) → Counted i false es → Counted i true (tickEvent k i ∷ es)
+  tick-own es f = split (eqb (threadAt k i .remaining) 1) (λ e. rw (e, eq-eqb i i refl) f) (λ e. rw (e, eq-eqb i i refl) f)
 
-  fair-tick : (n : ℕ) (es : List Event) → Fair i es → Fair i (tickThen k n es)
-  fair-tick zero es f = f
-  fair-tick (suc n) es f = fair-tick n (tickEvent k n ∷ es) (fair-more i (tickEvent k n) es (event-plain n) f)
+  tick-other : (due : Bool) (j : ℕ) (es : List Event) → j ≢ i → Counted i due es → Counted i due (tickEvent k j ∷ es)
+  tick-other due j es d f =
+      split (eqb (threadAt k j .remaining) 1) (λ e. rw (e, ne-eqb j i d) f) (λ e. rw (e, ne-eqb j i d) f)
 
-  -- how many of them concern i
-  abbrev met : List Event → ℕ
-  met es = countIn (isCounted i) es + countIn (isWoke i) es
+  tick-before : (n : ℕ) (es : List Event) → n ≤ i → Counted i true es → Counted i true (tickThen k n es)
+  tick-before zero es h f = f
+  tick-before (suc n) es h f = tick-before n (tickEvent k n ∷ es) (omega arith) (tick-other true n es (omega arith) f)
 
-  met-more : (n : ℕ) (es : List Event) → met es ≤ met (tickThen k n es)
-  unfolding countIn
-  met-more zero es = omega arith
-  met-more (suc n) es = omega (arith, met-more n (tickEvent k n ∷ es))
+  tick-through : (n : ℕ) (es : List Event) → i < n → Counted i false es → Counted i true (tickThen k n es)
+  tick-through zero es h f = absurd (omega arith)
+  tick-through (suc n) es h f =
+      same-or n i
+      (λ e. rw e (tick-before i (tickEvent k i ∷ es) (omega arith) (tick-own es f)))
+      (λ d. tick-through n (tickEvent k n ∷ es) (omega arith) (tick-other false n es d f))
 
-  met-own : (es : List Event) → met (tickEvent k i ∷ es) ≡ 1 + met es
-  unfolding countIn
-  met-own es =
-      split (eqb (threadAt k i .remaining) 1) (λ e. rw (e, eq-eqb i i refl) (omega arith)) (λ e. rw (e, eq-eqb i i refl) (omega arith))
+-- who is not due needs no tick to be counted
+never-due : (b : Bool) → cond b false false ≡ false
+never-due true = refl
+never-due false = refl
 
-  met-tick : (n : ℕ) (es : List Event) → i < n → 1 + met es ≤ met (tickThen k n es)
-  unfolding countIn
-  met-tick zero es h = absurd (omega arith)
-  met-tick (suc n) es h =
-      same-or i n
-      (λ e. rw (sym e) (omega (arith, met-more i (tickEvent k i ∷ es), met-own es)))
-      (λ d. omega (arith, met-tick n (tickEvent k n ∷ es) (omega arith)))
-
-  ticks-tick : (n : ℕ) (es : List Event) → countIn isTick (tickThen k n es) ≡ countIn isTick es
-  unfolding countIn
-  ticks-tick zero es = refl
-  ticks-tick (suc n) es = ticks-tick n (tickEvent k n ∷ es) ∙ rw (event-plain n) (zero-add (countIn isTick es))
-
-  fair-ages : (n : ℕ) (es : List Event) → i < n → Fair i es → Fair i (tick ∷ tickThen k n es)
-  unfolding countIn
-  fair-ages n es h f = (omega (arith, ticks-tick n es, met-tick n es h, fair-all i es f), fair-tick n es f)
+woke-none : (i j : ℕ) (m : ℤ) (es : List Event) → Counted i false es → Counted i false (woke j m ∷ es)
+woke-none i j m es f = rw (never-due (eqb j i)) f
 
 -- EVERY TICK OF A CHAIN COUNTS ONE OFF EACH THREAD, OR MAKES IT READY
-pub chain-fair : {z : Sizes} {h k : Kernel} {es : List Event} (i : ℕ) → i < z .threads → Chain z h k es → Fair i es
-chain-fair i l stop = tt
-chain-fair i l (wakes {k} {es} j m w c) = fair-more i (woke j m) es refl (chain-fair i l c)
-chain-fair i l (passes {k} {es} p j b f c) =
-    fair-more i (signalAt p) (woke j ok ∷ es) refl (fair-more i (woke j ok) es refl (chain-fair i l c))
-chain-fair i l (raises {k} {es} p b e t c) = fair-more i (signalAt p) es refl (chain-fair i l c)
-chain-fair {z} i l (ages {k} {es} c) = fair-ages k i (z .threads) es l (chain-fair i l c)
-chain-fair i l (sleeps {k} {es} j a w c) = fair-more i (sleepIn j a) es refl (chain-fair i l c)
-chain-fair i l (takes {k} {es} p b e c) = fair-more i (takeAt p) es refl (chain-fair i l c)
-chain-fair i l (sets p v w c) = chain-fair i l c
-chain-fair i l (finishes {k} {es} j m d f c) = fair-more i (endWith j m d) es refl (chain-fair i l c)
-chain-fair i l (hands {k} {es} j d f c) =
-    fair-more i (takeAt _) (endWith j ok d ∷ es) refl (fair-more i (endWith j ok d) es refl (chain-fair i l c))
-chain-fair i l (answers a c) = chain-fair i l c
-chain-fair i l (flags j f e c) = chain-fair i l c
-chain-fair i l (begins {k} {es} c) = fair-more i endStep es refl (chain-fair i l c)
+pub chain-counted : {z : Sizes} {h k : Kernel} {es : List Event} (i : ℕ) → i < z .threads → Chain z h k es → Counted i false es
+chain-counted i l stop = refl
+chain-counted i l (wakes {k} {es} j m w c) = woke-none i j m es (chain-counted i l c)
+chain-counted i l (passes {k} {es} p j b f c) = woke-none i j ok es (chain-counted i l c)
+chain-counted i l (raises p b e t c) = chain-counted i l c
+chain-counted {z} i l (ages {k} {es} c) = (refl, tick-through k i (z .threads) es l (chain-counted i l c))
+chain-counted i l (sleeps j a w c) = chain-counted i l c
+chain-counted i l (takes p b e c) = chain-counted i l c
+chain-counted i l (sets p v w c) = chain-counted i l c
+chain-counted i l (finishes j m d f c) = chain-counted i l c
+chain-counted i l (hands j d f c) = chain-counted i l c
+chain-counted i l (answers a c) = chain-counted i l c
+chain-counted i l (flags j f e c) = chain-counted i l c
+chain-counted i l (begins c) = (refl, chain-counted i l c)
 
--- of a sleep in the call c, with what comes after it: if that has as many ticks as the timeout, thread i is made ready in it
+-- an end that comes sooner asks nothing more
+abbrev pub Unless : Bool → Type 0 → Type 0
+Unless true a = Unit {0}
+Unless false a = a
+
+-- thread i, with n ticks to go: at the end of each step it has been made ready, or fewer than n ticks have passed
+abbrev pub WokenWithin : ℕ → ℕ → List Event → Type 0
+WokenWithin i n [] = Unit {0}
+WokenWithin i n (woke j m ∷ es) = Unless (eqb j i) (WokenWithin i n es)
+WokenWithin i n (sleepIn j c ∷ es) = WokenWithin i n es
+WokenWithin i n (endWith j m d ∷ es) = WokenWithin i n es
+WokenWithin i n (tick ∷ es) = WokenWithin i (n - 1) es
+WokenWithin i n (countOff j ∷ es) = WokenWithin i n es
+WokenWithin i n (signalAt p ∷ es) = WokenWithin i n es
+WokenWithin i n (takeAt p ∷ es) = WokenWithin i n es
+WokenWithin i n (endStep ∷ es) = (1 ≤ n) × WokenWithin i n es
+
+-- of a sleep in the call c, with what comes after it: it ends by the last tick of its timeout
 abbrev pub EndsInTime : ℕ → Call → List Event → Type 0
-EndsInTime i c es = 1 ≤ c .timeout → c .timeout ≤ 4294967294 → c .timeout ≤ countIn isTick es → someIn (isWoke i) es ≡ true
+EndsInTime i c es = 1 ≤ c .timeout → c .timeout ≤ 4294967294 → WokenWithin i (c .timeout) es
 
 -- every sleep of thread i does so
 abbrev pub AllEnd : ℕ → List Event → Type 0
@@ -120,6 +136,7 @@ AllEnd i (signalAt p ∷ es) = AllEnd i es
 AllEnd i (takeAt p ∷ es) = AllEnd i es
 AllEnd i (endStep ∷ es) = AllEnd i es
 
+-- where none passes none is counted
 pub none-counted : (f : Event → Bool) (es : List Event) → someIn f es ≡ false → countIn f es ≡ 0
 unfolding countIn
 none-counted f [] e = refl
@@ -130,28 +147,58 @@ none-counted f (x ∷ es) e =
 timed-ticks : (t : ℕ) → t ≤ 4294967294 → ticksOf t ≡ t
 timed-ticks t h = rw (ne-eqb t infinite (λ e. absurd (omega arith)))
 
--- a record that has gone to sleep in c
-asleep-ends : {z : Sizes} {i : ℕ} {u : Thread} {es : List Event} (t : Thread) (c : Call) → waitState (c .kind) ≢ ready → Story z i u (asleepIn t c) es → Fair i es
-    → EndsInTime i c es
-asleep-ends {z} {i} {u} {es} t c a s f low high ticks =
-    split (someIn (isWoke i) es) (λ e. e)
-    (λ e.
-    let none = none-counted (isWoke i) es e in
-    let l = story-sleeps s a none in
-    let r = timed-ticks (c .timeout) high in
-    let x = l .timed (rw r (some low)) in
-    absurd (omega (arith, fair-all i es f, none, r, x .0, left (u .remaining) (x .1))))
+-- somebody else's event, or a tick or the end of a step, on the way of a sleeper with r ticks left, at most n to go and one due
+apart-within : (i n r : ℕ) (due : Bool) (e : Event) (es : List Event) → isOf i e ≡ false → r ≢ 0 → r ≤ n + bit due → Counted i due (e ∷ es)
+    → ((m : ℕ) (b : Bool) → r ≤ m + bit b → Counted i b es → WokenWithin i m es) → WokenWithin i n (e ∷ es)
+apart-within i n r due (woke j m) es a d h f g = rw a (g n due h (rw a at f))
+apart-within i n r due (sleepIn j c) es a d h f g = g n due h f
+apart-within i n r due (endWith j m x) es a d h f g = g n due h f
+apart-within i n r due tick es a d h f g = g (n - 1) true (one n r d (rw (f .0) at h)) (f .1)
   where
-    some : {n : ℕ} → 1 ≤ n → n ≢ 0
-    some h = omega arith
+    one : (n r : ℕ) → r ≢ 0 → r ≤ n + 0 → r ≤ n - 1 + 1
+    one n r d h = omega arith
+apart-within i n r due (countOff j) es a d h f g = g n due h (rw a at f)
+apart-within i n r due (signalAt p) es a d h f g = g n due h f
+apart-within i n r due (takeAt p) es a d h f g = g n due h f
+apart-within i n r due endStep es a d h f g = (some n r d (rw (f .0) at h), g n due h (f .1))
+  where
+    some : (n r : ℕ) → r ≢ 0 → r ≤ n + 0 → 1 ≤ n
+    some n r d h = omega arith
 
-    left : (n : ℕ) → n ≢ 0 → 1 ≤ n
-    left n d = omega arith
+-- A SLEEPER WITH TICKS LEFT IS MADE READY BY THE LAST OF THEM
+story-within : {z : Sizes} {i : ℕ} {u t : Thread} {es : List Event} → Story z i u t es → t .state ≢ ready → t .remaining ≢ 0
+    → (n : ℕ) (due : Bool) → t .remaining ≤ n + bit due → Counted i due es → WokenWithin i n es
+story-within rests a d n due h f = tt
+story-within {z} {i} (apart {t} {es} e x s) a d n due h f =
+    apart-within i n (t .remaining) due e es x d h f (λ m b k g. story-within s a d m b k g)
+story-within {z} {i} (rouses m x b s) a d n due h f = rw (eq-eqb i i refl) tt
+story-within (dozes c r q p y s) a d n due h f = absurd (a r)
+story-within (closes m x r q s) a d n due h f = absurd (a r)
+story-within {z} {i} (counts {t} {es} l s) a d n due h f =
+    story-within s a (more (t .remaining) d l) n false (fewer (t .remaining) d h) (rw (eq-eqb i i refl) at f)
+  where
+    more : (r : ℕ) → r ≢ 0 → r ≢ 1 → r - 1 ≢ 0
+    more r a b = omega arith
+
+    fewer : (r : ℕ) → r ≢ 0 → r ≤ n + bit due → r - 1 ≤ n + 0
+    fewer r d h = omega (arith, bit-le due)
+story-within (marks x p s) a d n due h f = story-within s a d n due h f
+
+-- what is left when an event has passed
+counted-next : {A : Type 0} (i : ℕ) (due : Bool) (e : Event) (es : List Event) → Counted i due (e ∷ es) → ((b : Bool) → Counted i b es → A) → A
+counted-next i due (woke j m) es f g = g (cond (eqb j i) false due) f
+counted-next i due (sleepIn j c) es f g = g due f
+counted-next i due (endWith j m d) es f g = g due f
+counted-next i due tick es f g = g true (f .1)
+counted-next i due (countOff j) es f g = g (cond (eqb j i) false due) f
+counted-next i due (signalAt p) es f g = g due f
+counted-next i due (takeAt p) es f g = g due f
+counted-next i due endStep es f g = g due (f .1)
 
 -- A SLEEP WITH A TIMEOUT ENDS BY ITS LAST TICK
-pub story-ends : {z : Sizes} {i : ℕ} {u t : Thread} {es : List Event} → Story z i u t es → Fair i es → AllEnd i es
-story-ends rests f = tt
-story-ends {z} {i} (apart {t} {es} e n s) f = by e n (story-ends s (f .1))
+pub story-ends : {z : Sizes} {i : ℕ} {u t : Thread} {es : List Event} → Story z i u t es → (due : Bool) → Counted i due es → AllEnd i es
+story-ends rests due f = tt
+story-ends {z} {i} (apart {t} {es} e n s) due f = counted-next i due e es f (λ b g. by e n (story-ends s b g))
   where
     by : (e : Event) → isOf i e ≡ false → AllEnd i es → AllEnd i (e ∷ es)
     by (woke j m) n a = a
@@ -162,12 +209,19 @@ story-ends {z} {i} (apart {t} {es} e n s) f = by e n (story-ends s (f .1))
     by (signalAt p) n a = a
     by (takeAt p) n a = a
     by endStep n a = a
-story-ends (rouses m n b s) f = story-ends s (f .1)
-story-ends {z} {i} (dozes {t} {es} c r q p y s) f =
-    (λ x. asleep-ends t c (waits-unready (c .kind) (q .kind)) s (f .1), story-ends s (f .1))
-story-ends (closes m d r q s) f = story-ends s (f .1)
-story-ends (counts l s) f = story-ends s (f .1)
-story-ends (marks x p s) f = story-ends s f
+story-ends {z} {i} (rouses {t} {es} m n b s) due f = story-ends s (cond (eqb i i) false due) f
+story-ends {z} {i} (dozes {t} {es} c r q p y s) due f = (
+  λ x low high.
+      let e = timed-ticks (c .timeout) high in
+      story-within s (waits-unready (c .kind) (q .kind)) (rw e (some low)) (c .timeout) due (rw e (omega arith)) f,
+  story-ends s due f,
+)
+  where
+    some : {n : ℕ} → 1 ≤ n → n ≢ 0
+    some h = omega arith
+story-ends (closes m d r q s) due f = story-ends s due f
+story-ends {z} {i} (counts l s) due f = story-ends s (cond (eqb i i) false due) f
+story-ends (marks x p s) due f = story-ends s due f
 
 -- of each sleep among the events
 pub ends-at : (i : ℕ) (c : Call) (before after : List Event) → AllEnd i (before ++ (sleepIn i c ∷ after)) → EndsInTime i c after

@@ -35,11 +35,11 @@ use Rattle.rules.specs.Hanging.{runningFree, hangsTogether}
 use Rattle.steps.specs.Refusal.{refusalOf}
 use Rattle.steps.specs.Stepping.{maskOf, outcomeOf, doneWith, refusedWith, stepped}
 use Rattle.promises.specs.Run.{ran}
-use Rattle.promises.specs.Story.{Event, woke, sleepIn, endWith, tick, countOff, signalAt, takeAt, endStep, isWoke, countIn}
+use Rattle.promises.specs.Story.{Event, woke, sleepIn, endWith, tick, countOff, signalAt, takeAt, endStep, countIn}
 use Rattle.promises.specs.Chain.{stop, sleeps, passes, ages, finishes, hands, begins}
-use Rattle.promises.specs.Flags.{someIn, maskBit}
+use Rattle.promises.specs.Flags.{maskBit}
 use Rattle.promises.specs.History.{History, ticksIn, signalsIn, someResult, run-hangs, made-hang}
-use Rattle.promises.specs.Lives.{atWork, Lives, ownEvents}
+use Rattle.promises.specs.Lives.{WokenWithin, atWork, Lives, ownEvents}
 use Rattle.promises.specs.Demands.{demand-2, DoneWholly, demand-3a, demand-3b, demand-3c, demand-3c-pools, ticks-wake, Released}
 
 -- two threads, one semaphore, one pool
@@ -102,11 +102,11 @@ timeout-shown =
     }
 
 -- and demand 3 a speaks of it
-pub demand-3a-shown : someIn (isWoke 0) afterSleep ≡ true
-unfolding countIn timeout-shown
+pub demand-3a-shown : WokenWithin 0 1 afterSleep
+unfolding timeout-shown
 demand-3a-shown =
     demand-3a two Standard made-shown (waits 0 1 ∷ (ticks ∷ [])) timeout-shown 0 (omega arith) (waitCall 1) [] afterSleep refl (omega arith)
-    (omega arith) (omega arith)
+    (omega arith)
 
 -- ---- b: so does demand 3 b, of both threads
 
