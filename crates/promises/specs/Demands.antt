@@ -41,14 +41,14 @@ use Rattle.promises.specs.Chain.{Sound, chain-story}
 use Rattle.promises.specs.Whole.{good-whole}
 use Rattle.promises.specs.Settles.{settled-whole}
 use Rattle.promises.specs.Flags.{someIn, maskBit}
-use Rattle.promises.specs.History.{Hangs, History, recorded, run-hangs, made-hang, ticksIn, signalsIn, someResult, settles}
+use Rattle.promises.specs.History.{Hangs, History, recorded, run-hangs, made-hang, ticksIn, someResult, settles}
 use Rattle.promises.specs.Lives.{EndsInTime, ends-at, story-ends, chain-counted, counted-all, WokenWithin, none-counted, Mode, atWork, Lives, InMode, modeAfter, ownEvents, story-lives, wokeWith, story-message}
-use Rattle.promises.specs.Turns.{beginsAt, higher, chain-turn}
+use Rattle.promises.specs.Turns.{higher, TurnWithin, chain-turn}
 
--- thread i is made ready, "with 0 unless its timeout or a reset made it ready sooner"
-pub record Released (i : ℕ) (es : List Event) : Type 0 where
-  pub woken : someIn (isWoke i) es ≡ true
-  pub message : (wokeWith i es ≡ ok) ⊎ ((wokeWith i es ≡ timedOut) ⊎ (wokeWith i es ≡ wasReset))
+-- thread i's turn comes with the n-th signal at the place p, "with 0 unless its timeout or a reset made it ready sooner"
+pub record ReleasedWithin (p i n : ℕ) (es : List Event) : Type 0 where
+  pub turn : TurnWithin p i n es
+  pub message : someIn (isWoke i) es ≡ true → (wokeWith i es ≡ ok) ⊎ ((wokeWith i es ≡ timedOut) ⊎ (wokeWith i es ≡ wasReset))
 
 -- ---- demand 3, of a run from any tables that hang together
 
@@ -77,20 +77,13 @@ module _ (t : Tables) (c : Clock) (g : Hangs t c) (ss : List Step) (h : History 
     one-waking = story-lives story
 
     -- c. "a semaphore waiter with w higher ones is released by the (w+1)-th later signal"
-    pub turn-comes : (p : ℕ) → p < 20 → inUse (t .sizes) p ≡ true → waits k p i ≡ true → someIn (beginsAt p i) (h .events) ≡ false
-        → suc (higher k p i) ≤ signalsIn p t c ss → Released i (h .events)
-    turn-comes p semaphore used waiting alone signals =
-        record { woken = comes; message = story-message p semaphore story waiting comes }
-      where
-        comes : someIn (isWoke i) (h .events) ≡ true
-        comes =
-            split (someIn (isWoke i) (h .events)) (λ e. e)
-            (λ e. absurd (omega (
-              arith,
-              signals,
-              h .signals p,
-              chain-turn (t .sizes) (g .together .good .sizes) p (omega arith) used i within (h .chain) sound waiting e alone .fewer,
-            )))
+    pub turn-comes : (p : ℕ) → p < 20 → inUse (t .sizes) p ≡ true → waits k p i ≡ true → ReleasedWithin p i (suc (higher k p i)) (h .events)
+    turn-comes p semaphore used waiting =
+        record {
+          turn = chain-turn (t .sizes) (g .together .good .sizes) p (omega arith) used i within (h .chain) sound waiting
+              (suc (higher k p i)) (omega arith);
+          message = story-message p semaphore story waiting;
+        }
 
 -- a sleep that goes on, as the results show it: it ends by the last of its remaining ticks
 pub ticks-wake : (t : Tables) (c : Clock) (g : Hangs t c) (ss : List Step) (i : ℕ) → i < t .sizes .threads
@@ -170,21 +163,19 @@ module _ (y : Sizes) (r : Rate) (legal : made y r .code ≡ 0) where
     module _ (ss : List Step) (h : History t c ss) (i : ℕ) (within : i < t .sizes .threads) where
       -- at a semaphore
       pub demand-3c : (s : ℕ) → s < t .sizes .semaphores → waits (opened t .kernel) (semaphorePlace s) i ≡ true
-          → someIn (beginsAt (semaphorePlace s) i) (h .events) ≡ false
-          → suc (higher (opened t .kernel) (semaphorePlace s) i) ≤ signalsIn (semaphorePlace s) t c ss → Released i (h .events)
-      demand-3c s l w a n =
+          → ReleasedWithin (semaphorePlace s) i (suc (higher (opened t .kernel) (semaphorePlace s) i)) (h .events)
+      demand-3c s l w =
           let g = run-hangs t₀ c₀ xs (made-hang y r legal) in
           let p = semaphore-place (opened t .kernel) (t .sizes) (g .together .good .sizes) s l in
-          turn-comes t c g ss h i within s (omega (arith, p .0)) (p .1) w a n
+          turn-comes t c g ss h i within s (omega (arith, p .0)) (p .1) w
 
       -- "(a pool's too)"
       pub demand-3c-pools : (q : ℕ) → q < t .sizes .pools → waits (opened t .kernel) (poolPlace q) i ≡ true
-          → someIn (beginsAt (poolPlace q) i) (h .events) ≡ false
-          → suc (higher (opened t .kernel) (poolPlace q) i) ≤ signalsIn (poolPlace q) t c ss → Released i (h .events)
-      demand-3c-pools q l w a n =
+          → ReleasedWithin (poolPlace q) i (suc (higher (opened t .kernel) (poolPlace q) i)) (h .events)
+      demand-3c-pools q l w =
           let g = run-hangs t₀ c₀ xs (made-hang y r legal) in
           let p = pool-place (opened t .kernel) (t .sizes) (g .together .good .sizes) q l (poolPlace q) refl in
-          turn-comes t c g ss h i within (poolPlace q) (p .1 .0) (p .1 .1) w a n
+          turn-comes t c g ss h i within (poolPlace q) (p .1 .0) (p .1 .1) w
 
 -- DEMAND 1: "Any tables and any step get an answer. Bad ones get the refusal number of document 01; then every table byte stays as it was,
 -- no thread is woken, no call finishes"

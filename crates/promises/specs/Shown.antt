@@ -40,7 +40,7 @@ use Rattle.promises.specs.Chain.{stop, sleeps, passes, ages, finishes, h
 use Rattle.promises.specs.Flags.{maskBit}
 use Rattle.promises.specs.History.{History, ticksIn, signalsIn, someResult, run-hangs, made-hang}
 use Rattle.promises.specs.Lives.{WokenWithin, atWork, Lives, ownEvents}
-use Rattle.promises.specs.Demands.{demand-2, DoneWholly, demand-3a, demand-3b, demand-3c, demand-3c-pools, ticks-wake, Released}
+use Rattle.promises.specs.Demands.{demand-2, DoneWholly, demand-3a, demand-3b, demand-3c, demand-3c-pools, ticks-wake, ReleasedWithin}
 
 -- two threads, one semaphore, one pool
 abbrev two : Sizes
@@ -156,10 +156,10 @@ signals-shown =
     first (suc i) l = absurd (omega arith)
 
 -- thread 1 has one higher waiter before it, and is released by the second signal
-pub demand-3c-shown : Released 1 twoSignals
+pub demand-3c-shown : ReleasedWithin 0 1 2 twoSignals
 unfolding firstFrom allFrom countOf firstReady firstWaiter takenOff putOn woken slept finished blocked enqueued releasedFirst releasedAll taken waited signalled ticked sizesFit made waitBegun effected actedOnKernel acted continued settled callFits waitFits ticksFit flagsFit rowFits rowsFit queuedCount countersFit holderFits referencesFit positionsFit mailboxesFit promisedCount occurrences entriesFit objectsFit poolFits poolsFit runningFree hangsTogether refusalOf maskOf outcomeOf doneWith refusedWith stepped ran countIn ticksIn signalsIn signals-shown
 demand-3c-shown =
-    demand-3c two Standard made-shown bothWait (signals ∷ (signals ∷ [])) signals-shown 1 (omega arith) 0 (omega arith) refl refl (le-refl 2)
+    demand-3c two Standard made-shown bothWait (signals ∷ (signals ∷ [])) signals-shown 1 (omega arith) 0 (omega arith) refl
 
 -- ---- c, of a pool: thread 0 waits for an object, and an interrupt adds one
 
@@ -190,10 +190,10 @@ adds-shown =
       signals = λ q. omega arith;
     }
 
-pub demand-3c-pools-shown : Released 0 oneAdded
+pub demand-3c-pools-shown : ReleasedWithin 16 0 1 oneAdded
 unfolding firstFrom allFrom countOf firstReady firstWaiter takenOff putOn woken slept finished blocked enqueued releasedFirst releasedAll taken waited signalled ticked sizesFit made waitBegun effected actedOnKernel acted continued settled callFits waitFits ticksFit flagsFit rowFits rowsFit queuedCount countersFit holderFits referencesFit positionsFit mailboxesFit promisedCount occurrences entriesFit objectsFit poolFits poolsFit runningFree hangsTogether refusalOf maskOf outcomeOf doneWith refusedWith stepped ran countIn ticksIn signalsIn popped pushed handedOver allocTried putBack boxEffected actedOnBox adds-shown
 demand-3c-pools-shown =
-    demand-3c-pools two Standard made-shown (allocs ∷ []) (adds ∷ []) adds-shown 0 (omega arith) 0 (omega arith) refl refl (le-refl 1)
+    demand-3c-pools two Standard made-shown (allocs ∷ []) (adds ∷ []) adds-shown 0 (omega arith) 0 (omega arith) refl
 
 -- ---- as the results show it: a sleep of one tick, then the tick
 

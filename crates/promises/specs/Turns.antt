@@ -1,10 +1,10 @@
 -- Demand 3 of a semaphore's waiters: each signal wakes the first, so a thread with w waiters of higher priority before it, if none joins
 -- them, is woken by the (w+1)-th signal at the latest.
-use Prim.Native.Nat.{ℕ, zero, suc, _+_, _≤_, _<_}
+use Prim.Native.Nat.{ℕ, zero, suc, _+_, _-_, _≤_, _<_}
 use native.Mathlib.Omega.{arith}
 use mathlib.Core.Path.{_≡_, refl, sym, ap, _∙_}
 use mathlib.Core.Logic.{_≢_}
-use mathlib.Core.Bool.{Bool, true, false, _||_, _&&_}
+use mathlib.Core.Bool.{Bool, true, false, _&&_}
 use mathlib.Core.List.{List, [], _∷_}
 use lib.Dec.{eqb, ltb}
 use lib.IntN.{ℤ, pos}
@@ -33,10 +33,9 @@ use Rattle.library.specs.declared.sizes.Sizes.{Sizes}
 use Rattle.rules.specs.RowRules.{waitState, waitPlace}
 use Rattle.rules.specs.PlaceRules.{inUse}
 use Rattle.promises.specs.Good.{GoodSizes}
-use Rattle.promises.specs.Story.{Event, woke, sleepIn, endWith, tick, countOff, signalAt, takeAt, endStep, isWoke, countIn}
+use Rattle.promises.specs.Story.{Event, woke, sleepIn, endWith, tick, countOff, signalAt, takeAt, endStep}
 use Rattle.promises.specs.Chain.{Sound, Sleeper, Chain, stop, wakes, passes, raises, ages, sleeps, takes, sets, finishes, hands, answers, flags, begins, tickEvent, tickThen, chain-sound, queued-unready}
-use Rattle.promises.specs.Owed.{isSignal, count-tick}
-use Rattle.promises.specs.Flags.{someIn, tick-some}
+use Rattle.promises.specs.Lives.{Unless}
 
 -- a thread of higher priority than i begins to wait at the place p: "Only accepted waits that really sleep"
 abbrev pub beginsAt : ℕ → ℕ → Event → Bool
@@ -53,10 +52,18 @@ beginsAt p i endStep = false
 abbrev pub higher : Kernel → ℕ → ℕ → ℕ
 higher k p i = countOf (waits k p) i
 
--- thread i waits there after h, and has as many higher waiters less as there were signals, at least
-pub record InTurn (k h : Kernel) (p i signals : ℕ) : Type 0 where
-  pub stays : waits h p i ≡ true
-  pub fewer : higher h p i + signals ≤ higher k p i
+-- thread i, whose turn is with the n-th signal at the place p: at the end of each step it has been made ready, or a thread of higher
+-- priority has begun to wait there, or fewer than n signals have come
+abbrev pub TurnWithin : ℕ → ℕ → ℕ → List Event → Type 0
+TurnWithin p i n [] = Unit {0}
+TurnWithin p i n (woke j m ∷ es) = Unless (eqb j i) (TurnWithin p i n es)
+TurnWithin p i n (sleepIn j c ∷ es) = Unless (beginsAt p i (sleepIn j c)) (TurnWithin p i n es)
+TurnWithin p i n (endWith j m d ∷ es) = TurnWithin p i n es
+TurnWithin p i n (tick ∷ es) = TurnWithin p i n es
+TurnWithin p i n (countOff j ∷ es) = TurnWithin p i n es
+TurnWithin p i n (signalAt q ∷ es) = TurnWithin p i (n - bit (eqb q p)) es
+TurnWithin p i n (takeAt q ∷ es) = TurnWithin p i n es
+TurnWithin p i n (endStep ∷ es) = (1 ≤ n) × TurnWithin p i n es
 
 -- fewer pass a stricter test
 count-mono : (f g : ℕ → Bool) (n : ℕ) → ((j : ℕ) → j < n → f j ≡ true → g j ≡ true) → countOf f n ≤ countOf g n
@@ -67,20 +74,10 @@ count-mono f g (suc n) h = omega (arith, count-mono f g n (λ j l. h j (omega ar
     one : bit (f n) ≤ bit (g n)
     one = split (f n) (λ e. rw (e, h n (omega arith) e) (omega arith)) (λ e. rw e (omega arith))
 
--- none of two
-neither : (a b : Bool) → a || b ≡ false → (a ≡ false) × (b ≡ false)
-neither true b e = contrary refl e
-neither false b e = (refl, e)
-
 module _ (p i : ℕ) where
   -- a move that changes nobody's wait there
-  still-turn : {h : Kernel} {n : ℕ} (k j : Kernel) → ((x : ℕ) → waits j p x ≡ waits k p x) → InTurn j h p i n → InTurn k h p i n
-  still-turn {h} {n} k j e t =
-      record { stays = t .stays; fewer = omega (arith, t .fewer, count-agree (waits j p) (waits k p) i (λ x l. e x)) }
-
-  -- one that leaves no more higher waiters
-  less-turn : {h : Kernel} {n : ℕ} (k j : Kernel) (s : ℕ) → higher j p i + s ≤ higher k p i → InTurn j h p i n → InTurn k h p i (s + n)
-  less-turn k j s e t = record { stays = t .stays; fewer = omega (arith, t .fewer) }
+  same-higher : (k j : Kernel) → ((x : ℕ) → waits j p x ≡ waits k p x) → higher j p i ≡ higher k p i
+  same-higher k j e = count-agree (waits j p) (waits k p) i (λ x l. e x)
 
   wake-less : (k : Kernel) (j : ℕ) (m : ℤ) → higher (woken k j m) p i ≤ higher k p i
   wake-less k j m =
@@ -140,61 +137,70 @@ module _ (z : Sizes) (g : GoodSizes z) (p : ℕ) (place : p < 36) (used : inUse 
       count-mono (waits (ticked k (z .threads)) p) (waits k p) i
       (λ j l e. aged-queued p i (threadAt k j) (rw (tick-row k (z .threads) j (rw (used-all (z .threads) (g .threads .1)) (omega arith))) at e))
 
-  begun-none : (k : Kernel) (n : ℕ) (es : List Event) → someIn (beginsAt p i) (tickThen k n es) ≡ someIn (beginsAt p i) es
-  begun-none k zero es = refl
-  begun-none k (suc n) es = begun-none k n (tickEvent k n ∷ es) ∙ split (eqb (threadAt k n .remaining) 1) (λ e. rw e) (λ e. rw e)
+  -- what a tick is to the threads
+  module _ (k : Kernel) (n : ℕ) where
+    turn-event : (j : ℕ) (es : List Event) → TurnWithin p i n es → TurnWithin p i n (tickEvent k j ∷ es)
+    turn-event j es t =
+        split (eqb (threadAt k j .remaining) 1) (λ e. rw e (split (eqb j i) (λ d. rw d tt) (λ d. rw d t))) (λ e. rw e t)
 
-  -- WHO IS NOT WOKEN, AND WHOM NONE OF HIGHER PRIORITY JOINS, HAS ONE HIGHER WAITER LESS WITH EACH SIGNAL
-  pub chain-turn : {h k : Kernel} {es : List Event} → Chain z h k es → Sound z k → waits k p i ≡ true → someIn (isWoke i) es ≡ false
-      → someIn (beginsAt p i) es ≡ false → InTurn k h p i (countIn (isSignal p) es)
-  unfolding countIn taken
-  chain-turn stop s w a b = record { stays = w; fewer = omega arith }
-  chain-turn (wakes {k} {es} j m x c) s w a b =
-      let n = neither (eqb j i) (someIn (isWoke i) es) a in
-      less-turn p i k (woken k j m) 0 (omega (arith, wake-less p i k j m))
-      (chain-turn c (chain-sound z g (wakes j m x stop) s) (wake-stays p i k j m (n .0) ∙ w) (n .1) b)
-  chain-turn (passes {k} {es} q j l f c) s w a b =
-      let n = neither (eqb j i) (someIn (isWoke i) es) a in
-      let r =
-      less-turn p i (woken k j ok) (woken k j ok) 0 (omega arith)
-      (chain-turn c (chain-sound z g (passes q j l f stop) s) (wake-stays p i k j ok (n .0) ∙ w) (n .1) b) in
-      same-or q p
-      (λ d. rw (d, eq-eqb p p refl) (less-turn p i k (woken k j ok) 1 (pass-less p i k (z .threads) j (rw d at f) w (n .0)) r))
-      (λ d. rw (ne-eqb q p d) (less-turn p i k (woken k j ok) 0 (omega (arith, wake-less p i k j ok)) r))
-  chain-turn (raises {k} {es} q l e t c) s w a b =
+    turn-through : (m : ℕ) (es : List Event) → TurnWithin p i n es → TurnWithin p i n (tickThen k m es)
+    turn-through zero es t = t
+    turn-through (suc m) es t = turn-through m (tickEvent k m ∷ es) (turn-event m es t)
+
+    -- its last tick makes it ready
+    turn-last : (m : ℕ) (es : List Event) → i < m → eqb (threadAt k i .remaining) 1 ≡ true → TurnWithin p i n (tickThen k m es)
+    turn-last zero es h e = absurd (omega arith)
+    turn-last (suc m) es h e =
+        same-or m i
+        (λ d. rw d (turn-through i (tickEvent k i ∷ es) (rw (e, eq-eqb i i refl) tt)))
+        (λ d. turn-last m (tickEvent k m ∷ es) (omega arith) e)
+
+  -- EACH SIGNAL BRINGS A WAITER NEARER TO ITS TURN
+  pub chain-turn : {h k : Kernel} {es : List Event} → Chain z h k es → Sound z k → waits k p i ≡ true → (n : ℕ) → suc (higher k p i) ≤ n
+      → TurnWithin p i n es
+  unfolding taken
+  chain-turn stop s w n l = tt
+  chain-turn (wakes {k} {es} j m x c) s w n l =
+      split (eqb j i) (λ e. rw e tt)
+      (λ e. rw e
+      (chain-turn c (chain-sound z g (wakes j m x stop) s) (wake-stays p i k j m e ∙ w) n (omega (arith, wake-less p i k j m))))
+  chain-turn (passes {k} {es} q j b f c) s w n l =
+      split (eqb j i) (λ e. rw e tt)
+      (λ e. rw e
+      (chain-turn c (chain-sound z g (passes q j b f stop) s) (wake-stays p i k j ok e ∙ w) (n - bit (eqb q p))
+      (same-or q p
+      (λ d. rw (d, eq-eqb p p refl) (omega (arith, pass-less p i k (z .threads) j (rw d at f) w e)))
+      (λ d. rw (ne-eqb q p d) (omega (arith, wake-less p i k j ok))))))
+  chain-turn (raises {k} {es} q b e t c) s w n l =
       same-or q p (λ d. absurd (no-raise k s w (rw d at e)))
-      (λ d. rw (ne-eqb q p d) (less-turn p i k _ 0 (omega arith) (chain-turn c (chain-sound z g (raises q l e t stop) s) w a b)))
-  chain-turn (ages {k} {es} c) s w a b =
-      let n = neither (eqb (threadAt k i .remaining) 1) (someIn (isWoke i) es) (sym (tick-some k i (z .threads) es within) ∙ a) in
-      rw (count-tick k (isSignal p) (z .threads) es (λ j m. refl) (λ j. refl))
-      (less-turn p i k (ticked k (z .threads)) 0 (omega (arith, tick-less k))
-      (chain-turn c (chain-sound z g (ages {es = []} stop) s) (tick-stays k w (n .0)) (n .1) (sym (begun-none k (z .threads) es) ∙ b)))
-  chain-turn (sleeps {k} {es} j x y c) s w a b =
+      (λ d. chain-turn c (chain-sound z g (raises q b e t stop) s) w (n - bit (eqb q p)) (rw (ne-eqb q p d) (omega arith)))
+  chain-turn (ages {k} {es} c) s w n l =
+      split (eqb (threadAt k i .remaining) 1) (λ e. turn-last k n (z .threads) es within e)
+      (λ e. turn-through k n (z .threads) es
+      (chain-turn c (chain-sound z g (ages {es = []} stop) s) (tick-stays k w e) n (omega (arith, tick-less k))))
+  chain-turn (sleeps {k} {es} j x y c) s w n l =
       let st = waitState (x .kind) in
       let pl = waitPlace (x .kind) (x .object) in
-      let n = neither (ltb j i && (eqb st queued && eqb pl p)) (someIn (beginsAt p i) es) b in
       let d : i ≢ j = λ e. queued-unready p (threadAt k i) w (rw e (y .is-ready)) in
-      less-turn p i k (slept k j st pl x) 0
+      split (beginsAt p i (sleepIn j x)) (λ e. rw e tt)
+      (λ e. rw e
+      (chain-turn c (chain-sound z g (sleeps j x y stop) s) (ap (queuedAt p) (sleep-others k j st pl x i d) ∙ w) n
       (omega (
         arith,
         count-agree (waits (slept k j st pl x) p) (waits k p) i
-            (sleep-waits p i z k j x (s .rules .sized) (g .threads .1) y (λ l. rw (lt-ltb j i l) at (n .0))),
-      ))
-      (chain-turn c (chain-sound z g (sleeps j x y stop) s) (ap (queuedAt p) (sleep-others k j st pl x i d) ∙ w) a (n .1))
-  chain-turn (takes {k} {es} q l e c) s w a b = less-turn p i k (taken k q) 0 (omega arith) (chain-turn c (chain-sound z g (takes q l e stop) s) w a b)
-  chain-turn (sets {k} {es} q v x c) s w a b = still-turn p i k _ (λ y. refl) (chain-turn c (chain-sound z g (sets {es = []} q v x stop) s) w a b)
-  chain-turn (finishes {k} {es} j m d f c) s w a b =
-      less-turn p i k k 0 (omega arith)
-      (still-turn p i k (finished k j m d) (finish-kept k j m d (queuedAt p) (λ x. refl))
-      (chain-turn c (chain-sound z g (finishes j m d f stop) s) (finish-kept k j m d (queuedAt p) (λ x. refl) i ∙ w) a b))
-  chain-turn (hands {k} {es} j d f c) s w a b =
-      less-turn p i k k 0 (omega arith)
-      (less-turn p i k k 0 (omega arith)
-      (still-turn p i k (finished k j ok d) (finish-kept k j ok d (queuedAt p) (λ x. refl))
-      (chain-turn c (chain-sound z g (hands j d f stop) s) (finish-kept k j ok d (queuedAt p) (λ x. refl) i ∙ w) a b)))
-  chain-turn (answers {k} x c) s w a b = still-turn p i k _ (λ y. refl) (chain-turn c (chain-sound z g (answers {es = []} x stop) s) w a b)
-  chain-turn (flags {k} j f e c) s w a b =
+            (sleep-waits p i z k j x (s .rules .sized) (g .threads .1) y (λ l. rw (lt-ltb j i l) at e)),
+      ))))
+  chain-turn (takes {k} {es} q b e c) s w n l = chain-turn c (chain-sound z g (takes q b e stop) s) w n l
+  chain-turn (sets {k} {es} q v x c) s w n l = chain-turn c (chain-sound z g (sets {es = []} q v x stop) s) w n l
+  chain-turn (finishes {k} {es} j m d f c) s w n l =
+      let same = finish-kept k j m d (queuedAt p) (λ x. refl) in
+      chain-turn c (chain-sound z g (finishes j m d f stop) s) (same i ∙ w) n (omega (arith, same-higher p i k (finished k j m d) same))
+  chain-turn (hands {k} {es} j d f c) s w n l =
+      let same = finish-kept k j ok d (queuedAt p) (λ x. refl) in
+      chain-turn c (chain-sound z g (hands j d f stop) s) (same i ∙ w) n (omega (arith, same-higher p i k (finished k j ok d) same))
+  chain-turn (answers {k} x c) s w n l = chain-turn c (chain-sound z g (answers {es = []} x stop) s) w n l
+  chain-turn (flags {k} j f e c) s w n l =
       let same = thread-kept k j (withPending (threadAt k j) f) (queuedAt p) refl in
-      still-turn p i k (withThread k j (withPending (threadAt k j) f)) same
-      (chain-turn c (chain-sound z g (flags {es = []} j f e stop) s) (same i ∙ w) a b)
-  chain-turn (begins {k} c) s w a b = less-turn p i k _ 0 (omega arith) (chain-turn c (chain-sound z g (begins {es = []} stop) s) w a b)
+      chain-turn c (chain-sound z g (flags {es = []} j f e stop) s) (same i ∙ w) n
+      (omega (arith, same-higher p i k (withThread k j (withPending (threadAt k j) f)) same))
+  chain-turn (begins {k} c) s w n l = (omega arith, chain-turn c (chain-sound z g (begins {es = []} stop) s) w n l)
