@@ -1,27 +1,10 @@
-// Every refusal of the trace reader, on a damaged trace each, and every one of the writer.
-// `stdout` holds the second program's listings of the traces, and for the writer what document 01's words give.
+// The writer's refusals, each before the next, and what fits. For its lines `stdout` holds what document 01's words give.
 use libc::STDOUT_FILENO;
 use library::calls::Step;
 use library::sizes::Sizes;
-use lines::list_trace;
 use trace::writer::Written;
 use trace::writer::write_sizes;
 use trace::writer::write_step;
-
-// The trace in a file, under its name. A file that is not there shows as one more line on standard error, and as a missing listing.
-fn show(name: &[u8], path: &[u8]) {
-    io::write_all(STDOUT_FILENO, name);
-    io::write_all(STDOUT_FILENO, b"\n");
-    let fd = os::open_read(path);
-    if fd < 0 {
-        os::fail(path);
-        return;
-    }
-    let mut bytes = [0u8; 60001];
-    let n = io::read_full(fd, &mut bytes);
-    list_trace(&bytes[..n], false);
-    libc::close(fd);
-}
 
 fn print_written(w: Written) {
     match w {
@@ -90,7 +73,7 @@ fn step_into_60001(at: usize) {
 }
 
 // 14 before 16; 15 before 16; then what fits.
-fn write_all_cases() {
+pub fn write_all_cases() {
     io::write_all(STDOUT_FILENO, b"writer\n");
     sizes_into_9(17);
     sizes_into_9(16);
@@ -102,31 +85,4 @@ fn write_all_cases() {
     step_into_22(59988);
     step_into_60001(59987);
     step_into_60001(59988);
-}
-
-fn main() {
-    show(b"11-empty", b"11-empty.trace");
-    show(b"11-other-version", b"11-other-version.trace");
-    show(b"12-before-record-0", b"12-before-record-0.trace");
-    show(b"12-inside-a-body", b"12-inside-a-body.trace");
-    show(b"12-inside-a-length", b"12-inside-a-length.trace");
-    show(b"12-inside-record-0", b"12-inside-record-0.trace");
-    show(
-        b"12-though-its-length-is-wrong",
-        b"12-though-its-length-is-wrong.trace",
-    );
-    show(b"13-record-0-below-6", b"13-record-0-below-6.trace");
-    show(
-        b"13-record-0-without-its-slots",
-        b"13-record-0-without-its-slots.trace",
-    );
-    show(b"13-step-of-10-bytes", b"13-step-of-10-bytes.trace");
-    show(b"14-mailbox-of-17-slots", b"14-mailbox-of-17-slots.trace");
-    show(b"14-nine-references", b"14-nine-references.trace");
-    show(b"14-no-thread", b"14-no-thread.trace");
-    show(
-        b"15-one-byte-more-than-60000",
-        b"15-one-byte-more-than-60000.trace",
-    );
-    write_all_cases();
 }
