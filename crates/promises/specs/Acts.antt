@@ -92,20 +92,23 @@ module _ (p : Plant) (c : Clock) (s : Step) (a : Accepted p c s) (w : Whole (p .
       let is = e ∙ f in
       let o = object-of p c s a w 15 is in
       tried (postTried p (s .caller) (callOf s))
-      (post-tries p w (s .caller) (callOf s) (tryer 15 is (inr (inr (inr (inr (inr (inl (omega arith, omega arith))))))) refl refl (rw is o)) (rw is o) (rw is) (rw is))
+      (post-tries p w (s .caller) (callOf s)
+      (tryer 15 is (inr (inr (inr (inr (inr (inl (omega arith, omega arith))))))) refl refl (rw is o)) (rw is o) (rw is) (rw is))
       (rw is)
   post-acts m e (inr f) =
       let is = e ∙ f in
       let o = object-of p c s a w 16 is in
       tried (postTried p (s .caller) (callOf s))
-      (post-tries p w (s .caller) (callOf s) (tryer 16 is (inr (inr (inr (inr (inr (inl (omega arith, omega arith))))))) refl refl (rw is o)) (rw is o) (rw is) (rw is))
+      (post-tries p w (s .caller) (callOf s)
+      (tryer 16 is (inr (inr (inr (inr (inr (inl (omega arith, omega arith))))))) refl refl (rw is o)) (rw is o) (rw is) (rw is))
       (rw is)
 
   fetch-acts : s .kind ≡ 17 → Acts z p s (fetchTried p (s .caller) (callOf s))
   fetch-acts is =
       let o = object-of p c s a w 17 is in
       tried (fetchTried p (s .caller) (callOf s))
-      (fetch-tries p w (s .caller) (callOf s) (tryer 17 is (inr (inr (inr (inr (inr (inl (omega arith, omega arith))))))) refl refl (rw is o)) (rw is o) (rw is) (rw is))
+      (fetch-tries p w (s .caller) (callOf s)
+      (tryer 17 is (inr (inr (inr (inr (inr (inl (omega arith, omega arith))))))) refl refl (rw is o)) (rw is o) (rw is) (rw is))
       (rw is)
 
   alloc-acts : s .kind ≡ 20 → Acts z p s (allocTried p (s .caller) (callOf s))
@@ -117,10 +120,12 @@ module _ (p : Plant) (c : Clock) (s : Step) (a : Accepted p c s) (w : Whole (p .
 
   -- "Free and add put the object on top and signal"
   put-in : (m : ℕ) → s .kind ≡ m → s .object < z .pools → s .a ≤ 31 → markAt (poolAt p (s .object)) (s .a % 256) ≢ free
-      → signalAt (poolPlace (s .object)) ∷ [] ≡ calledFor p s → Acts z p s (finishedAtOnce (putBack p (s .object) (s .a % 256)) (s .caller))
+      → signalAt (poolPlace (s .object)) ∷ [] ≡ calledFor p s
+      → Acts z p s (finishedAtOnce (putBack p (s .object) (s .a % 256)) (s .caller))
   unfolding countIn
   put-in m e l v f y =
-      at-once (putBack p (s .object) (s .a % 256)) (signalAt (poolPlace (s .object)) ∷ []) (put-acts p w (s .object) l (s .a % 256) (omega arith) f) y refl
+      at-once (putBack p (s .object) (s .a % 256)) (signalAt (poolPlace (s .object)) ∷ [])
+      (put-acts p w (s .object) l (s .a % 256) (omega arith) f) y refl
 
   -- 21: "free of an object not out" is refused; 22: "add of one not absent"
   puts : (s .kind ≡ 21) ⊎ (s .kind ≡ 22) → Acts z p s (finishedAtOnce (putBack p (s .object) (s .a % 256)) (s .caller))
@@ -136,9 +141,11 @@ module _ (p : Plant) (c : Clock) (s : Step) (a : Accepted p c s) (w : Whole (p .
   unfolding boxEffected countIn
   box-effects l e15 e16 e17 e20 =
       chosen (λ (h : Plant). Acts z p s (finishedAtOnce h (s .caller))) (eqb (s .kind) 18)
-      (λ e. let is = eqb-true (s .kind) 18 e in at-once (mailboxReset p (s .object)) [] (reset-acts p w (s .object) (object-of p c s a w 18 is)) (rw is) refl)
+      (λ e. let is = eqb-true (s .kind) 18 e in at-once (mailboxReset p (s .object)) []
+      (reset-acts p w (s .object) (object-of p c s a w 18 is)) (rw is) refl)
       (λ e18. chosen (λ (h : Plant). Acts z p s (finishedAtOnce h (s .caller))) (eqb (s .kind) 19)
-      (λ e. let is = eqb-true (s .kind) 19 e in at-once (mailboxResumed p (s .object)) [] (resume-acts p w (s .object) (object-of p c s a w 19 is)) (rw is) refl)
+      (λ e. let is = eqb-true (s .kind) 19 e in at-once (mailboxResumed p (s .object)) []
+      (resume-acts p w (s .object) (object-of p c s a w 19 is)) (rw is) refl)
       (λ e19. puts
       (two-left (s .kind) l (leb-true (s .kind) 22 (both-means (leb 1 (s .kind)) (leb (s .kind) 22) (a .kind) .1))
       (eqb-false (s .kind) 15 e15) (eqb-false (s .kind) 16 e16) (eqb-false (s .kind) 17 e17) (eqb-false (s .kind) 20 e20)

@@ -37,11 +37,36 @@ use Rattle.promises.specs.Good.{GoodSizes, GoodPool}
 use Rattle.promises.specs.Tallies.{Tallies}
 use Rattle.promises.specs.CounterRule.{pool-place, writers-place, readers-place}
 use Rattle.promises.specs.RingKept.{MailboxesKept, post-tried-kept, fetch-tried-kept, reset-kept, resume-kept}
-use Rattle.promises.specs.PoolKept.{PoolsKept, stock, stocked, promised-stocked, hand-over-kept, hand-over-popped, alloc-above, alloc-not-above, alloc-kept, alloc-popped, put-back-kept, put-back-pushed}
+use Rattle.promises.specs.PoolKept.{
+  PoolsKept,
+  stock,
+  stocked,
+  promised-stocked,
+  hand-over-kept,
+  hand-over-popped,
+  alloc-above,
+  alloc-not-above,
+  alloc-kept,
+  alloc-popped,
+  put-back-kept,
+  put-back-pushed,
+}
 use Rattle.promises.specs.Story.{Event, signalAt, takeAt, sleepIn, endWith, countIn, CallFits, Again}
 use Rattle.promises.specs.Chain.{Chain, Sleeper, Sound, hands, stop, queued-unready}
 use Rattle.promises.specs.Owed.{isSignal, isTake}
-use Rattle.promises.specs.Moving.{Chained, Caller, Free, after, rested, finish-chained, block-chained, take-chained, release-first-chained, release-all-chained, signal-chained}
+use Rattle.promises.specs.Moving.{
+  Chained,
+  Caller,
+  Free,
+  after,
+  rested,
+  finish-chained,
+  block-chained,
+  take-chained,
+  release-first-chained,
+  release-all-chained,
+  signal-chained,
+}
 use Rattle.promises.specs.Whole.{Whole, Done, InStep, done, kernel-done, whole-good}
 use Rattle.promises.specs.KernelActs.{callsOf}
 
@@ -176,7 +201,8 @@ module _ (p : Plant) (w : Whole (p .sizes) p) where
         (λ b. release-quiet z g k (w .kernel) i (readersPlace (c .object)) 0 (omega arith) (t .asks)))
         (λ a. silent z g k (w .kernel) _ (finish-chained z g k i wasReset 0 (t .asks)))
 
-    pub post-tries : queued ≡ waitState (c .kind) → writersPlace (c .object) ≡ waitPlace (c .kind) (c .object) → Tries z p (postTried p i c)
+    pub post-tries : queued ≡ waitState (c .kind) → writersPlace (c .object) ≡ waitPlace (c .kind) (c .object)
+        → Tries z p (postTried p i c)
     post-tries e f = boxes-tries (postTried p i c) (post-tried-kept p (w .mailboxes) i c there) (post-quiet e f)
 
     fetch-quiet : queued ≡ waitState (c .kind) → readersPlace (c .object) ≡ waitPlace (c .kind) (c .object)
@@ -190,7 +216,8 @@ module _ (p : Plant) (w : Whole (p .sizes) p) where
         (λ b. release-quiet z g k (w .kernel) i (writersPlace (c .object)) _ (omega arith) (t .asks)))
         (λ a. silent z g k (w .kernel) _ (finish-chained z g k i wasReset 0 (t .asks)))
 
-    pub fetch-tries : queued ≡ waitState (c .kind) → readersPlace (c .object) ≡ waitPlace (c .kind) (c .object) → Tries z p (fetchTried p i c)
+    pub fetch-tries : queued ≡ waitState (c .kind) → readersPlace (c .object) ≡ waitPlace (c .kind) (c .object)
+        → Tries z p (fetchTried p i c)
     fetch-tries e f = boxes-tries (fetchTried p i c) (fetch-tried-kept p (w .mailboxes) i c there) (fetch-quiet e f)
 
   -- "Reset empties .. and releases both queues with -2"
@@ -225,7 +252,8 @@ module _ (p : Plant) (w : Whole (p .sizes) p) where
       (ap length (m .mailboxes) ∙ w .boxes) (λ b r. rw (m .mailboxes) (w .messages b r)) (m .all) (m .pools ∙ w .rows) l
 
   -- one taken off a pool
-  took-step : (h : Plant) (o : ℕ) → o < z .pools → PoolsKept p h o → poolAt h o .length + 1 ≡ poolAt p o .length → InStep z p h (takeAt (poolPlace o) ∷ [])
+  took-step : (h : Plant) (o : ℕ) → o < z .pools → PoolsKept p h o → poolAt h o .length + 1 ≡ poolAt p o .length
+      → InStep z p h (takeAt (poolPlace o) ∷ [])
   unfolding countIn
   took-step h o there m f q l =
       rw (pool-places o q there l)
@@ -233,7 +261,8 @@ module _ (p : Plant) (w : Whole (p .sizes) p) where
       (λ d. rw (ne-eqb o q (λ e. d (sym e)), m .others q d)))
 
   -- one put on it
-  put-step : (h : Plant) (o : ℕ) → o < z .pools → PoolsKept p h o → poolAt h o .length ≡ poolAt p o .length + 1 → InStep z p h (signalAt (poolPlace o) ∷ [])
+  put-step : (h : Plant) (o : ℕ) → o < z .pools → PoolsKept p h o → poolAt h o .length ≡ poolAt p o .length + 1
+      → InStep z p h (signalAt (poolPlace o) ∷ [])
   unfolding countIn
   put-step h o there m f q l =
       rw (pool-places o q there l)
@@ -248,10 +277,12 @@ module _ (p : Plant) (w : Whole (p .sizes) p) where
     place-low = pool-place k z g o there (poolPlace o) refl .1 .0
 
     tally : Tallies (z .threads) (poolPlace o) k
-    tally = let x = pool-place k z g o there (poolPlace o) refl in w .kernel .rules .places (poolPlace o) (omega (arith, x .1 .0)) (x .1 .1)
+    tally =
+        let x = pool-place k z g o there (poolPlace o) refl in w .kernel .rules .places (poolPlace o) (omega (arith, x .1 .0)) (x .1 .1)
 
     -- "pool, message 0: it takes the top"
-    pub hand-tries : (i : ℕ) → i < z .threads → isPromised (threadAt k i) ≡ true → threadAt k i .call .object ≡ o → Tries z p (handedOver p i o)
+    pub hand-tries : (i : ℕ) → i < z .threads → isPromised (threadAt k i) ≡ true → threadAt k i .call .object ≡ o
+        → Tries z p (handedOver p i o)
     unfolding handedOver promisedCount
     hand-tries i l e f =
         record {
@@ -329,4 +360,7 @@ module _ (p : Plant) (w : Whole (p .sizes) p) where
       kept = alloc-kept p i c (w .pools) there some
 
       above : ltZ (pos 0) (counterAt k at) ≡ true → Chained z k (allocTried p i c .kernel) (takeAt at ∷ [])
-      above b = rw (alloc-above p i c b) (unfold handedOver taken in after (take-chained z g k at (place-low (c .object) there) b) (finish-chained z g (taken k at) i ok _ (t .asks)))
+      above b =
+          rw (alloc-above p i c b)
+          (unfold handedOver taken in after (take-chained z g k at (place-low (c .object) there) b)
+          (finish-chained z g (taken k at) i ok _ (t .asks)))

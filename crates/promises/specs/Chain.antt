@@ -30,8 +30,30 @@ use Rattle.kernel.specs.Ticking.{ticked}
 use Rattle.kernel.proofs.Cases.{split, same-or, contrary, both-means}
 use Rattle.kernel.proofs.WalkLaws.{First, None, count-none}
 use Rattle.kernel.proofs.CountersLaws.{debt, debt-none, raised-none, lowered-none}
-use Rattle.kernel.proofs.TablesLaws.{Sized, SameSizes, sized-kept, thread-sizes, counter-sizes, answer-sizes, thread-same, thread-other, counter-same, counter-other, used-all}
-use Rattle.kernel.proofs.MovesLaws.{wake-row, wake-others, wake-sizes, sleep-row, sleep-others, sleep-sizes, finish-row, finish-others, finish-sizes}
+use Rattle.kernel.proofs.TablesLaws.{
+  Sized,
+  SameSizes,
+  sized-kept,
+  thread-sizes,
+  counter-sizes,
+  answer-sizes,
+  thread-same,
+  thread-other,
+  counter-same,
+  counter-other,
+  used-all,
+}
+use Rattle.kernel.proofs.MovesLaws.{
+  wake-row,
+  wake-others,
+  wake-sizes,
+  sleep-row,
+  sleep-others,
+  sleep-sizes,
+  finish-row,
+  finish-others,
+  finish-sizes,
+}
 use Rattle.kernel.proofs.WaitersLaws.{waits}
 use Rattle.kernel.proofs.TickingLaws.{aged, aged-last, aged-counted, tick-row, tick-sizes}
 use Rattle.library.specs.declared.sizes.Sizes.{Sizes}
@@ -41,10 +63,55 @@ use Rattle.rules.specs.PlaceRules.{inUse}
 use Rattle.rules.specs.PoolRules.{isPromised}
 use Rattle.promises.specs.Good.{CallKind, GoodSizes, GoodThread}
 use Rattle.promises.specs.Tests.{same-means}
-use Rattle.promises.specs.Tallies.{Tallies, same-tallies, row-tallies, wake-tallies, sleep-tallies, sleep-unqueued-tallies, finish-tallies, tick-tallies}
-use Rattle.promises.specs.Holds.{Holds, same-holds, row-holds, wake-holds, sleep-holds, sleep-unsuspended-holds, finish-holds, counter-holds, tick-holds}
+use Rattle.promises.specs.Tallies.{
+  Tallies,
+  same-tallies,
+  row-tallies,
+  wake-tallies,
+  sleep-tallies,
+  sleep-unqueued-tallies,
+  finish-tallies,
+  tick-tallies,
+}
+use Rattle.promises.specs.Holds.{
+  Holds,
+  same-holds,
+  row-holds,
+  wake-holds,
+  sleep-holds,
+  sleep-unsuspended-holds,
+  finish-holds,
+  counter-holds,
+  tick-holds,
+}
 use Rattle.promises.specs.CounterRule.{semaphore-place, pool-place, queue-place, writers-place, readers-place}
-use Rattle.promises.specs.Story.{Event, woke, sleepIn, endWith, tick, countOff, signalAt, takeAt, endStep, isOf, CallFits, Follows, Again, Because, Story, rests, apart, rouses, dozes, closes, counts, marks, each-kind, story-then, story-good}
+use Rattle.promises.specs.Story.{
+  Event,
+  woke,
+  sleepIn,
+  endWith,
+  tick,
+  countOff,
+  signalAt,
+  takeAt,
+  endStep,
+  isOf,
+  CallFits,
+  Follows,
+  Again,
+  Because,
+  Story,
+  rests,
+  apart,
+  rouses,
+  dozes,
+  closes,
+  counts,
+  marks,
+  each-kind,
+  story-then,
+  story-good,
+}
 
 -- who is queued is not ready
 pub queued-unready : (p : ℕ) (t : Thread) → queuedAt p t ≡ true → t .state ≢ ready
@@ -110,7 +177,8 @@ pub data Chain (z : Sizes) (h : Kernel) : Kernel → List Event → Type 0 where
       → Chain z h k (signalAt p ∷ (woke i ok ∷ es))
   -- and without waiters raises the counter
   raises : {k : Kernel} {es : List Event} (p : ℕ) → p < 20 → ltZ (counterAt k p) (pos 0) ≡ false
-      → ltZ (counterAt k p) (pos 2147483647) ≡ true → Chain z h (withCounter k p (up (counterAt k p))) es → Chain z h k (signalAt p ∷ es)
+      → ltZ (counterAt k p) (pos 2147483647) ≡ true → Chain z h (withCounter k p (up (counterAt k p))) es
+      → Chain z h k (signalAt p ∷ es)
   ages : {k : Kernel} {es : List Event} → Chain z h (ticked k (z .threads)) es → Chain z h k (tick ∷ tickThen k (z .threads) es)
   sleeps : {k : Kernel} {es : List Event} (i : ℕ) (c : Call) → Sleeper z k i c
       → Chain z h (slept k i (waitState (c .kind)) (waitPlace (c .kind) (c .object)) c) es → Chain z h k (sleepIn i c ∷ es)
@@ -194,7 +262,8 @@ module _ {z : Sizes} {i : ℕ} where
   own-or j = same-or i j
 
   module _ (k : Kernel) (here : i < length (k .threads)) where
-    wake-story : (j : ℕ) (m : ℤ) → threadAt k j .state ≢ ready → Because (threadAt k j) m → Story z i (threadAt (woken k j m) i) (threadAt k i) (woke j m ∷ [])
+    wake-story : (j : ℕ) (m : ℤ) → threadAt k j .state ≢ ready → Because (threadAt k j) m
+        → Story z i (threadAt (woken k j m) i) (threadAt k i) (woke j m ∷ [])
     wake-story j m a b =
         own-or j
         (λ e. rw (sym e, wake-row k i m here) (rouses {t = threadAt k i} m (rw e a) (rw e b) rests))
@@ -259,7 +328,8 @@ module _ (z : Sizes) (i : ℕ) (u : Thread) (k : Kernel) where
       (λ d. tick-story m (tickEvent k m ∷ es) (omega arith) a (apart (tickEvent k m) (tick-apart k i m d) s))
 
 -- a move of thread i's record, then the rest of its story
-onward : {z : Sizes} {i : ℕ} {u v t : Thread} {es fs : List Event} → Story z i v t es → GoodThread z t → (GoodThread z v → Story z i u v fs)
+onward : {z : Sizes} {i : ℕ} {u v t : Thread} {es fs : List Event} → Story z i v t es → GoodThread z t
+    → (GoodThread z v → Story z i u v fs)
     → Story z i u t (es ++ fs)
 onward s g f = story-then s (f (story-good s g))
 
@@ -296,10 +366,12 @@ module _ (z : Sizes) (few : z .threads ≤ 16) (i : ℕ) (within : i < z .thread
   unfolding taken
   chain-story stop s g = rests
   chain-story (wakes {k} j m w c) s g =
-      onward (wake-story k (below s) j m (w .asleep) (λ p l q. inr (inr (w .cause p l q)))) g (λ v. chain-story c (sized-kept (wake-sizes k j m) s) v)
+      onward (wake-story k (below s) j m (w .asleep) (λ p l q. inr (inr (w .cause p l q)))) g
+      (λ v. chain-story c (sized-kept (wake-sizes k j m) s) v)
   chain-story (passes {k} p j l f c) s g =
       apart (signalAt p) refl
-      (onward (wake-story k (below s) j ok (queued-unready p (threadAt k j) (f .passes)) (λ q l e. inl refl)) g (λ v. chain-story c (sized-kept (wake-sizes k j ok) s) v))
+      (onward (wake-story k (below s) j ok (queued-unready p (threadAt k j) (f .passes)) (λ q l e. inl refl)) g
+      (λ v. chain-story c (sized-kept (wake-sizes k j ok) s) v))
   chain-story (raises {k} p l e b c) s g =
       apart (signalAt p) refl (chain-story c (sized-kept (counter-sizes k p (up (counterAt k p))) s) g)
   chain-story {h} (ages {k} {es} c) s g =
@@ -316,7 +388,8 @@ module _ (z : Sizes) (few : z .threads ≤ 16) (i : ℕ) (within : i < z .thread
       (λ v. chain-story c (sized-kept (finish-sizes k j m d) s) v)
   chain-story (hands {k} j d f c) s g =
       apart (takeAt (poolPlace (threadAt k j .call .object))) refl
-      (onward (finish-story k (below s) j ok d (someone (f .within)) (promised-ready (threadAt k j) (f .promised)) (promised-follows (threadAt k j) d (f .promised))) g
+      (onward (finish-story k (below s) j ok d (someone (f .within)) (promised-ready (threadAt k j) (f .promised))
+      (promised-follows (threadAt k j) d (f .promised))) g
       (λ v. chain-story c (sized-kept (finish-sizes k j ok d) s) v))
   chain-story (answers {k} a c) s g = chain-story c (sized-kept (answer-sizes k a) s) g
   chain-story (flags {k} j f e c) s g =
@@ -398,15 +471,19 @@ module _ (z : Sizes) (g : GoodSizes z) where
             same-or (waitState (c .kind)) queued
             (λ e.
             let at = queueing-place k (c .kind) (s .fits .kind) (c .object) (s .fits .object) e in
-            rw e (sleep-tallies k i p c n q (s .is-ready) (g .threads .1) (s .within) rows (omega (arith, at .0, r .sized .counters)) (s .counter e)
+            rw e (sleep-tallies k i p c n q (s .is-ready) (g .threads .1) (s .within) rows
+            (omega (arith, at .0, r .sized .counters)) (s .counter e)
             (r .places p (at .0) (at .1)) (r .places q h u)))
-            (λ d. sleep-unqueued-tallies k i p c n q (s .is-ready) (waitState (c .kind)) (ne-eqb (waitState (c .kind)) queued d) (r .places q h u));
+            (λ d. sleep-unqueued-tallies k i p c n q (s .is-ready) (waitState (c .kind)) (ne-eqb (waitState (c .kind)) queued d)
+            (r .places q h u));
         references = λ o h.
             same-or (waitState (c .kind)) suspended
             (λ e.
             let at = suspending-place (c .kind) (s .fits .kind) (c .object) (s .fits .object) e in
-            rw e (sleep-holds k i p c n o (s .is-ready) (g .threads .1) (s .within) rows (omega (arith, at, r .sized .references)) (s .holder e) (r .references o h)))
-            (λ d. sleep-unsuspended-holds k i p c n o (s .is-ready) (waitState (c .kind)) (ne-eqb (waitState (c .kind)) suspended d) (r .references o h));
+            rw e (sleep-holds k i p c n o (s .is-ready) (g .threads .1) (s .within) rows (omega (arith, at, r .sized .references))
+            (s .holder e) (r .references o h)))
+            (λ d. sleep-unsuspended-holds k i p c n o (s .is-ready) (waitState (c .kind))
+            (ne-eqb (waitState (c .kind)) suspended d) (r .references o h));
       }
 
   finish-rules : (k : Kernel) (i : ℕ) (m : ℤ) (d : ℕ) → Rules z k → Rules z (finished k i m d)

@@ -42,7 +42,24 @@ use Rattle.promises.specs.Whole.{good-whole}
 use Rattle.promises.specs.Settles.{settled-whole}
 use Rattle.promises.specs.Flags.{someIn, maskBit}
 use Rattle.promises.specs.History.{Hangs, History, recorded, run-hangs, made-hang, ticksIn, someResult, settles}
-use Rattle.promises.specs.Lives.{EndsInTime, ends-at, story-ends, chain-counted, counted-all, WokenWithin, none-counted, Mode, atWork, Lives, InMode, modeAfter, ownEvents, story-lives, wokeWith, story-message}
+use Rattle.promises.specs.Lives.{
+  EndsInTime,
+  ends-at,
+  story-ends,
+  chain-counted,
+  counted-all,
+  WokenWithin,
+  none-counted,
+  Mode,
+  atWork,
+  Lives,
+  InMode,
+  modeAfter,
+  ownEvents,
+  story-lives,
+  wokeWith,
+  story-message,
+}
 use Rattle.promises.specs.Turns.{higher, TurnWithin, chain-turn}
 
 -- thread i's turn comes with the n-th signal at the place p, "with 0 unless its timeout or a reset made it ready sooner"
@@ -68,7 +85,8 @@ module _ (t : Tables) (c : Clock) (g : Hangs t c) (ss : List Step) (h : History 
     story = chain-story (t .sizes) few i within (h .chain) (sound .rules .sized) (sound .rows i within)
 
     -- a. "a sleep with timeout t ends by its t-th later accepted tick", wherever in the run it began
-    pub sleeps-end : (call : Call) (before after : List Event) → h .events ≡ before ++ (sleepIn i call ∷ after) → EndsInTime i call after
+    pub sleeps-end : (call : Call) (before after : List Event) → h .events ≡ before ++ (sleepIn i call ∷ after)
+        → EndsInTime i call after
     sleeps-end call before after e = ends-at i call before after (rw e at (story-ends story false (chain-counted i within (h .chain))))
 
     -- b. "each sleep ends at most once, at its first waking, with that waking's message"
@@ -77,7 +95,8 @@ module _ (t : Tables) (c : Clock) (g : Hangs t c) (ss : List Step) (h : History 
     one-waking = story-lives story
 
     -- c. "a semaphore waiter with w higher ones is released by the (w+1)-th later signal"
-    pub turn-comes : (p : ℕ) → p < 20 → inUse (t .sizes) p ≡ true → waits k p i ≡ true → ReleasedWithin p i (suc (higher k p i)) (h .events)
+    pub turn-comes : (p : ℕ) → p < 20 → inUse (t .sizes) p ≡ true → waits k p i ≡ true
+        → ReleasedWithin p i (suc (higher k p i)) (h .events)
     turn-comes p semaphore used waiting =
         record {
           turn = chain-turn (t .sizes) (g .together .good .sizes) p (omega arith) used i within (h .chain) sound waiting
@@ -104,7 +123,16 @@ ticks-wake t c g ss i within asleep timed ticks = sym (recorded ss t c g .seen .
         let none = none-counted (isWoke i) (h .events) e in
         let x = story-sleeps (story t c g ss h i within) asleep none .timed timed in
         let f = counted-all i false (h .events) (chain-counted i within (h .chain)) in
-        absurd (omega (arith, ticks, h .ticks, f, none, x .0, left (threadAt (opened (ran t c ss .tables) .kernel) i .remaining) (x .1))))
+        absurd (omega (
+          arith,
+          ticks,
+          h .ticks,
+          f,
+          none,
+          x .0,
+          left (threadAt (opened (ran t c ss .tables) .kernel) i .remaining)
+              (x .1),
+        )))
 
 -- ---- the demands
 

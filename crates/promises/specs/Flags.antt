@@ -20,14 +20,41 @@ use Rattle.kernel.specs.Semaphore.{taken}
 use Rattle.kernel.proofs.Cases.{split, same-or, in-or-out}
 use Rattle.kernel.proofs.WalkLaws.{bit-le}
 use Rattle.kernel.proofs.TablesLaws.{Sized, wokenAt, finishedAt, used-all}
-use Rattle.kernel.proofs.MovesLaws.{wake-flag, wake-flag-others, wake-finished, sleep-woken, sleep-finished, finish-woken, finish-flag, finish-flag-others}
+use Rattle.kernel.proofs.MovesLaws.{
+  wake-flag,
+  wake-flag-others,
+  wake-finished,
+  sleep-woken,
+  sleep-finished,
+  finish-woken,
+  finish-flag,
+  finish-flag-others,
+}
 use Rattle.kernel.proofs.TickingLaws.{tick-flag, tick-flag-later, tick-finished}
 use Rattle.library.specs.declared.sizes.Sizes.{Sizes}
 use Rattle.rules.specs.RowRules.{waitState, waitPlace}
 use Rattle.steps.specs.Stepping.{maskOf}
 use Rattle.promises.specs.Story.{Event, woke, sleepIn, endWith, tick, countOff, signalAt, takeAt, endStep, isWoke, countIn}
 use Rattle.promises.specs.Owed.{count-tick}
-use Rattle.promises.specs.Chain.{Chain, stop, wakes, passes, raises, ages, sleeps, takes, sets, finishes, hands, answers, flags, begins, tickEvent, tickThen, chain-sized}
+use Rattle.promises.specs.Chain.{
+  Chain,
+  stop,
+  wakes,
+  passes,
+  raises,
+  ages,
+  sleeps,
+  takes,
+  sets,
+  finishes,
+  hands,
+  answers,
+  flags,
+  begins,
+  tickEvent,
+  tickThen,
+  chain-sized,
+}
 
 abbrev pub isEnded : ℕ → Event → Bool
 isEnded i (woke j m) = false
@@ -77,7 +104,8 @@ tick-some k i zero es h = absurd (omega arith)
 tick-some k i (suc n) es h =
     same-or i n
     (λ e. rw (sym e) (tick-none k i i (tickEvent k i ∷ es) (omega arith) ∙ own))
-    (λ d. tick-some k i n (tickEvent k n ∷ es) (omega arith) ∙ ap (λ (b : Bool). eqb (threadAt k i .remaining) 1 || b) (tick-other k i n es d))
+    (λ d. tick-some k i n (tickEvent k n ∷ es) (omega arith) ∙ ap (λ (b : Bool). eqb (threadAt k i .remaining) 1 || b)
+    (tick-other k i n es d))
   where
     own : someIn (isWoke i) (tickEvent k i ∷ es) ≡ eqb (threadAt k i .remaining) 1 || someIn (isWoke i) es
     own = split (eqb (threadAt k i .remaining) 1) (λ e. rw (e, eq-eqb i i refl)) (λ e. rw e)
@@ -117,9 +145,14 @@ module _ (z : Sizes) (few : z .threads ≤ 16) (i : ℕ) (low : i < 16) where
       ∙ ap (λ (b : Bool). b || someIn (isWoke i) es) (wake-at k j ok s) ∙ or-assoc (wokenAt k i) (eqb j i) (someIn (isWoke i) es)
   chain-woken (raises p l e b c) s o = chain-woken c (chain-sized {z = z} (raises p l e b stop) s) (omega (arith, o))
   chain-woken (ages {k} {es} c) s o =
-      chain-woken c (chain-sized {z = z} (ages {es = []} stop) s) (omega (arith, o, count-tick k isEndStep (z .threads) es (λ j m. refl) (λ j. refl)))
+      chain-woken c (chain-sized {z =
+      z} (ages {es = []} stop) s) (omega (arith, o, count-tick k isEndStep (z .threads) es (λ j m. refl) (λ j. refl)))
       ∙ in-or-out i (z .threads)
-      (λ l. rw (tick-flag k (z .threads) i (omega (arith, s .threads, s .woken)) (rw (used-all (z .threads) few) l), tick-some k i (z .threads) es l)
+      (λ l. rw (
+        tick-flag k (z .threads) i (omega (arith, s .threads, s .woken)) (rw (used-all (z .threads) few) l),
+        tick-some k i
+            (z .threads) es l,
+      )
       (or-swap (eqb (threadAt k i .remaining) 1) (wokenAt k i) (someIn (isWoke i) es)))
       (λ l. rw (tick-flag-later k (z .threads) i (rw (used-all (z .threads) few) l), tick-none k i (z .threads) es l))
   chain-woken (sleeps {k} {es} j a w c) s o =
@@ -146,7 +179,8 @@ module _ (z : Sizes) (few : z .threads ≤ 16) (i : ℕ) (low : i < 16) where
       chain-finished c (chain-sized {z = z} (passes p j l f stop) s) (omega (arith, o)) ∙ rw (wake-finished k j ok)
   chain-finished (raises p l e b c) s o = chain-finished c (chain-sized {z = z} (raises p l e b stop) s) (omega (arith, o))
   chain-finished (ages {k} {es} c) s o =
-      chain-finished c (chain-sized {z = z} (ages {es = []} stop) s) (omega (arith, o, count-tick k isEndStep (z .threads) es (λ j m. refl) (λ j. refl)))
+      chain-finished c (chain-sized {z =
+      z} (ages {es = []} stop) s) (omega (arith, o, count-tick k isEndStep (z .threads) es (λ j m. refl) (λ j. refl)))
       ∙ rw (tick-finished k (z .threads), tick-ends k i (z .threads) es)
   chain-finished (sleeps {k} {es} j a w c) s o =
       chain-finished c (chain-sized {z = z} (sleeps j a w stop) s) (omega (arith, o))
@@ -155,10 +189,12 @@ module _ (z : Sizes) (few : z .threads ≤ 16) (i : ℕ) (low : i < 16) where
   chain-finished (sets p v w c) s o = chain-finished c (chain-sized {z = z} (sets {es = []} p v w stop) s) o
   chain-finished (finishes {k} {es} j m d f c) s o =
       chain-finished c (chain-sized {z = z} (finishes j m d f stop) s) (omega (arith, o))
-      ∙ ap (λ (b : Bool). b || someIn (isEnded i) es) (end-at k j m d (someone (f .within)) s) ∙ or-assoc (finishedAt k i) (eqb j i) (someIn (isEnded i) es)
+      ∙ ap (λ (b : Bool). b || someIn (isEnded i) es) (end-at k j m d (someone (f .within)) s) ∙ or-assoc (finishedAt k i)
+      (eqb j i) (someIn (isEnded i) es)
   chain-finished (hands {k} {es} j d f c) s o =
       chain-finished c (chain-sized {z = z} (hands j d f stop) s) (omega (arith, o))
-      ∙ ap (λ (b : Bool). b || someIn (isEnded i) es) (end-at k j ok d (someone (f .within)) s) ∙ or-assoc (finishedAt k i) (eqb j i) (someIn (isEnded i) es)
+      ∙ ap (λ (b : Bool). b || someIn (isEnded i) es) (end-at k j ok d (someone (f .within)) s) ∙ or-assoc (finishedAt k i)
+      (eqb j i) (someIn (isEnded i) es)
   chain-finished (answers a c) s o = chain-finished c (chain-sized {z = z} (answers {es = []} a stop) s) o
   chain-finished (flags j f e c) s o = chain-finished c (chain-sized {z = z} (flags {es = []} j f e stop) s) o
   chain-finished (begins c) s o = absurd (omega (arith, o))

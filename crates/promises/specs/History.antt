@@ -40,7 +40,20 @@ use Rattle.promises.specs.Refusals.{isAccepted}
 use Rattle.promises.specs.Good.{HangTogether}
 use Rattle.promises.specs.Hanging.{test-hangs, all-blank, made-hangs}
 use Rattle.promises.specs.Accepting.{Accepted, refusal-none}
-use Rattle.promises.specs.Story.{Event, tick, woke, endWith, sleepIn, countOff, signalAt, takeAt, endStep, isWoke, isTick, countIn}
+use Rattle.promises.specs.Story.{
+  Event,
+  tick,
+  woke,
+  endWith,
+  sleepIn,
+  countOff,
+  signalAt,
+  takeAt,
+  endStep,
+  isWoke,
+  isTick,
+  countIn,
+}
 use Rattle.promises.specs.Chain.{Chain, stop, begins, chain-then}
 use Rattle.promises.specs.Owed.{isSignal}
 use Rattle.promises.specs.Moving.{Chained, marksOf, after}
@@ -109,7 +122,8 @@ no-end p s =
     (λ g. chosen P (eqb (s .kind) 21) (λ h. refl) (λ h. chosen P (eqb (s .kind) 22) (λ x. refl) (λ x. refl)))))
 
 -- settled tables, closed and opened again, hang together
-closed-hangs : (z : Sizes) (h : Plant) (c : Clock) → Whole z h → isSettled h ≡ true → (1 ≤ c .frequency) × (c .frequency ≤ 1000000) → Hangs (closed h) c
+closed-hangs : (z : Sizes) (h : Plant) (c : Clock) → Whole z h → isSettled h ≡ true → (1 ≤ c .frequency) × (c .frequency ≤ 1000000)
+    → Hangs (closed h) c
 unfolding firstReady countIn
 closed-hangs z h c w e f =
     record {
@@ -236,7 +250,8 @@ signalsOf q p s = countIn (isSignal q) (calledFor p s)
 unfoldable pub signalsIn : ℕ → Tables → Clock → List Step → ℕ
 signalsIn q t c [] = 0
 signalsIn q t c (s ∷ ss) =
-    cond (isAccepted (stepped t c s .outcome)) (signalsOf q (opened t) s) 0 + signalsIn q (stepped t c s .tables) (stepped t c s .clock) ss
+    cond (isAccepted (stepped t c s .outcome)) (signalsOf q (opened t) s) 0 + signalsIn q (stepped t c s .tables)
+    (stepped t c s .clock) ss
 
 -- whether any result passes a test
 abbrev pub someResult : (Outcome → Bool) → List Outcome → Bool
@@ -290,7 +305,8 @@ some-append f [] fs = refl
 some-append f (e ∷ es) fs = ap (λ (b : Bool). f e || b) (some-append f es fs) ∙ sym (or-assoc (f e) (someIn f es) (someIn f fs))
 
 -- the events of a step, with its end, and of the rest
-step-some : (f : Event → Bool) (es fs : List Event) → f endStep ≡ false → someIn f ((es ++ (endStep ∷ [])) ++ fs) ≡ someIn f es || someIn f fs
+step-some : (f : Event → Bool) (es fs : List Event) → f endStep ≡ false
+    → someIn f ((es ++ (endStep ∷ [])) ++ fs) ≡ someIn f es || someIn f fs
 step-some f es fs n =
     some-append f (es ++ (endStep ∷ [])) fs ∙ ap (λ (b : Bool). b || someIn f fs) (some-append f es (endStep ∷ []) ∙ last)
   where

@@ -18,7 +18,19 @@ use Rattle.kernel.specs.Moves.{woken, slept, finished}
 use Rattle.kernel.specs.Ticking.{countedOff, ticked}
 use Rattle.kernel.proofs.Cases.{split, same-or, in-or-out, chosen, first-fails}
 use Rattle.kernel.proofs.TablesLaws.{thread-blank, thread-kept}
-use Rattle.kernel.proofs.MovesLaws.{suspendedAt, wake-others, wake-holder, sleep-past, sleep-row, sleep-others, sleep-holder, sleep-holder-others, sleep-sizes, finish-kept, finish-references}
+use Rattle.kernel.proofs.MovesLaws.{
+  suspendedAt,
+  wake-others,
+  wake-holder,
+  sleep-past,
+  sleep-row,
+  sleep-others,
+  sleep-holder,
+  sleep-holder-others,
+  sleep-sizes,
+  finish-kept,
+  finish-references,
+}
 use Rattle.kernel.proofs.ReferenceLaws.{wake-unsuspended}
 use Rattle.kernel.proofs.TickingLaws.{tick-keeps}
 
@@ -45,7 +57,8 @@ module _ (k : Kernel) (i : ℕ) (m : ℤ) (n r : ℕ) where
       alone j hj d s =
           sym (g .holds j hj) ∙ rw (eqb-true (holderAt k r) i (g .holds i hi ∙ s)) (ne-eqb i j (λ e. d (sym e)))
 
-      at : (j : ℕ) → j < n → eqb (cond (suspendedAt r (threadAt k i)) nobody (holderAt k r)) j ≡ suspendedAt r (threadAt (woken k i m) j)
+      at : (j : ℕ) → j < n
+          → eqb (cond (suspendedAt r (threadAt k i)) nobody (holderAt k r)) j ≡ suspendedAt r (threadAt (woken k i m) j)
       at j hj =
           same-or j i
           (λ e. rw (e, wake-unsuspended k i m r)
@@ -127,7 +140,8 @@ counter-holds k p c n r = same-holds k (withCounter k p c) n r (λ j. refl) refl
 
 -- ---- a row, and the tick
 
-pub row-holds : (k : Kernel) (n r i : ℕ) (t : Thread) → suspendedAt r t ≡ suspendedAt r (threadAt k i) → Holds n r k → Holds n r (withThread k i t)
+pub row-holds : (k : Kernel) (n r i : ℕ) (t : Thread) → suspendedAt r t ≡ suspendedAt r (threadAt k i) → Holds n r k
+    → Holds n r (withThread k i t)
 row-holds k n r i t e = same-holds k (withThread k i t) n r (thread-kept k i t (suspendedAt r) e) refl
 
 pub tick-holds : (k : Kernel) (n r : ℕ) → n ≤ nobody → Holds n r k → Holds n r (ticked k n)

@@ -45,10 +45,41 @@ use Rattle.promises.specs.Hanging.{test-hangs}
 use Rattle.promises.specs.Tallies.{Tallies}
 use Rattle.promises.specs.CounterRule.{semaphore-place, queue-place}
 use Rattle.promises.specs.Accepting.{Accepted, waits-thread}
-use Rattle.promises.specs.Story.{Event, tick, signalAt, takeAt, sleepIn, woke, endWith, countOff, endStep, countIn, isSlept, Idle, CallFits}
+use Rattle.promises.specs.Story.{
+  Event,
+  tick,
+  signalAt,
+  takeAt,
+  sleepIn,
+  woke,
+  endWith,
+  countOff,
+  endStep,
+  countIn,
+  isSlept,
+  Idle,
+  CallFits,
+}
 use Rattle.promises.specs.Chain.{Sleeper}
 use Rattle.promises.specs.Owed.{isSignal, isTake}
-use Rattle.promises.specs.Moving.{Chained, Caller, after, finish-chained, tick-chained, sleep-chained, block-chained, release-first-chained, release-all-chained, signal-chained, binary-chained, reset-chained, wait-chained, resume-chained, event-wait-chained, event-signal-chained}
+use Rattle.promises.specs.Moving.{
+  Chained,
+  Caller,
+  after,
+  finish-chained,
+  tick-chained,
+  sleep-chained,
+  block-chained,
+  release-first-chained,
+  release-all-chained,
+  signal-chained,
+  binary-chained,
+  reset-chained,
+  wait-chained,
+  resume-chained,
+  event-wait-chained,
+  event-signal-chained,
+}
 use Rattle.promises.specs.Whole.{Whole, Done, kernel-done, Stepper, idle-free, stepper-caller, stepper-kept}
 
 -- the ticks, signals and ends of steps among marks, before what comes after
@@ -145,7 +176,8 @@ left-thirteen n h l w n1 n3 n4 n5 n7 n8 n10 =
     (next n 6 (eqb-false n 6 (b .0)) (next n 5 n5 (next n 4 n4 (next n 3 n3 (next n 2 (eqb-false n 2 (a .0)) (next n 1 n1 l))))))))))))
 
 -- and of those that may sleep, only the event wait
-left-fourteen : (n : ℕ) → kernelWaits n ≡ true → eqb n 2 ≡ false → eqb n 6 ≡ false → eqb n 9 ≡ false → eqb n 11 ≡ false → eqb n 12 ≡ false → n ≡ 14
+left-fourteen : (n : ℕ) → kernelWaits n ≡ true → eqb n 2 ≡ false → eqb n 6 ≡ false → eqb n 9 ≡ false → eqb n 11 ≡ false
+    → eqb n 12 ≡ false → n ≡ 14
 left-fourteen n w a b c d e = eqb-true n 14 (rw (a, b, c, d, e) at w)
 
 module _ (p : Plant) (c : Clock) (s : Step) (a : Accepted p c s) (w : Whole (p .sizes) p) where
@@ -199,11 +231,20 @@ module _ (p : Plant) (c : Clock) (s : Step) (a : Accepted p c s) (w : Whole (p .
       }
 
   -- a signal at a semaphore
-  signalling : (h : Kernel) → s .object < 16 → Chained z k h (signalAt (s .object) ∷ []) → signalAt (s .object) ∷ [] ≡ calledFor p s → Effects z p s h
+  signalling : (h : Kernel) → s .object < 16 → Chained z k h (signalAt (s .object) ∷ []) → signalAt (s .object) ∷ [] ≡ calledFor p s
+      → Effects z p s h
   unfolding countIn
   signalling h l x e =
       record {
-        acts = record { marks = signalAt (s .object) ∷ []; chained = x; calls = e; takes = λ q. refl; signals = λ q. rw (no-pool (s .object) q l) };
+        acts =
+            record {
+              marks =
+                  signalAt (s .object) ∷ [];
+              chained = x;
+              calls = e;
+              takes = λ q. refl;
+              signals = λ q. rw (no-pool (s .object) q l);
+            };
         awake = λ i. refl;
       }
 
@@ -250,7 +291,8 @@ module _ (p : Plant) (c : Clock) (s : Step) (a : Accepted p c s) (w : Whole (p .
       (resume-chained z g k (s .object) (messageOf s) (w .kernel .rules .sized) (r .within)
       (λ d.
       eqb-true (threadAt k (holderAt k (s .object)) .state) suspended
-      (both-means (eqb (threadAt k (holderAt k (s .object)) .state) suspended) (eqb (threadAt k (holderAt k (s .object)) .place) (s .object))
+      (both-means (eqb (threadAt k (holderAt k (s .object)) .state) suspended)
+      (eqb (threadAt k (holderAt k (s .object)) .place) (s .object))
       (sym (r .holds (holderAt k (s .object)) (r .within d)) ∙ eq-eqb (holderAt k (s .object)) (holderAt k (s .object)) refl) .0)))
       (rw e)
 
@@ -292,7 +334,8 @@ module _ (p : Plant) (c : Clock) (s : Step) (a : Accepted p c s) (w : Whole (p .
   -- ---- 2, 6, 9, 11, 12, 14
 
   -- a call that sleeps, or is answered at once
-  waiting : (h : Kernel) (i : ℕ) (call : Call) (b : Bool) → Chained z k h (cond b [] (sleepIn i call ∷ [])) → [] ≡ calledFor p s → KernelActs z p s h
+  waiting : (h : Kernel) (i : ℕ) (call : Call) (b : Bool) → Chained z k h (cond b [] (sleepIn i call ∷ [])) → [] ≡ calledFor p s
+      → KernelActs z p s h
   unfolding countIn
   waiting h i call true x e = record { marks = []; chained = x; calls = e; takes = λ q. refl; signals = λ q. refl }
   waiting h i call false x e = record { marks = sleepIn i call ∷ []; chained = x; calls = e; takes = λ q. refl; signals = λ q. refl }
@@ -337,7 +380,8 @@ module _ (p : Plant) (c : Clock) (s : Step) (a : Accepted p c s) (w : Whole (p .
         let l = object-of 2 e in
         let x =
         wait-chained z g k (s .caller) (s .object) (callOf s) (omega (arith, low l)) (rw e) (rw e)
-        (λ t b. sleeper-in (callOf s) (kept-fits (inl e) (rw e l) t) (λ v. rw e b) (λ v. absurd (omega (arith, rw e at v))) (λ v. absurd (omega (arith, rw e at v))))
+        (λ t b. sleeper-in (callOf s) (kept-fits (inl e) (rw e l) t) (λ v. rw e b) (λ v. absurd (omega (arith, rw e at v)))
+        (λ v. absurd (omega (arith, rw e at v))))
         asks in
         split (ltZ (pos 0) (counterAt k (s .object)))
         (λ b. record {
@@ -347,7 +391,8 @@ module _ (p : Plant) (c : Clock) (s : Step) (a : Accepted p c s) (w : Whole (p .
           takes = λ q. unfold countIn in rw (no-pool (s .object) q (low l));
           signals = λ q. unfold countIn in refl;
         })
-        (λ b. waiting (waited k (s .caller) (s .object) (callOf s)) (s .caller) (callOf s) (eqb (s .timeout) immediate) (rw b at x) (rw e))
+        (λ b. waiting (waited k (s .caller) (s .object) (callOf s)) (s .caller) (callOf s) (eqb (s .timeout) immediate) (rw b at x)
+        (rw e))
 
     queue-acts : s .kind ≡ 6 → KernelActs z p s (enqueued k (s .caller) (queuePlace (s .object)) (callOf s))
     unfolding enqueued
@@ -357,7 +402,8 @@ module _ (p : Plant) (c : Clock) (s : Step) (a : Accepted p c s) (w : Whole (p .
         let level = w .kernel .rules .places (queuePlace (s .object)) (omega (arith, x .1 .0)) (x .1 .1) .level (x .0) in
         waiting _ (s .caller) (callOf s) (eqb (s .timeout) immediate)
         (block-chained z g k (s .caller) queued (queuePlace (s .object)) (callOf s) (rw e) (rw e)
-        (λ t. sleeper-in (callOf s) (kept-fits (inr (inl e)) (rw e l) t) (λ v. rw e level) (λ v. absurd (omega (arith, rw e at v))) (λ v. absurd (omega (arith, rw e at v))))
+        (λ t. sleeper-in (callOf s) (kept-fits (inr (inl e)) (rw e l) t) (λ v. rw e level) (λ v. absurd (omega (arith, rw e at v)))
+        (λ v. absurd (omega (arith, rw e at v))))
         asks)
         (rw e)
 
@@ -369,7 +415,8 @@ module _ (p : Plant) (c : Clock) (s : Step) (a : Accepted p c s) (w : Whole (p .
         let empty = eqb-true (holderAt k (s .object)) nobody (rw e at (a .state)) in
         waiting _ (s .caller) (callOf s) (eqb (s .timeout) immediate)
         (block-chained z g k (s .caller) suspended (s .object) (callOf s) (rw e) (rw e)
-        (λ t. sleeper-in (callOf s) (kept-fits (inr (inr (inl e))) (rw e l) t) (λ v. absurd (omega (arith, rw e at v))) (λ v. rw e empty) (λ v. absurd (omega (arith, rw e at v))))
+        (λ t. sleeper-in (callOf s) (kept-fits (inr (inr (inl e))) (rw e l) t) (λ v. absurd (omega (arith, rw e at v)))
+        (λ v. rw e empty) (λ v. absurd (omega (arith, rw e at v))))
         asks)
         (rw e)
 
@@ -377,19 +424,27 @@ module _ (p : Plant) (c : Clock) (s : Step) (a : Accepted p c s) (w : Whole (p .
     span : (t : ℕ) → isSpan t ≡ true → 1 ≤ t
     span t e = leb-true 1 t (both-means (leb 1 t) (ltb t infinite) e .0)
 
-    nap-acts : (call : Call) → CallFits z call → waitState (call .kind) ≡ sleeping → waitPlace (call .kind) (call .object) ≡ nowhere → [] ≡ calledFor p s
+    nap-acts : (call : Call) → CallFits z call → waitState (call .kind) ≡ sleeping → waitPlace (call .kind) (call .object) ≡ nowhere
+        → [] ≡ calledFor p s
         → KernelActs z p s (slept k (s .caller) sleeping nowhere call)
     nap-acts call f st pl e =
         waiting _ (s .caller) call false
         (sleep-chained z g k (s .caller) sleeping nowhere call (sym st) (sym pl)
-        (sleeper-in call f (λ v. absurd (omega (arith, st ∙ refl, v))) (λ v. absurd (omega (arith, st, v))) (λ v. absurd (omega (arith, st, v)))))
+        (sleeper-in call f (λ v. absurd (omega (arith, st ∙ refl, v))) (λ v. absurd (omega (arith, st, v)))
+        (λ v. absurd (omega (arith, st, v)))))
         e
 
     sleep-for-acts : s .kind ≡ 11 → KernelActs z p s (sleptFor k (s .caller) (record { 0 = s .timeout }))
     unfolding sleptFor
     sleep-for-acts e =
         nap-acts (record { kind = 11; object = 0; operand = 0; timeout = s .timeout })
-        (record { kind = inr (inr (inr (inl refl))); object = omega arith; timeout = span (s .timeout) (rw e at (a .value)); operand = λ v. refl })
+        (record {
+          kind = inr (inr (inr (inl refl)));
+          object = omega arith;
+          timeout = span (s .timeout)
+              (rw e at (a .value));
+          operand = λ v. refl;
+        })
         refl refl (rw e)
 
     sleep-until-acts : s .kind ≡ 12 → KernelActs z p s (sleptUntil k (s .caller) (c .time) (record { 0 = s .a }))
@@ -408,7 +463,8 @@ module _ (p : Plant) (c : Clock) (s : Step) (a : Accepted p c s) (w : Whole (p .
     event-acts e =
         let x =
         event-wait-chained z g k (s .caller) (callOf s) (w .kernel .rules .sized) me (idle-free (threadAt k (s .caller)) idle) e
-        (λ t b. sleeper-in (callOf s) (kept-fits (inr (inr (inr (inr (inr (inl (rw e (omega arith, omega arith)))))))) (rw e (omega arith)) t)
+        (λ t b. sleeper-in (callOf s)
+        (kept-fits (inr (inr (inr (inr (inr (inl (rw e (omega arith, omega arith)))))))) (rw e (omega arith)) t)
         (λ v. absurd (omega (arith, rw e at v))) (λ v. absurd (omega (arith, rw e at v))) (λ v. rw e (rw e at b))) in
         split (eqb (bitAnd (threadAt k (s .caller) .pending) (operandOf s)) 0)
         (λ b. waiting _ (s .caller) (callOf s) (eqb (s .timeout) immediate) (rw b at x) (rw e))
@@ -433,7 +489,8 @@ module _ (p : Plant) (c : Clock) (s : Step) (a : Accepted p c s) (w : Whole (p .
         marks = m;
         chained = rw (nil-right m) at
             (after (x .acts .chained)
-            (finish-chained z g h i ok 0 (stepper-caller z h i (stepper-kept z k h i m g (w .kernel) (x .acts .chained) (x .awake i) stepper))));
+            (finish-chained z g h i ok 0
+            (stepper-caller z h i (stepper-kept z k h i m g (w .kernel) (x .acts .chained) (x .awake i) stepper))));
         calls = x .acts .calls;
         takes = x .acts .takes;
         signals = x .acts .signals;
@@ -444,7 +501,8 @@ module _ (p : Plant) (c : Clock) (s : Step) (a : Accepted p c s) (w : Whole (p .
   unfolding actedOnKernel
   kernel-acts h =
       let x =
-      chosen (KernelActs z p s) (kernelWaits (s .kind)) (λ v. wait-begun (waits-thread p c s a v) v) (λ v. at-once (effected k n s) (effect h v)) in
+      chosen (KernelActs z p s) (kernelWaits (s .kind)) (λ v. wait-begun (waits-thread p c s a v) v)
+      (λ v. at-once (effected k n s) (effect h v)) in
       record {
         marks = x .marks;
         done = kernel-done z p (actedOnKernel k n (c .time) s) (x .marks) w (x .chained) (λ q there. x .takes q ∙ sym (x .signals q));

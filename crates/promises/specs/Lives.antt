@@ -25,8 +25,56 @@ use Rattle.library.specs.declared.sizes.Sizes.{Sizes}
 use Rattle.library.specs.Settling.{isBoxCall}
 use Rattle.rules.specs.RowRules.{isMailing}
 use Rattle.promises.specs.Good.{CallKind}
-use Rattle.promises.specs.Story.{Event, woke, sleepIn, endWith, tick, countOff, signalAt, takeAt, endStep, isOf, isWoke, isCounted, isTick, countIn, Follows, asleepIn, Story, rests, apart, rouses, dozes, closes, counts, marks, Again, Idle, kind-some, apart-woke, waits-unready}
-use Rattle.promises.specs.Chain.{Chain, stop, wakes, passes, raises, ages, sleeps, takes, sets, finishes, hands, answers, flags, begins, tickEvent, tickThen, queued-unready}
+use Rattle.promises.specs.Story.{
+  Event,
+  woke,
+  sleepIn,
+  endWith,
+  tick,
+  countOff,
+  signalAt,
+  takeAt,
+  endStep,
+  isOf,
+  isWoke,
+  isCounted,
+  isTick,
+  countIn,
+  Follows,
+  asleepIn,
+  Story,
+  rests,
+  apart,
+  rouses,
+  dozes,
+  closes,
+  counts,
+  marks,
+  Again,
+  Idle,
+  kind-some,
+  apart-woke,
+  waits-unready,
+}
+use Rattle.promises.specs.Chain.{
+  Chain,
+  stop,
+  wakes,
+  passes,
+  raises,
+  ages,
+  sleeps,
+  takes,
+  sets,
+  finishes,
+  hands,
+  answers,
+  flags,
+  begins,
+  tickEvent,
+  tickThen,
+  queued-unready,
+}
 use Rattle.promises.specs.Flags.{someIn}
 
 -- ---- a. a sleep with a timeout ends
@@ -49,12 +97,14 @@ pub counted-all : (i : ℕ) (due : Bool) (es : List Event) → Counted i due es
 unfolding countIn
 counted-all i due [] f = rw f (omega arith)
 counted-all i due (woke j m ∷ es) f =
-    split (eqb j i) (λ e. rw e (omega (arith, bit-le due, counted-all i false es (rw e at f)))) (λ e. rw e (omega (arith, counted-all i due es (rw e at f))))
+    split (eqb j i) (λ e. rw e (omega (arith, bit-le due, counted-all i false es (rw e at f))))
+    (λ e. rw e (omega (arith, counted-all i due es (rw e at f))))
 counted-all i due (sleepIn j c ∷ es) f = omega (arith, counted-all i due es f)
 counted-all i due (endWith j m d ∷ es) f = omega (arith, counted-all i due es f)
 counted-all i due (tick ∷ es) f = rw (f .0) (omega (arith, counted-all i true es (f .1)))
 counted-all i due (countOff j ∷ es) f =
-    split (eqb j i) (λ e. rw e (omega (arith, bit-le due, counted-all i false es (rw e at f)))) (λ e. rw e (omega (arith, counted-all i due es (rw e at f))))
+    split (eqb j i) (λ e. rw e (omega (arith, bit-le due, counted-all i false es (rw e at f))))
+    (λ e. rw e (omega (arith, counted-all i due es (rw e at f))))
 counted-all i due (signalAt p ∷ es) f = omega (arith, counted-all i due es f)
 counted-all i due (takeAt p ∷ es) f = omega (arith, counted-all i due es f)
 counted-all i due (endStep ∷ es) f = omega (arith, counted-all i due es (f .1))
@@ -148,7 +198,8 @@ timed-ticks : (t : ℕ) → t ≤ 4294967294 → ticksOf t ≡ t
 timed-ticks t h = rw (ne-eqb t infinite (λ e. absurd (omega arith)))
 
 -- somebody else's event, or a tick or the end of a step, on the way of a sleeper with r ticks left, at most n to go and one due
-apart-within : (i n r : ℕ) (due : Bool) (e : Event) (es : List Event) → isOf i e ≡ false → r ≢ 0 → r ≤ n + bit due → Counted i due (e ∷ es)
+apart-within : (i n r : ℕ) (due : Bool) (e : Event) (es : List Event) → isOf i e ≡ false → r ≢ 0 → r ≤ n + bit due
+    → Counted i due (e ∷ es)
     → ((m : ℕ) (b : Bool) → r ≤ m + bit b → Counted i b es → WokenWithin i m es) → WokenWithin i n (e ∷ es)
 apart-within i n r due (woke j m) es a d h f g = rw a (g n due h (rw a at f))
 apart-within i n r due (sleepIn j c) es a d h f g = g n due h f
@@ -185,7 +236,8 @@ story-within {z} {i} (counts {t} {es} l s) a d n due h f =
 story-within (marks x p s) a d n due h f = story-within s a d n due h f
 
 -- what is left when an event has passed
-counted-next : {A : Type 0} (i : ℕ) (due : Bool) (e : Event) (es : List Event) → Counted i due (e ∷ es) → ((b : Bool) → Counted i b es → A) → A
+counted-next : {A : Type 0} (i : ℕ) (due : Bool) (e : Event) (es : List Event) → Counted i due (e ∷ es)
+    → ((b : Bool) → Counted i b es → A) → A
 counted-next i due (woke j m) es f g = g (cond (eqb j i) false due) f
 counted-next i due (sleepIn j c) es f g = g due f
 counted-next i due (endWith j m d) es f g = g due f
@@ -352,7 +404,8 @@ module _ (i : ℕ) (u t : Thread) (es : List Event) where
   counted-lives r (wokenFrom c m) x = r (wokenFrom c m) x
 
 -- EACH SLEEP ENDS AT MOST ONCE, WITH THAT WAKING'S MESSAGE, AND THE RECORD HOLDS IT UNTIL THE CALL IS CONTINUED
-pub story-lives : {z : Sizes} {i : ℕ} {u t : Thread} {es : List Event} → Story z i u t es → (a : Mode) → InMode a t → Lived a (ownEvents i es) u
+pub story-lives : {z : Sizes} {i : ℕ} {u t : Thread} {es : List Event} → Story z i u t es → (a : Mode) → InMode a t
+    → Lived a (ownEvents i es) u
 story-lives rests a x = (tt, x)
 story-lives (apart e n s) a x = rw n (story-lives s a x)
 story-lives {z} {i} {u} (rouses {t} {es} m n b s) a x =

@@ -38,8 +38,40 @@ use Rattle.rules.specs.RowRules.{waitState, waitPlace}
 use Rattle.rules.specs.PoolRules.{isPromised}
 use Rattle.promises.specs.Good.{GoodSizes, GoodThread, CallKind}
 use Rattle.promises.specs.Tallies.{Tallies}
-use Rattle.promises.specs.Story.{Event, woke, sleepIn, endWith, tick, countOff, signalAt, takeAt, endStep, countIn, Follows, each-kind}
-use Rattle.promises.specs.Chain.{Waken, Sleeper, Chain, stop, wakes, passes, raises, ages, sleeps, takes, sets, finishes, answers, flags, tickEvent, tickThen, chain-then, queued-unready}
+use Rattle.promises.specs.Story.{
+  Event,
+  woke,
+  sleepIn,
+  endWith,
+  tick,
+  countOff,
+  signalAt,
+  takeAt,
+  endStep,
+  countIn,
+  Follows,
+  each-kind,
+}
+use Rattle.promises.specs.Chain.{
+  Waken,
+  Sleeper,
+  Chain,
+  stop,
+  wakes,
+  passes,
+  raises,
+  ages,
+  sleeps,
+  takes,
+  sets,
+  finishes,
+  answers,
+  flags,
+  tickEvent,
+  tickThen,
+  chain-then,
+  queued-unready,
+}
 
 -- what a move is called for, before what comes after
 abbrev pub markThen : Event → List Event → List Event
@@ -83,7 +115,8 @@ marks-tick k zero es = refl
 marks-tick k (suc n) es = marks-tick k n (tickEvent k n ∷ es) ∙ split (eqb (threadAt k n .remaining) 1) (λ e. rw e) (λ e. rw e)
 
 -- what is no waking, no tick counted off and no finished call is counted among the marks
-pub marks-count : (f : Event → Bool) (es : List Event) → ((i : ℕ) (m : ℤ) → f (woke i m) ≡ false) → ((i : ℕ) (m : ℤ) (d : ℕ) → f (endWith i m d) ≡ false)
+pub marks-count : (f : Event → Bool) (es : List Event) → ((i : ℕ) (m : ℤ) → f (woke i m) ≡ false)
+    → ((i : ℕ) (m : ℤ) (d : ℕ) → f (endWith i m d) ≡ false)
     → ((i : ℕ) → f (countOff i) ≡ false) → countIn f (marksOf es) ≡ countIn f es
 unfolding countIn
 marks-count f [] w e c = refl
@@ -205,13 +238,19 @@ module _ (z : Sizes) (g : GoodSizes z) where
         split (ltZ (counterAt k p) (pos 0))
         (λ e. rw e
         (let f = first-waiter-counted k n p (g .threads .1) (omega (arith, t .tally, debt-some (counterAt k p) e)) in
-        record { events = signalAt p ∷ (woke (firstWaiter k n p) ok ∷ []); chain = passes p (firstWaiter k n p) semaphore f stop; marks = refl }))
+        record {
+          events =
+              signalAt p ∷ (woke (firstWaiter k n p) ok ∷ []);
+          chain = passes p (firstWaiter k n p) semaphore f stop;
+          marks = refl;
+        }))
         (λ e. rw e (record { events = signalAt p ∷ []; chain = raises p semaphore e b stop; marks = refl }))
 
     -- "as 3 if the counter is below 1, else nothing"
     pub binary-chained : Tallies n p k → Chained z k (binarySignalled k n p) (cond (ltZ (counterAt k p) (pos 1)) (signalAt p ∷ []) [])
     unfolding binarySignalled
-    binary-chained t = split (ltZ (counterAt k p) (pos 1)) (λ e. rw e (signal-chained t (below-one (counterAt k p) e))) (λ e. rw e rested)
+    binary-chained t =
+        split (ltZ (counterAt k p) (pos 1)) (λ e. rw e (signal-chained t (below-one (counterAt k p) e))) (λ e. rw e rested)
 
     -- one unit taken
     pub take-chained : ltZ (pos 0) (counterAt k p) ≡ true → Chained z k (taken k p) (takeAt p ∷ [])
@@ -256,7 +295,10 @@ module _ (z : Sizes) (g : GoodSizes z) where
       (record {
         within = h d;
         asleep = λ e. absurd (not-ready (sym (a d) ∙ e));
-        cause = λ p l e. absurd (not-queued (sym (a d) ∙ eqb-true (threadAt k (holderAt k r) .state) queued (both-means (eqb (threadAt k (holderAt k r) .state) queued) (eqb (threadAt k (holderAt k r) .place) p) e .0)));
+        cause =
+            λ p l e. absurd (not-queued
+            (sym (a d) ∙ eqb-true (threadAt k (holderAt k r) .state) queued
+            (both-means (eqb (threadAt k (holderAt k r) .state) queued) (eqb (threadAt k (holderAt k r) .place) p) e .0)));
       }))
     where
       not-ready : suspended ≡ ready → ⊥
@@ -307,7 +349,8 @@ module _ (z : Sizes) (g : GoodSizes z) where
   unfolding eventWaited
   event-wait-chained k i c s l f e w =
       split (eqb (bitAnd (threadAt k i .pending) (c .operand)) 0)
-      (λ b. rw b (block-chained k i awaiting nowhere c (rw e) (rw e) (λ t. w t (eqb-true (bitAnd (threadAt k i .pending) (c .operand)) 0 b)) (inr (l, f))))
+      (λ b. rw b (block-chained k i awaiting nowhere c (rw e) (rw e)
+      (λ t. w t (eqb-true (bitAnd (threadAt k i .pending) (c .operand)) 0 b)) (inr (l, f))))
       (λ b. rw b (take-flags-chained k i (c .operand) l s (f .is-ready) (f .answers ok) (f .unpromised)))
 
   -- who awaits events leaves neither a place nor a reference
@@ -324,7 +367,8 @@ module _ (z : Sizes) (g : GoodSizes z) where
       ∙ ap (λ (x : Thread). withWoken (withThread (withThread k i t) i (readied x ok)) i) (thread-same k i t h)
       ∙ ap placed (set-set (k .threads) i t (readied t ok) ∙ sym (set-set (k .threads) i (readied (threadAt k i) ok) (readied t ok)))
       ∙ sym (ap (λ (x : Kernel). withThread x i (withPending (threadAt (woken k i ok) i) f)) (wake-alone k i ok e)
-      ∙ ap (λ (x : Thread). withThread (withWoken (withThread k i (readied (threadAt k i) ok)) i) i (withPending x f)) (wake-row k i ok h))
+      ∙ ap (λ (x : Thread). withThread (withWoken (withThread k i (readied (threadAt k i) ok)) i) i (withPending x f))
+      (wake-row k i ok h))
     where
       t : Thread
       t = withPending (threadAt k i) f
@@ -341,10 +385,12 @@ module _ (z : Sizes) (g : GoodSizes z) where
           }
 
   -- 13: "the flags of a are ORed to those pending"; "if its state is awaiting events, for any of them, it is made ready"
-  pub event-signal-chained : (k : Kernel) (i mask : ℕ) → Sized k → i < n → GoodThread z (threadAt k i) → Chained z k (eventSignalled k i mask) []
+  pub event-signal-chained : (k : Kernel) (i mask : ℕ) → Sized k → i < n → GoodThread z (threadAt k i)
+      → Chained z k (eventSignalled k i mask) []
   unfolding eventSignalled
   event-signal-chained k i mask s l t =
-      split (isMet (flagged (threadAt k i) mask)) (λ e. rw e (met e)) (λ e. rw e (flags-chained k i (bitOr (threadAt k i .pending) mask) (unmet e)))
+      split (isMet (flagged (threadAt k i) mask)) (λ e. rw e (met e))
+      (λ e. rw e (flags-chained k i (bitOr (threadAt k i .pending) mask) (unmet e)))
     where
       here : i < length (k .threads)
       here = omega (arith, s .threads, g .threads .1)
@@ -377,13 +423,17 @@ module _ (z : Sizes) (g : GoodSizes z) where
           let s1 = sized-kept (wake-sizes k i ok) s in
           let s2 = sized-kept (thread-sizes after-wake i (withPending (threadAt after-wake i) f)) s1 in
           let toldrow : threadAt told i ≡ withPending (readied (threadAt k i) ok) f =
-          thread-same after-wake i (withPending (threadAt after-wake i) f) (omega (arith, s1 .threads, g .threads .1)) ∙ ap (λ (x : Thread). withPending x f) row in
+          thread-same after-wake i (withPending (threadAt after-wake i) f) (omega (arith, s1 .threads, g .threads .1)) ∙ ap
+          (λ (x : Thread). withPending x f) row in
           rw (told-woken k i f here a)
           (after (wake-chained k i ok
           (record {
             within = l;
             asleep = λ r. absurd (not-ready (sym a ∙ r));
-            cause = λ p h q. absurd (not-queued (sym a ∙ eqb-true (threadAt k i .state) queued (both-means (eqb (threadAt k i .state) queued) (eqb (threadAt k i .place) p) q .0)));
+            cause =
+                λ p h q. absurd (not-queued
+                (sym a ∙ eqb-true (threadAt k i .state) queued
+                (both-means (eqb (threadAt k i .state) queued) (eqb (threadAt k i .place) p) q .0)));
           }))
           (after (flags-chained after-wake i f (λ r. absurd (ready-not (sym (ap (λ (x : Thread). x .state) row) ∙ r))))
           (take-flags-chained told i (threadAt k i .awaited) l s2 (ap (λ (x : Thread). x .state) toldrow)

@@ -28,7 +28,19 @@ use Rattle.kernel.proofs.Cases.{split, same-or, contrary, both-means, second-fa
 use Rattle.kernel.proofs.WalkLaws.{First, count-agree, count-change, count-some}
 use Rattle.kernel.proofs.CountersLaws.{debt-below, up-exact, down-not-above}
 use Rattle.kernel.proofs.TablesLaws.{used-all, thread-kept, counter-same, counter-other}
-use Rattle.kernel.proofs.MovesLaws.{wake-row, wake-others, wake-counter, wake-counter-others, wake-sizes, sleep-row, sleep-others, sleep-counter, finish-row, finish-others, finish-counters}
+use Rattle.kernel.proofs.MovesLaws.{
+  wake-row,
+  wake-others,
+  wake-counter,
+  wake-counter-others,
+  wake-sizes,
+  sleep-row,
+  sleep-others,
+  sleep-counter,
+  finish-row,
+  finish-others,
+  finish-counters,
+}
 use Rattle.kernel.proofs.WaitersLaws.{waits, queued-place}
 use Rattle.kernel.proofs.TickingLaws.{aged, aged-last, aged-counted, tick-row, tick-keeps}
 use Rattle.library.specs.declared.sizes.Sizes.{Sizes}
@@ -39,8 +51,45 @@ use Rattle.promises.specs.Good.{GoodSizes, GoodThread}
 use Rattle.promises.specs.Tallies.{Tallies, wake-tallies, row-tallies}
 use Rattle.promises.specs.CounterRule.{pool-place}
 use Rattle.promises.specs.PoolKept.{stock}
-use Rattle.promises.specs.Story.{Event, woke, sleepIn, endWith, tick, countOff, signalAt, takeAt, endStep, countIn, each-kind, waits-unready}
-use Rattle.promises.specs.Chain.{Waken, Sleeper, Finisher, Hander, Sound, Chain, stop, wakes, passes, raises, ages, sleeps, takes, sets, finishes, hands, answers, flags, begins, tickEvent, tickThen, chain-sound, queued-unready}
+use Rattle.promises.specs.Story.{
+  Event,
+  woke,
+  sleepIn,
+  endWith,
+  tick,
+  countOff,
+  signalAt,
+  takeAt,
+  endStep,
+  countIn,
+  each-kind,
+  waits-unready,
+}
+use Rattle.promises.specs.Chain.{
+  Waken,
+  Sleeper,
+  Finisher,
+  Hander,
+  Sound,
+  Chain,
+  stop,
+  wakes,
+  passes,
+  raises,
+  ages,
+  sleeps,
+  takes,
+  sets,
+  finishes,
+  hands,
+  answers,
+  flags,
+  begins,
+  tickEvent,
+  tickThen,
+  chain-sound,
+  queued-unready,
+}
 
 abbrev pub isSignal : ℕ → Event → Bool
 isSignal p (woke i m) = false
@@ -208,7 +257,12 @@ module _ (z : Sizes) (g : GoodSizes z) (q : ℕ) (there : q < z .pools) where
       omega (
         arith,
         stocks (place k s .0),
-        rw (w .unpromised, sleep-row k i st pl c low-row (row-in k s i (w .within)), unready-unpromised (asleep (threadAt k i) st pl c) (waits-unready (c .kind) (w .fits .kind)))
+        rw (
+          w .unpromised,
+          sleep-row k i st pl c low-row (row-in k s i (w .within)),
+          unready-unpromised
+              (asleep (threadAt k i) st pl c) (waits-unready (c .kind) (w .fits .kind)),
+        )
             at (count-change (λ j. promisedBy q (threadAt (slept k i st pl c) j)) (λ j. promisedBy q (threadAt k j)) n i (w .within)
             (λ j h e. ap (promisedBy q) (sleep-others k i st pl c j e))),
       )

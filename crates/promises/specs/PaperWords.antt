@@ -24,7 +24,36 @@ use Rattle.kernel.proofs.WalkLaws.{None}
 use Rattle.kernel.proofs.TablesLaws.{wokenAt, finishedAt, Sized, sized-kept, used-all, counter-same, counter-other}
 use Rattle.kernel.proofs.CountersLaws.{up-exact, down-exact}
 use Rattle.kernel.proofs.WaitersLaws.{waits, queued-place, first-waiter-cases}
-use Rattle.kernel.proofs.MovesLaws.{wake-row, wake-others, wake-counter, wake-counter-others, wake-holder, wake-flag, wake-flag-others, wake-finished, wake-answer, sleep-row, sleep-others, sleep-woken, sleep-finished, sleep-answer, sleep-counter, sleep-counter-others, sleep-holder, sleep-holder-others, sleep-sizes, finish-interrupt, finish-answer, finish-row, finish-others, finish-flag, finish-flag-others, finish-woken, finish-counters, finish-references}
+use Rattle.kernel.proofs.MovesLaws.{
+  wake-row,
+  wake-others,
+  wake-counter,
+  wake-counter-others,
+  wake-holder,
+  wake-flag,
+  wake-flag-others,
+  wake-finished,
+  wake-answer,
+  sleep-row,
+  sleep-others,
+  sleep-woken,
+  sleep-finished,
+  sleep-answer,
+  sleep-counter,
+  sleep-counter-others,
+  sleep-holder,
+  sleep-holder-others,
+  sleep-sizes,
+  finish-interrupt,
+  finish-answer,
+  finish-row,
+  finish-others,
+  finish-flag,
+  finish-flag-others,
+  finish-woken,
+  finish-counters,
+  finish-references,
+}
 
 -- ---- what becomes of one thread's record: t before, u after
 
@@ -335,7 +364,8 @@ module _ (k : Kernel) (z : Sized k) (i : ℕ) (m : ℤ) (d : ℕ) where
       }
 
 -- an answer after a change of one counter
-pub counter-answered : {k h : Kernel} {i : ℕ} {m : ℤ} {d : ℕ} (p : ℕ) (c : ℤ) → Answered (withCounter k p c) h i m d → Answered k h i m d
+pub counter-answered : {k h : Kernel} {i : ℕ} {m : ℤ} {d : ℕ} (p : ℕ) (c : ℤ) → Answered (withCounter k p c) h i m d
+    → Answered k h i m d
 counter-answered p c a =
     record {
       row = a .row;

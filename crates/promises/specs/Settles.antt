@@ -206,7 +206,8 @@ module _ (n : ℕ) (few : n ≤ 16) (k : Kernel) (sized : Sized k) (i : ℕ) (wi
         arith,
         rw (wake-row k i m here) at (count-change (λ j. hasCall (threadAt (woken k i m) j)) (λ j. hasCall (threadAt k j)) n i within
             (λ j l d. ap hasCall (wake-others k i m j d))),
-        count-change (λ j. isDue (threadAt (woken k i m) j)) (λ j. isDue (threadAt k j)) n i within (λ j l d. ap isDue (wake-others k i m j d)),
+        count-change (λ j. isDue (threadAt (woken k i m) j)) (λ j. isDue (threadAt k j)) n i within
+            (λ j l d. ap isDue (wake-others k i m j d)),
         bit-le (isDue (threadAt (woken k i m) i)),
       )
 
@@ -219,7 +220,12 @@ module _ (n : ℕ) (few : n ≤ 16) (k : Kernel) (sized : Sized k) (i : ℕ) (wi
           rw (finish-row k i m d someone here, ne-eqb (threadAt k i .call .kind) 0 unfinished)
               at (count-change (λ j. hasCall (threadAt (finished k i m d) j)) (λ j. hasCall (threadAt k j)) n i within
               (λ j l x. ap hasCall (finish-others k i m d j x))),
-          rw (finish-row k i m d someone here, eq-eqb (threadAt k i .state) ready is-ready, ne-eqb (threadAt k i .call .kind) 0 unfinished)
+          rw (
+            finish-row k i m d someone here,
+            eq-eqb (threadAt k i .state) ready is-ready,
+            ne-eqb
+                (threadAt k i .call .kind) 0 unfinished,
+          )
               at (count-change (λ j. isDue (threadAt (finished k i m d) j)) (λ j. isDue (threadAt k j)) n i within
               (λ j l x. ap isDue (finish-others k i m d j x))),
         )
@@ -234,7 +240,12 @@ module _ (n : ℕ) (few : n ≤ 16) (k : Kernel) (sized : Sized k) (i : ℕ) (wi
               at (count-change (λ j. hasCall (threadAt (slept k i queued p c) j)) (λ j. hasCall (threadAt k j)) n i within
               (λ j l x. ap hasCall (sleep-others k i queued p c j x))),
           bit-le (hasCall (threadAt (slept k i queued p c) i)),
-          rw (sleep-row k i queued p c low here, eq-eqb (threadAt k i .state) ready is-ready, ne-eqb (threadAt k i .call .kind) 0 unfinished)
+          rw (
+            sleep-row k i queued p c low here,
+            eq-eqb (threadAt k i .state) ready is-ready,
+            ne-eqb
+                (threadAt k i .call .kind) 0 unfinished,
+          )
               at (count-change (λ j. isDue (threadAt (slept k i queued p c) j)) (λ j. isDue (threadAt k j)) n i within
               (λ j l x. ap isDue (sleep-others k i queued p c j x))),
         )
@@ -274,7 +285,8 @@ module _ (p : Plant) (w : Whole (p .sizes) p) (i : ℕ) (d : Due (p .sizes) (p .
       omega (
         arith,
         release-weight n few k' sized q ok,
-        finish-weight n few (releasedFirst k' n q ok) (sized-kept (release-first-sizes k' n q ok) sized) i (d .within) (rw row (d .is-ready)) (rw row (d .unfinished)) ok x,
+        finish-weight n few (releasedFirst k' n q ok) (sized-kept (release-first-sizes k' n q ok) sized) i (d .within)
+            (rw row (d .is-ready)) (rw row (d .unfinished)) ok x,
       )
 
   finish-lighter : (m : ℤ) (x : ℕ) → weight n (finished k' i m x) < weight n k'
@@ -352,7 +364,8 @@ tries-none w = record { marks = []; done = record { chained = rested; whole = w 
 continue-at : (z : Sizes) (p : Plant) → Whole z p → isSettled p ≡ false
     → Tries z p (continued p (runningIn p)) × (weight (z .threads) (continued p (runningIn p) .kernel) < weight (z .threads) (p .kernel))
 continue-at z p w e =
-    subst (λ (y : Sizes). Tries y p (continued p (runningIn p)) × (weight (y .threads) (continued p (runningIn p) .kernel) < weight (y .threads) (p .kernel)))
+    subst (λ (y : Sizes). Tries y p (continued p (runningIn p)) ×
+    (weight (y .threads) (continued p (runningIn p) .kernel) < weight (y .threads) (p .kernel)))
     (w .same)
     (let v = subst (λ (y : Sizes). Whole y p) (sym (w .same)) w in
     let d = unsettled-due z p w e in

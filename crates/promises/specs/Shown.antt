@@ -10,6 +10,7 @@ use lib.ListN.{getD, replicate}
 use Rattle.kernel.specs.declared.clock.Clock.{Clock}
 use Rattle.kernel.specs.declared.units.Rate.the-variants.{Standard}
 use Rattle.kernel.specs.declared.records.Call.{Call}
+use Rattle.kernel.specs.declared.records.Thread.{Thread}
 use Rattle.kernel.specs.Numbers.{queued, ok, timedOut}
 use Rattle.kernel.specs.Walk.{firstFrom, allFrom, countOf}
 use Rattle.kernel.specs.Records.{blank}
@@ -151,7 +152,12 @@ signals-shown =
     }
   where
     -- thread 0 waits no more
-    first : (i : ℕ) → i < 1 → queuedAt 0 (getD (answered (readied (asleep blank queued 0 (waitCall 4294967295)) ok) (record { message = ok; datum = 0 }) ∷ (asleep blank queued 0 (waitCall 4294967295) ∷ replicate 14 blank)) i blank) ≡ false
+    rows : List Thread
+    rows =
+        answered (readied (asleep blank queued 0 (waitCall 4294967295)) ok) (record { message = ok; datum = 0 })
+        ∷ (asleep blank queued 0 (waitCall 4294967295) ∷ replicate 14 blank)
+
+    first : (i : ℕ) → i < 1 → queuedAt 0 (getD rows i blank) ≡ false
     first zero l = refl
     first (suc i) l = absurd (omega arith)
 
@@ -197,11 +203,17 @@ demand-3c-pools-shown =
 
 -- ---- as the results show it: a sleep of one tick, then the tick
 
-pub ticks-wake-shown : someResult (λ o. maskBit 0 (o .woken)) (ran (ran t₀ c₀ (waits 0 1 ∷ []) .tables) (ran t₀ c₀ (waits 0 1 ∷ []) .clock) (ticks ∷ []) .outcomes) ≡ true
+abbrev t₃ : Tables
+t₃ = ran t₀ c₀ (waits 0 1 ∷ []) .tables
+
+abbrev c₃ : Clock
+c₃ = ran t₀ c₀ (waits 0 1 ∷ []) .clock
+
+pub ticks-wake-shown : someResult (λ o. maskBit 0 (o .woken)) (ran t₃ c₃ (ticks ∷ []) .outcomes) ≡ true
 unfolding firstFrom allFrom countOf firstReady firstWaiter takenOff putOn woken slept finished blocked enqueued releasedFirst releasedAll taken waited signalled ticked sizesFit made waitBegun effected actedOnKernel acted continued settled callFits waitFits ticksFit flagsFit rowFits rowsFit queuedCount countersFit holderFits referencesFit positionsFit mailboxesFit promisedCount occurrences entriesFit objectsFit poolFits poolsFit runningFree hangsTogether refusalOf maskOf outcomeOf doneWith refusedWith stepped ran countIn ticksIn signalsIn
 ticks-wake-shown =
-    ticks-wake (ran t₀ c₀ (waits 0 1 ∷ []) .tables) (ran t₀ c₀ (waits 0 1 ∷ []) .clock) (run-hangs t₀ c₀ (waits 0 1 ∷ []) (made-hang two Standard made-shown))
-    (ticks ∷ []) 0 (omega arith) (omega arith) (omega arith) (le-refl 1)
+    ticks-wake t₃ c₃ (run-hangs t₀ c₀ (waits 0 1 ∷ []) (made-hang two Standard made-shown)) (ticks ∷ []) 0 (omega arith) (omega arith)
+    (omega arith) (le-refl 1)
 
 -- ---- demand 2: an accepted step
 

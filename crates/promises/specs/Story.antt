@@ -131,7 +131,8 @@ Because t m = (p : ℕ) → p < 20 → queuedAt p t ≡ true → (m ≡ ok) ⊎ 
 pub data Story (z : Sizes) (i : ℕ) (u : Thread) : Thread → List Event → Type 0 where
   rests : Story z i u u []
   apart : {t : Thread} {es : List Event} (e : Event) → isOf i e ≡ false → Story z i u t es → Story z i u t (e ∷ es)
-  rouses : {t : Thread} {es : List Event} (m : ℤ) → t .state ≢ ready → Because t m → Story z i u (readied t m) es → Story z i u t (woke i m ∷ es)
+  rouses : {t : Thread} {es : List Event} (m : ℤ) → t .state ≢ ready → Because t m → Story z i u (readied t m) es
+      → Story z i u t (woke i m ∷ es)
   dozes : {t : Thread} {es : List Event} (c : Call) → t .state ≡ ready → CallFits z c
       → (waitState (c .kind) ≡ awaiting → bitAnd (t .pending) (awaitedBy c) ≡ 0) → Again t c
       → Story z i u (asleepIn t c) es → Story z i u t (sleepIn i c ∷ es)
@@ -142,7 +143,8 @@ pub data Story (z : Sizes) (i : ℕ) (u : Thread) : Thread → List Event → Ty
       → Story z i u (withPending t f) es → Story z i u t es
 
 -- one story after another
-pub story-then : {z : Sizes} {i : ℕ} {u v t : Thread} {es fs : List Event} → Story z i v t es → Story z i u v fs → Story z i u t (es ++ fs)
+pub story-then : {z : Sizes} {i : ℕ} {u v t : Thread} {es fs : List Event} → Story z i v t es → Story z i u v fs
+    → Story z i u t (es ++ fs)
 story-then rests d = d
 story-then (apart e n s) d = apart e n (story-then s d)
 story-then (rouses m n b s) d = rouses m n b (story-then s d)
@@ -171,7 +173,8 @@ each-kind P a b c d e f g h i j n (inr (inr (inr (inr (inr (inr k)))))) = rw k j
 
 pub kind-some : (n : ℕ) → CallKind n → n ≢ 0
 kind-some =
-    each-kind (λ n. n ≢ 0) (omega arith) (omega arith) (omega arith) (omega arith) (omega arith) (omega arith) (omega arith) (omega arith)
+    each-kind (λ n. n ≢ 0) (omega arith) (omega arith) (omega arith) (omega arith) (omega arith) (omega arith) (omega arith)
+    (omega arith)
     (omega arith) (omega arith)
 
 not-awaiting : ready ≡ awaiting → ⊥
@@ -199,7 +202,8 @@ readied-good z t m g =
 -- no kind of call sleeps ready
 pub waits-unready : (n : ℕ) → CallKind n → waitState n ≢ ready
 waits-unready =
-    each-kind (λ n. waitState n ≢ ready) (omega arith) (omega arith) (omega arith) (omega arith) (omega arith) (omega arith) (omega arith)
+    each-kind (λ n. waitState n ≢ ready) (omega arith) (omega arith) (omega arith) (omega arith) (omega arith) (omega arith)
+    (omega arith)
     (omega arith) (omega arith) (omega arith)
 
 -- "else 1 to the call's timeout"
@@ -209,7 +213,8 @@ ticks-timed t n = rw (ne-eqb t infinite n)
 ticks-infinite : (t : ℕ) → t ≡ infinite → ticksOf t ≡ 0
 ticks-infinite t e = rw (eq-eqb t infinite e)
 
-asleep-good : (z : Sizes) (t : Thread) (c : Call) → CallFits z c → (waitState (c .kind) ≡ awaiting → bitAnd (t .pending) (awaitedBy c) ≡ 0)
+asleep-good : (z : Sizes) (t : Thread) (c : Call) → CallFits z c
+    → (waitState (c .kind) ≡ awaiting → bitAnd (t .pending) (awaitedBy c) ≡ 0)
     → GoodThread z (asleepIn t c)
 asleep-good z t c f p =
     record {

@@ -22,7 +22,21 @@ use Rattle.kernel.proofs.WalkLaws.{count-le, count-agree, count-change, count-s
 use Rattle.kernel.proofs.TablesLaws.{thread-blank, thread-kept, counter-zero}
 use Rattle.kernel.proofs.CountersLaws.{debt, debt-below, up-not-above}
 use Rattle.kernel.proofs.WaitersLaws.{waits, waiters}
-use Rattle.kernel.proofs.MovesLaws.{wake-others, wake-counter, wake-counter-others, wake-debt, wake-sizes, sleep-past, sleep-row, sleep-others, sleep-debt, sleep-counter-others, sleep-sizes, finish-kept, finish-counters}
+use Rattle.kernel.proofs.MovesLaws.{
+  wake-others,
+  wake-counter,
+  wake-counter-others,
+  wake-debt,
+  wake-sizes,
+  sleep-past,
+  sleep-row,
+  sleep-others,
+  sleep-debt,
+  sleep-counter-others,
+  sleep-sizes,
+  finish-kept,
+  finish-counters,
+}
 use Rattle.kernel.proofs.QueueLaws.{release-all-keeps, wake-unqueued, wake-waiters, sleep-level}
 use Rattle.kernel.proofs.TickingLaws.{tick-keeps}
 
@@ -32,7 +46,8 @@ pub record Tallies (n p : ℕ) (k : Kernel) : Type 0 where
   pub level : 20 ≤ p → ltZ (pos 0) (counterAt k p) ≡ false
 
 -- the rule stays where nobody's wait and no counter changes
-pub same-tallies : (k h : Kernel) (n p : ℕ) → ((i : ℕ) → waits h p i ≡ waits k p i) → counterAt h p ≡ counterAt k p → Tallies n p k → Tallies n p h
+pub same-tallies : (k h : Kernel) (n p : ℕ) → ((i : ℕ) → waits h p i ≡ waits k p i) → counterAt h p ≡ counterAt k p → Tallies n p k
+    → Tallies n p h
 same-tallies k h n p w e g =
     record {
       tally = count-agree (waits h p) (waits k p) n (λ i l. w i) ∙ g .tally ∙ sym (ap debt e);
@@ -79,7 +94,8 @@ module _ (k : Kernel) (i p : ℕ) (c : Call) (n q : ℕ) (is-ready : threadAt k 
         tally = omega (
           arith,
           rw (unqueued, sleep-row k i queued p c here t)
-              at (count-change (waits (slept k i queued p c) q) (waits k q) n i h (λ j o d. ap (queuedAt q) (sleep-others k i queued p c j d))),
+              at (count-change (waits (slept k i queued p c) q) (waits k q) n i h
+              (λ j o d. ap (queuedAt q) (sleep-others k i queued p c j d))),
           g .tally,
           sleep-debt k i queued p c here refl b z few q,
         );
@@ -111,7 +127,8 @@ finish-tallies k i m d n p =
 
 module _ (k : Kernel) (n q : ℕ) where
   -- a row that waits as it did
-  pub row-tallies : (i : ℕ) (t : Thread) → ((p : ℕ) → queuedAt p t ≡ queuedAt p (threadAt k i)) → Tallies n q k → Tallies n q (withThread k i t)
+  pub row-tallies : (i : ℕ) (t : Thread) → ((p : ℕ) → queuedAt p t ≡ queuedAt p (threadAt k i)) → Tallies n q k
+      → Tallies n q (withThread k i t)
   row-tallies i t e = same-tallies k (withThread k i t) n q (thread-kept k i t (queuedAt q) (e q)) refl
 
 pub tick-tallies : (k : Kernel) (n q : ℕ) → Tallies n q k → Tallies n q (ticked k n)

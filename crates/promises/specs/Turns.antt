@@ -34,7 +34,28 @@ use Rattle.rules.specs.RowRules.{waitState, waitPlace}
 use Rattle.rules.specs.PlaceRules.{inUse}
 use Rattle.promises.specs.Good.{GoodSizes}
 use Rattle.promises.specs.Story.{Event, woke, sleepIn, endWith, tick, countOff, signalAt, takeAt, endStep}
-use Rattle.promises.specs.Chain.{Sound, Sleeper, Chain, stop, wakes, passes, raises, ages, sleeps, takes, sets, finishes, hands, answers, flags, begins, tickEvent, tickThen, chain-sound, queued-unready}
+use Rattle.promises.specs.Chain.{
+  Sound,
+  Sleeper,
+  Chain,
+  stop,
+  wakes,
+  passes,
+  raises,
+  ages,
+  sleeps,
+  takes,
+  sets,
+  finishes,
+  hands,
+  answers,
+  flags,
+  begins,
+  tickEvent,
+  tickThen,
+  chain-sound,
+  queued-unready,
+}
 use Rattle.promises.specs.Lives.{Unless}
 
 -- a thread of higher priority than i begins to wait at the place p: "Only accepted waits that really sleep"
@@ -82,7 +103,11 @@ module _ (p i : ℕ) where
   wake-less : (k : Kernel) (j : ℕ) (m : ℤ) → higher (woken k j m) p i ≤ higher k p i
   wake-less k j m =
       in-or-out j i (λ l. omega (arith, wake-waiters k j m i p l))
-      (λ l. omega (arith, count-agree (waits (woken k j m) p) (waits k p) i (λ x h. ap (queuedAt p) (wake-others k j m x (apart x h l)))))
+      (λ l. omega (
+        arith,
+        count-agree (waits (woken k j m) p) (waits k p) i
+            (λ x h. ap (queuedAt p) (wake-others k j m x (apart x h l))),
+      ))
     where
       apart : (x : ℕ) → x < i → i ≤ j → x ≢ j
       apart x h l = omega arith
@@ -91,7 +116,8 @@ module _ (p i : ℕ) where
   wake-stays k j m e = ap (queuedAt p) (wake-others k j m i (λ s. eqb-false j i e (sym s)))
 
   -- who waits first, if it is not i, is one of the higher
-  pass-less : (k : Kernel) (n j : ℕ) → First (waits k p) n j → waits k p i ≡ true → eqb j i ≡ false → higher (woken k j ok) p i + 1 ≤ higher k p i
+  pass-less : (k : Kernel) (n j : ℕ) → First (waits k p) n j → waits k p i ≡ true → eqb j i ≡ false
+      → higher (woken k j ok) p i + 1 ≤ higher k p i
   pass-less k n j f w e =
       in-or-out j i
       (λ l. omega (arith, rw (f .passes) at (wake-waiters k j ok i p l)))
@@ -112,7 +138,12 @@ module _ (p i : ℕ) where
       same-or x j
       (λ e.
       let low : j < 16 = omega (arith, w .within) in
-      rw (e, sleep-row k j (waitState (c .kind)) (waitPlace (c .kind) (c .object)) c low (omega (arith, w .within, s .threads)), w .is-ready)
+      rw (
+        e,
+        sleep-row k j (waitState (c .kind)) (waitPlace (c .kind) (c .object)) c low
+            (omega (arith, w .within, s .threads)),
+        w .is-ready,
+      )
       (n (rw e at l)))
       (λ d. ap (queuedAt p) (sleep-others k j (waitState (c .kind)) (waitPlace (c .kind) (c .object)) c x d))
 
@@ -130,12 +161,17 @@ module _ (z : Sizes) (g : GoodSizes z) (p : ℕ) (place : p < 36) (used : inUse 
   -- a tick
   tick-stays : (k : Kernel) → waits k p i ≡ true → eqb (threadAt k i .remaining) 1 ≡ false → waits (ticked k (z .threads)) p i ≡ true
   tick-stays k w e =
-      rw (tick-row k (z .threads) i (rw (used-all (z .threads) (g .threads .1)) within), aged-counted (threadAt k i) (eqb-false (threadAt k i .remaining) 1 e)) w
+      rw (
+        tick-row k (z .threads) i (rw (used-all (z .threads) (g .threads .1)) within),
+        aged-counted (threadAt k i)
+            (eqb-false (threadAt k i .remaining) 1 e),
+      ) w
 
   tick-less : (k : Kernel) → higher (ticked k (z .threads)) p i ≤ higher k p i
   tick-less k =
       count-mono (waits (ticked k (z .threads)) p) (waits k p) i
-      (λ j l e. aged-queued p i (threadAt k j) (rw (tick-row k (z .threads) j (rw (used-all (z .threads) (g .threads .1)) (omega arith))) at e))
+      (λ j l e. aged-queued p i (threadAt k j)
+      (rw (tick-row k (z .threads) j (rw (used-all (z .threads) (g .threads .1)) (omega arith))) at e))
 
   -- what a tick is to the threads
   module _ (k : Kernel) (n : ℕ) where

@@ -47,7 +47,8 @@ pub record Whole (z : Sizes) (p : Plant) : Type 0 where
   pub pools : PoolsListed p
   pub rows : length (p .pools) ≡ 4
   -- "its length is the larger of counter and 0, plus" the objects promised
-  pub lengths : (q : ℕ) → q < z .pools → poolAt p q .length ≡ stock (counterAt (p .kernel) (poolPlace q)) + promisedCount (p .kernel) (z .threads) q
+  pub lengths : (q : ℕ) → q < z .pools
+      → poolAt p q .length ≡ stock (counterAt (p .kernel) (poolPlace q)) + promisedCount (p .kernel) (z .threads) q
 
 module _ (p : Plant) where
   -- good tables of a host are such
@@ -81,7 +82,8 @@ module _ (p : Plant) where
         mailboxes = w .mailboxes;
         pools = λ q h.
             listed-good (w .pools .listed q h)
-            (length-promises (poolAt p q) (counterAt (p .kernel) (poolPlace q)) (promisedCount (p .kernel) (p .sizes .threads) q) (w .lengths q h));
+            (length-promises (poolAt p q) (counterAt (p .kernel) (poolPlace q)) (promisedCount (p .kernel) (p .sizes .threads) q)
+            (w .lengths q h));
         threads = w .kernel .rows;
       }
 
@@ -117,7 +119,9 @@ module _ (z : Sizes) (p h : Plant) (ms : List Event) (w : Whole z p) (c : Chaine
       rw (sym (c .marks), a, b, owed-is z (w .sizes) q there (h .kernel), owed-is z (w .sizes) q there (p .kernel)) e
 
   -- whole tables, with mailboxes and pools kept in step
-  pub done : h .sizes ≡ p .sizes → MailboxesGood h → length (h .mailboxes) ≡ 4 → ((m : ℕ) → m < 4 → length (mailboxAt h m .messages) ≡ 16) → PoolsListed h → length (h .pools) ≡ 4 → InStep z p h ms → Done z p h ms
+  pub done : h .sizes ≡ p .sizes → MailboxesGood h → length (h .mailboxes) ≡ 4
+      → ((m : ℕ) → m < 4 → length (mailboxAt h m .messages) ≡ 16) → PoolsListed h → length (h .pools) ≡ 4 → InStep z p h ms
+      → Done z p h ms
   done e m b x o r l =
       record {
         chained = c;
@@ -138,7 +142,11 @@ module _ (z : Sizes) (p h : Plant) (ms : List Event) (w : Whole z p) (c : Chaine
 pub kernel-done : (z : Sizes) (p : Plant) (k : Kernel) (ms : List Event) → Whole z p → Chained z (p .kernel) k ms
     → ((q : ℕ) → q < z .pools → countIn (isTake (poolPlace q)) ms ≡ countIn (isSignal (poolPlace q)) ms) → Done z p (withKernel p k) ms
 kernel-done z p k ms w c e =
-    done z p (withKernel p k) ms w c refl (w .mailboxes) (w .boxes) (w .messages) (record { listed = w .pools .listed; sized = w .pools .sized }) (w .rows)
+    done z p (withKernel p k) ms w c refl (w .mailboxes) (w .boxes) (w .messages) (record {
+      listed =
+          w .pools .listed;
+      sized = w .pools .sized;
+    }) (w .rows)
     (λ q there. ap (λ (x : ℕ). poolAt p q .length + x) (e q there))
 
 -- ---- whose step it is
@@ -166,7 +174,8 @@ stepper-caller z k i (inl e) = inl e
 stepper-caller z k i (inr a) = inr (a .0, idle-free (threadAt k i) (a .1))
 
 -- and stays so while it does not sleep
-pub stepper-kept : (z : Sizes) (k h : Kernel) (i : ℕ) (ms : List Event) → GoodSizes z → Sound z k → Chained z k h ms → countIn (isSlept i) ms ≡ 0
+pub stepper-kept : (z : Sizes) (k h : Kernel) (i : ℕ) (ms : List Event) → GoodSizes z → Sound z k → Chained z k h ms
+    → countIn (isSlept i) ms ≡ 0
     → Stepper z k i → Stepper z h i
 stepper-kept z k h i ms g s c o (inl e) = inl e
 stepper-kept z k h i ms g s c o (inr a) =
