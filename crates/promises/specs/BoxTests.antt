@@ -17,7 +17,19 @@ use Rattle.library.specs.Sizes.{slotsAt}
 use Rattle.library.specs.Tables.{mailboxAt, poolAt}
 use Rattle.library.specs.Pool.{absent, free, out, listedAt, markAt}
 use Rattle.rules.specs.MailboxRules.{inRing, follows, positionsFit, mailboxFits, mailboxesFit}
-use Rattle.rules.specs.PoolRules.{promisedCount, occurrences, entriesFit, objectFits, objectAgrees, objectsFit, larger, lengthFits, poolFits, poolAgrees, poolsFit}
+use Rattle.rules.specs.PoolRules.{
+  promisedCount,
+  occurrences,
+  entriesFit,
+  objectFits,
+  objectAgrees,
+  objectsFit,
+  larger,
+  lengthFits,
+  poolFits,
+  poolAgrees,
+  poolsFit,
+}
 use Rattle.promises.specs.Tests.{all-at, all-of, used-all, same-means, same-of, sum-of, difference-of}
 use Rattle.promises.specs.Good.{GoodSizes, GoodMailbox, GoodPool}
 
@@ -42,7 +54,8 @@ module _ (q : Positions) (slots : ℕ) where
   unfolding positionsFit
   good-positions g =
       both-true
-      (both-true (le-leb (q .count) slots (g .count)) (both-true (lt-ltb (q .read) slots (g .read)) (lt-ltb (q .write) slots (g .write))))
+      (both-true (le-leb (q .count) slots (g .count))
+      (both-true (lt-ltb (q .read) slots (g .read)) (lt-ltb (q .write) slots (g .write))))
       (both-true (lt-ltb 0 slots (some (g .read))) (eq-eqb (q .write) ((q .read + q .count) % slots) (g .follows)))
     where
       some : q .read < slots → 0 < slots

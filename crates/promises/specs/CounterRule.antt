@@ -148,7 +148,9 @@ module _ (k : Kernel) (z : Sizes) (s : GoodSizes z) where
   tally-counters g =
       record {
         semaphores = λ i h. let x = semaphore-place i h in semaphore-of i (g i (omega (arith, x .0)) (x .1));
-        pools = λ i h. let x = pool-place i h (poolPlace i) refl in semaphore-of (poolPlace i) (g (poolPlace i) (omega (arith, x .1 .0)) (x .1 .1));
+        pools =
+            λ i h. let x =
+            pool-place i h (poolPlace i) refl in semaphore-of (poolPlace i) (g (poolPlace i) (omega (arith, x .1 .0)) (x .1 .1));
         queues = λ i h.
             let x = queue-place i h (queuePlace i) refl in
             queue-of (queuePlace i) (x .0) (g (queuePlace i) (omega (arith, x .1 .0)) (x .1 .1));

@@ -175,7 +175,8 @@ module _ (y : Sizes) (r : Rate) (legal : made y r .code ≡ 0) where
         → 1 ≤ call .timeout → call .timeout ≤ 4294967294 → WokenWithin i (call .timeout) after
     demand-3a = sleeps-end t₀ c₀ (made-hang y r legal) ss h i (in-sizes within)
 
-    -- DEMAND 3 b: "each sleep ends at most once, at its first waking, with that waking's message", which the record holds until the call is continued
+    -- DEMAND 3 b: "each sleep ends at most once, at its first waking, with that waking's message", which the record holds until the call
+    -- is continued
     pub demand-3b : Lives atWork (ownEvents i (h .events))
         × InMode (modeAfter atWork (ownEvents i (h .events))) (threadAt (opened (ran t₀ c₀ ss .tables) .kernel) i)
     demand-3b = one-waking t₀ c₀ (made-hang y r legal) ss h i (in-sizes within) atWork (made-idle y r i)

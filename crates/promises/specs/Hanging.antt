@@ -34,7 +34,17 @@ use Rattle.rules.specs.MailboxRules.{mailboxesFit}
 use Rattle.rules.specs.PoolRules.{occurrences, promisedBy, promisedCount, poolsFit}
 use Rattle.rules.specs.Hanging.{runningFree, hangsTogether}
 use Rattle.promises.specs.Tests.{all-at, all-of, used-all}
-use Rattle.promises.specs.Good.{GoodSizes, GoodThread, SemaphoreCounter, QueueCounter, GoodReferences, GoodMailbox, GoodPool, Good, HangTogether}
+use Rattle.promises.specs.Good.{
+  GoodSizes,
+  GoodThread,
+  SemaphoreCounter,
+  QueueCounter,
+  GoodReferences,
+  GoodMailbox,
+  GoodPool,
+  Good,
+  HangTogether,
+}
 use Rattle.promises.specs.RowTests.{row-good, good-row}
 use Rattle.promises.specs.PlaceTests.{sizes-good, good-sizes, counters-good, good-counters, references-good, good-references}
 use Rattle.promises.specs.BoxTests.{mailboxes-good, good-mailboxes, pools-good, good-pools}

@@ -1,5 +1,5 @@
--- Demand 3 of one thread, as laws of its story: a timed sleep ends by its last tick; between two sleeps there is exactly one waking, the call
--- answers from that waking's message, and the record holds that message until the call is continued.
+-- Demand 3 of one thread, as laws of its story: a timed sleep ends by its last tick; between two sleeps there is exactly one waking,
+-- the call answers from that waking's message, and the record holds that message until the call is continued.
 use Prim.Native.Nat.{ℕ, zero, suc, _+_, _-_, _≤_, _<_}
 use native.Mathlib.Omega.{arith}
 use mathlib.Core.Path.{_≡_, refl, sym, ap, _∙_}

@@ -46,11 +46,44 @@ use Rattle.promises.specs.CounterRule.{counters-tally, semaphore-place, 
 use Rattle.promises.specs.Accepting.{Accepted, refusal-none, waits-thread}
 use Rattle.promises.specs.PaperWords.{OnlyAnswered, WokeFrom, SleptAt, HighestWaiter, NoWaiter, freshKernel, fresh-sized}
 use Rattle.promises.specs.PaperSteps.{atOnce, at-once-answers, keptCall, Rows, rows}
-use Rattle.promises.specs.PaperQueues.{rule-high, rule-below, ReleasedAll, queue-wait-now, queue-wait-sleeps, release-first-highest, release-first-empty, release-all-all}
-use Rattle.promises.specs.PaperSemaphores.{TookOne, OnlyRaised, ResetTo, not-most, wait-takes, wait-now, wait-sleeps, signal-wakes, signal-finds, signal-raises, reset-resets, binary-signals, binary-stays}
+use Rattle.promises.specs.PaperQueues.{
+  rule-high,
+  rule-below,
+  ReleasedAll,
+  queue-wait-now,
+  queue-wait-sleeps,
+  release-first-highest,
+  release-first-empty,
+  release-all-all,
+}
+use Rattle.promises.specs.PaperSemaphores.{
+  TookOne,
+  OnlyRaised,
+  ResetTo,
+  not-most,
+  wait-takes,
+  wait-now,
+  wait-sleeps,
+  signal-wakes,
+  signal-finds,
+  signal-raises,
+  reset-resets,
+  binary-signals,
+  binary-stays,
+}
 use Rattle.promises.specs.PaperReferences.{SuspendedIn, suspend-now, suspend-sleeps, ResumedFrom, resume-holder, resume-empty}
 use Rattle.promises.specs.PaperDelays.{SleptFor, sleep-for-sleeps, sleep-until-sleeps}
-use Rattle.promises.specs.PaperEvents.{OnlyFlagged, FlagsCame, signal-flags, signal-comes, OnlyTook, Awaits, event-wait-takes, event-wait-now, event-wait-sleeps}
+use Rattle.promises.specs.PaperEvents.{
+  OnlyFlagged,
+  FlagsCame,
+  signal-flags,
+  signal-comes,
+  OnlyTook,
+  Awaits,
+  event-wait-takes,
+  event-wait-now,
+  event-wait-sleeps,
+}
 use Rattle.promises.specs.PaperTick.{leavers, tick-counter, Ticked, tick-ticks}
 use Rattle.promises.specs.PaperMailboxes.{BoxesKept, kernel-only, PlantAnswered, freshPlant}
 use Rattle.promises.specs.PaperRefusals.{stepOf, accepted-example}
@@ -218,7 +251,8 @@ module _ (p : Plant) (c : Clock) (s : Step) (z : Sized (p .kernel)) (e : refusal
     signal-step-wakes b =
         let there : o < p .sizes .semaphores = rw kind at (a .object) in (
           signal-finds k z n o few (in-semaphores there .1) b,
-          kernel-done p h (signalled k n o) i (λ x. WokeFrom k x (firstWaiter k n o) o (pos 0)) z (signal-sizes k n o) (wakes-one there b)
+          kernel-done p h (signalled k n o) i (λ x. WokeFrom k x (firstWaiter k n o) o (pos 0)) z (signal-sizes k n o)
+              (wakes-one there b)
               (row .signal kind),
         )
 
@@ -340,7 +374,8 @@ module _ (p : Plant) (c : Clock) (s : Step) (z : Sized (p .kernel)) (e : refusal
     -- "resume of an empty reference does nothing"
     pub resume-step-empty : holderAt k o ≡ nobody → KernelDone p h i (λ x. x ≡ k)
     resume-step-empty e =
-        kernel-done p h (resumed k o (messageOf s)) i (λ x. x ≡ k) z (resume-sizes k o (messageOf s)) (resume-empty k z o (messageOf s) e)
+        kernel-done p h (resumed k o (messageOf s)) i (λ x. x ≡ k) z (resume-sizes k o (messageOf s))
+        (resume-empty k z o (messageOf s) e)
         (row .resume kind)
 
   -- ---- 11, 12: sleep for and until

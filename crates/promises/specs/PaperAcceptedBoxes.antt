@@ -39,8 +39,52 @@ use Rattle.promises.specs.PaperWords.{OnlyAnswered, WokeFrom, HighestWai
 use Rattle.promises.specs.PaperSteps.{atOnce, keptCall, Rows, rows}
 use Rattle.promises.specs.PaperQueues.{rule-high, rule-below}
 use Rattle.promises.specs.PaperSemaphores.{OnlyRaised, not-most}
-use Rattle.promises.specs.PaperMailboxes.{BoxThere, good-box, PlantAnswered, PlantSlept, Served, positionsAt, PutBehind, PutAhead, MessageTaken, post-in-reset, post-behind, post-ahead, post-serves, post-lone, post-now, post-sleeps, fetch-in-reset, fetch-takes, fetch-serves, fetch-lone, fetch-now, fetch-sleeps, ReleasedBoth, BoxEmptied, reset-empties, reset-releases, reset-writers-zero, reset-readers-zero, BoxResumed, resume-clears, freshPlant}
-use Rattle.promises.specs.PaperPools.{PoolThere, good-pool-there, counter-stocked, Allocated, alloc-takes, alloc-now, alloc-sleeps, OnTop, put-back-tops, put-back-wakes, put-back-raises}
+use Rattle.promises.specs.PaperMailboxes.{
+  BoxThere,
+  good-box,
+  PlantAnswered,
+  PlantSlept,
+  Served,
+  positionsAt,
+  PutBehind,
+  PutAhead,
+  MessageTaken,
+  post-in-reset,
+  post-behind,
+  post-ahead,
+  post-serves,
+  post-lone,
+  post-now,
+  post-sleeps,
+  fetch-in-reset,
+  fetch-takes,
+  fetch-serves,
+  fetch-lone,
+  fetch-now,
+  fetch-sleeps,
+  ReleasedBoth,
+  BoxEmptied,
+  reset-empties,
+  reset-releases,
+  reset-writers-zero,
+  reset-readers-zero,
+  BoxResumed,
+  resume-clears,
+  freshPlant,
+}
+use Rattle.promises.specs.PaperPools.{
+  PoolThere,
+  good-pool-there,
+  counter-stocked,
+  Allocated,
+  alloc-takes,
+  alloc-now,
+  alloc-sleeps,
+  OnTop,
+  put-back-tops,
+  put-back-wakes,
+  put-back-raises,
+}
 use Rattle.promises.specs.PaperRefusals.{stepOf, accepted-example}
 use Rattle.promises.specs.PaperAccepted.{DoneAtOnce, done, whole, few, tallies, caller-runs, waiter-apart}
 
@@ -155,8 +199,10 @@ module _ (p : Plant) (c : Clock) (s : Step) (z : PlantSized p) (e : refusalOf p 
         pub post-step-serves : (j : ℕ) → HighestWaiter k n (readersPlace o) j → Served k (h .kernel) j i (readersPlace o) 0
         post-step-serves j w =
             rw posts
-            (post-serves p i call15 (there posts-to) works room (z .kernel) most j w (waiter-apart p c s (z .kernel) e (readersPlace o) j w)
-            (not-most (counterAt k (readersPlace o)) (rule-below k n (readersPlace o) j (readers-tally posts-to) (w .thread) (w .waits))))
+            (post-serves p i call15 (there posts-to) works room (z .kernel) most j w
+            (waiter-apart p c s (z .kernel) e (readersPlace o) j w)
+            (not-most (counterAt k (readersPlace o))
+            (rule-below k n (readersPlace o) j (readers-tally posts-to) (w .thread) (w .waits))))
 
         -- or the call finishes, and that is all
         pub post-step-lone : NoWaiter k n (readersPlace o) → OnlyAnswered k (h .kernel) i (pos 0) 0

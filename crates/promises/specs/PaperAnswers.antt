@@ -46,7 +46,17 @@ use Rattle.library.specs.Ring.{noSlot, fetched}
 use Rattle.library.specs.Tables.{opened, mailboxAt, poolAt}
 use Rattle.library.specs.Fresh.{freshTables}
 use Rattle.library.specs.Binary.{binarySignalled}
-use Rattle.library.specs.Mailbox.{messageAt, placedFor, postDone, postTried, fetchDone, fetchTried, bothReleased, mailboxReset, mailboxResumed}
+use Rattle.library.specs.Mailbox.{
+  messageAt,
+  placedFor,
+  postDone,
+  postTried,
+  fetchDone,
+  fetchTried,
+  bothReleased,
+  mailboxReset,
+  mailboxResumed,
+}
 use Rattle.library.specs.Pool.{topOf, handedOver, allocTried, putBack}
 use Rattle.library.specs.Acting.{messageOf, waitBegun, effected, kernelWaits, actedOnKernel, boxEffected, actedOnBox, acted}
 use Rattle.library.specs.Settling.{answeredOnly, continued, runningIn, isSettled, settled}
@@ -203,7 +213,8 @@ module _ (j : ℕ) (a : Answer) (p : Plant) (r : Rests j a (p .kernel)) where
     unfolding waitBegun enqueued suspendedOn sleptFor sleptUntil
     begun-rests =
         chosen (Rests j a) (eqb (s .kind) 2) (λ e. wait-rests j a k r (s .caller) other (s .object) (callOf s))
-        (λ e2. chosen (Rests j a) (eqb (s .kind) 6) (λ e. block-rests j a k r (s .caller) other queued (queuePlace (s .object)) (callOf s))
+        (λ e2. chosen (Rests j a) (eqb (s .kind) 6)
+        (λ e. block-rests j a k r (s .caller) other queued (queuePlace (s .object)) (callOf s))
         (λ e6. chosen (Rests j a) (eqb (s .kind) 9) (λ e. block-rests j a k r (s .caller) other suspended (s .object) (callOf s))
         (λ e9. chosen (Rests j a) (eqb (s .kind) 11)
         (λ e. sleep-rests j a k r (s .caller) other sleeping nowhere (forCall (record { 0 = s .timeout })))
@@ -289,7 +300,8 @@ module _ (t : Tables) (c : Clock) (s : Step) (j : ℕ) (thread : j < t .sizes .t
   pub answer-stays : (s .caller ≢ j) ⊎ (stepped t c s .outcome .code ≢ 0) → rowAt (stepped t c s .tables) j .answer ≡ rowAt t j .answer
   answer-stays (inr refused) = rw (step-refused t c s refused .tables)
   answer-stays (inl other) =
-      same-or (stepped t c s .outcome .code) 0 (λ e. rw (step-done t c s e) (unfold doneWith in settled-answer (sym (step-code t c s) ∙ e)))
+      same-or (stepped t c s .outcome .code) 0
+      (λ e. rw (step-done t c s e) (unfold doneWith in settled-answer (sym (step-code t c s) ∙ e)))
       (λ refused. rw (step-refused t c s refused .tables))
     where
       settled-answer : refusalOf (opened t) c s ≡ 0

@@ -62,4 +62,5 @@ module _ (now until : SystemTime) (a : now .0 < 2 ^ 32) (b : until .0 < 2 ^ 32) 
 
 -- at 4294967290 a sleep until 5 is one of 11 ticks
 pub until-example : SleptFor freshKernel (sleptUntil freshKernel 0 (record { 0 = 4294967290 }) (record { 0 = 5 })) 0 12 5 11
-until-example = sleep-until-sleeps freshKernel fresh-sized 0 (omega arith) (record { 0 = 4294967290 }) (record { 0 = 5 }) (λ e. omega arith)
+until-example =
+    sleep-until-sleeps freshKernel fresh-sized 0 (omega arith) (record { 0 = 4294967290 }) (record { 0 = 5 }) (λ e. omega arith)

@@ -19,8 +19,39 @@ use Rattle.kernel.specs.Event.{flagged, isMet, tookFlags, eventSignalled, event
 use Rattle.kernel.proofs.Cases.{same-or, second-fails, first-fails}
 use Rattle.kernel.proofs.TablesLaws.{wokenAt, finishedAt, Sized, sized-kept, thread-same, thread-other}
 use Rattle.kernel.proofs.MovesLaws.{wake-answer, finish-answer, sleep-sizes, block-immediate, block-sleeps}
-use Rattle.kernel.proofs.EventLaws.{took, metBy, found-or-left, take-row, take-others, take-flag, take-flag-others, take-woken, take-counters, take-references, event-signal-met, event-signal-unmet, event-signal-others, event-signal-row, event-signal-counters, event-signal-references, event-signal-flags, event-signal-woken-others, event-signal-finished-others, event-wait-found, event-wait-none}
-use Rattle.promises.specs.PaperWords.{ObjectsKept, Slept, OnlyAnswered, sleep-slept, sleep-alone, finish-only, freshKernel, fresh-sized}
+use Rattle.kernel.proofs.EventLaws.{
+  took,
+  metBy,
+  found-or-left,
+  take-row,
+  take-others,
+  take-flag,
+  take-flag-others,
+  take-woken,
+  take-counters,
+  take-references,
+  event-signal-met,
+  event-signal-unmet,
+  event-signal-others,
+  event-signal-row,
+  event-signal-counters,
+  event-signal-references,
+  event-signal-flags,
+  event-signal-woken-others,
+  event-signal-finished-others,
+  event-wait-found,
+  event-wait-none,
+}
+use Rattle.promises.specs.PaperWords.{
+  ObjectsKept,
+  Slept,
+  OnlyAnswered,
+  sleep-slept,
+  sleep-alone,
+  finish-only,
+  freshKernel,
+  fresh-sized,
+}
 
 -- ---- flags that are cleared are not there any more
 
@@ -158,7 +189,8 @@ module _ (k : Kernel) (z : Sized k) (i mask : ℕ) (here : i < 16) where
 
   -- one that awaits any of them: "at the waking, the awaited flags then pending are cleared, are the datum with message 0, and the
   -- call is finished"
-  pub signal-comes : t .state ≡ awaiting → bitAnd (bitOr (t .pending) mask) (t .awaited) ≢ 0 → FlagsCame k (eventSignalled k i mask) i mask
+  pub signal-comes : t .state ≡ awaiting → bitAnd (bitOr (t .pending) mask) (t .awaited) ≢ 0
+      → FlagsCame k (eventSignalled k i mask) i mask
   signal-comes s d =
       let thread : i ≢ nobody = omega arith in
       let told = withThread k i (flagged t mask) in
@@ -249,7 +281,8 @@ module _ (k : Kernel) (z : Sized k) (i : ℕ) (call : Call) (here : i < 16) wher
       rw (event-wait-none k i call e, block-immediate k i awaiting nowhere call t) (finish-only k z i timedOut 0)
 
   -- otherwise it awaits them: "awaited flags (an unfinished 14's mask ..)"
-  pub event-wait-sleeps : bitAnd (threadAt k i .pending) (call .operand) ≡ 0 → call .timeout ≢ 0 → Awaits k (eventWaited k i call) i call
+  pub event-wait-sleeps : bitAnd (threadAt k i .pending) (call .operand) ≡ 0 → call .timeout ≢ 0
+      → Awaits k (eventWaited k i call) i call
   event-wait-sleeps e d =
       let s = sleep-slept k z i here awaiting nowhere call in
       rw (event-wait-none k i call e, block-sleeps k i awaiting nowhere call d)

@@ -30,12 +30,44 @@ use Rattle.library.specs.Sizes.{slotsAt}
 use Rattle.library.specs.Ring.{noSlot, placeAfter, placeBefore, posted, postedAhead, fetched, emptied}
 use Rattle.library.specs.Tables.{blankMailbox, mailboxAt, poolAt, withKernel, opened}
 use Rattle.library.specs.Fresh.{freshTables}
-use Rattle.library.specs.Mailbox.{messageAt, withMessage, withPositions, withReset, placedFor, postDone, postTried, fetchDone, fetchTried, bothReleased, mailboxReset, mailboxResumed}
+use Rattle.library.specs.Mailbox.{
+  messageAt,
+  withMessage,
+  withPositions,
+  withReset,
+  placedFor,
+  postDone,
+  postTried,
+  fetchDone,
+  fetchTried,
+  bothReleased,
+  mailboxReset,
+  mailboxResumed,
+}
 use Rattle.promises.specs.Good.{GoodMailbox, Good}
 use Rattle.promises.specs.Tallies.{Tallies, release-all-tallies}
 use Rattle.promises.specs.RingKept.{after-mod, before-lt, before-mod, posted-slot, ahead-slot, fetched-slot}
-use Rattle.promises.specs.PaperWords.{MadeReady, CallFinished, OneCounter, OnlyAnswered, WokeFrom, SleptAt, Waiting, HighestWaiter, NoWaiter, finish-only}
-use Rattle.promises.specs.PaperQueues.{ReleasedAll, queue-wait-now, queue-wait-sleeps, release-first-highest, release-first-empty, release-all-all, release-all-zero}
+use Rattle.promises.specs.PaperWords.{
+  MadeReady,
+  CallFinished,
+  OneCounter,
+  OnlyAnswered,
+  WokeFrom,
+  SleptAt,
+  Waiting,
+  HighestWaiter,
+  NoWaiter,
+  finish-only,
+}
+use Rattle.promises.specs.PaperQueues.{
+  ReleasedAll,
+  queue-wait-now,
+  queue-wait-sleeps,
+  release-first-highest,
+  release-first-empty,
+  release-all-all,
+  release-all-zero,
+}
 
 -- ---- the tables
 
@@ -48,7 +80,8 @@ pub record BoxThere (p : Plant) (b : ℕ) : Type 0 where
   pub good : GoodMailbox (mailboxAt p b .positions) (slotsAt (p .sizes) b)
 
 -- such are those of tables that hang together
-pub good-box : (p : Plant) (b : ℕ) → Good p → length (p .mailboxes) ≡ 4 → length (mailboxAt p b .messages) ≡ 16 → b < p .sizes .mailboxes
+pub good-box : (p : Plant) (b : ℕ) → Good p → length (p .mailboxes) ≡ 4 → length (mailboxAt p b .messages) ≡ 16
+    → b < p .sizes .mailboxes
     → BoxThere p b
 good-box p b g four sixteen h =
     let few = g .sizes .mailboxes in
@@ -373,7 +406,8 @@ module _ (p : Plant) (i : ℕ) (call : Call) where
         unfolding fetchDone
         fetch-serves j w apart low =
             rw (message-done some)
-            (release-serves (p .kernel) z (p .sizes .threads) (writersPlace b) i nextMessage few j w apart (omega (arith, there .number)) low)
+            (release-serves (p .kernel) z (p .sizes .threads) (writersPlace b) i nextMessage few j w apart
+            (omega (arith, there .number)) low)
 
         -- no writer waits: the call finishes, and that is all
         pub fetch-lone : NoWaiter (p .kernel) (p .sizes .threads) (writersPlace b)
@@ -490,7 +524,8 @@ module _ (p : Plant) (b : ℕ) where
     reset-releases =
         both-released (p .kernel) half (releasedAll half n (readersPlace b) wasReset) n (writersPlace b) (readersPlace b) wasReset apart
         (release-all-all (p .kernel) z n (writersPlace b) wasReset few)
-        (release-all-all half (sized-kept (release-all-sizes (p .kernel) n (writersPlace b) wasReset) z) n (readersPlace b) wasReset few)
+        (release-all-all half (sized-kept (release-all-sizes (p .kernel) n (writersPlace b) wasReset) z) n
+        (readersPlace b) wasReset few)
 
     -- "with none, .. a queue exactly 0": so are both afterwards, where the counter rule held
     pub reset-writers-zero : Tallies n (writersPlace b) (p .kernel) → counterAt (mailboxReset p b .kernel) (writersPlace b) ≡ pos 0

@@ -25,7 +25,19 @@ use Rattle.library.specs.Tables.{blankPool, mailboxAt, poolAt, withKernel}
 use Rattle.library.specs.Pool.{free, listedAt, markAt, topOf, popped, pushed, handedOver, allocTried, putBack}
 use Rattle.rules.specs.PoolRules.{promisedBy, promisedCount, occurrences}
 use Rattle.promises.specs.Good.{Good}
-use Rattle.promises.specs.PoolKept.{Listed, PoolSized, good-listed, stocked, promised-stocked, Popped, Pushed, pop-kept, push-kept, alloc-above, alloc-not-above}
+use Rattle.promises.specs.PoolKept.{
+  Listed,
+  PoolSized,
+  good-listed,
+  stocked,
+  promised-stocked,
+  Popped,
+  Pushed,
+  pop-kept,
+  push-kept,
+  alloc-above,
+  alloc-not-above,
+}
 use Rattle.promises.specs.PaperWords.{ObjectsKept, OneCounter, Answered, WokeFrom, HighestWaiter, finish-only, counter-answered}
 use Rattle.promises.specs.PaperQueues.{queue-wait-now, queue-wait-sleeps}
 use Rattle.promises.specs.PaperSemaphores.{OnlyRaised, counter-taken, taken-sized, signal-wakes, signal-raises}
@@ -51,7 +63,8 @@ module _ (p : Plant) (g : Good p) (n : ℕ) (there : n < p .sizes .pools) where
   counter-stocked e = stocked (g .pools n there) e
 
   -- "plus the ready threads whose unfinished alloc was woken with 0": each of them has one
-  pub promise-stocked : (i : ℕ) → i < p .sizes .threads → threadAt (p .kernel) i .state ≡ ready → threadAt (p .kernel) i .call .kind ≡ 20
+  pub promise-stocked : (i : ℕ) → i < p .sizes .threads → threadAt (p .kernel) i .state ≡ ready
+      → threadAt (p .kernel) i .call .kind ≡ 20
       → threadAt (p .kernel) i .message ≡ pos 0 → threadAt (p .kernel) i .call .object ≡ n → 0 < poolAt p n .length
   unfolding promisedCount
   promise-stocked i h s k m o =

@@ -19,9 +19,44 @@ use Rattle.kernel.proofs.TablesLaws.{wokenAt, finishedAt, Sized, used-all}
 use Rattle.kernel.proofs.CountersLaws.{debt, debt-below, debt-exact}
 use Rattle.kernel.proofs.WaitersLaws.{waits}
 use Rattle.kernel.proofs.MovesLaws.{wake-holder, block-immediate, block-sleeps}
-use Rattle.kernel.proofs.QueueLaws.{enqueue-blocks, release-first-wakes, release-first-none, release-all-row, release-all-later, release-all-flag, release-all-flag-later, release-all-finished, release-all-answer, release-all-empties, release-all-keeps, release-all-counter-others}
+use Rattle.kernel.proofs.QueueLaws.{
+  enqueue-blocks,
+  release-first-wakes,
+  release-first-none,
+  release-all-row,
+  release-all-later,
+  release-all-flag,
+  release-all-flag-later,
+  release-all-finished,
+  release-all-answer,
+  release-all-empties,
+  release-all-keeps,
+  release-all-counter-others,
+}
 use Rattle.promises.specs.Tallies.{Tallies, release-all-tallies}
-use Rattle.promises.specs.PaperWords.{MadeReady, OnlyAnswered, WokeFrom, SleptAt, Waiting, HighestWaiter, NoWaiter, readied-made, waiting-waits, waits-waiting, waiting-not, none-waiting, highest-first, wake-woke, wake-counts, sleep-slept, sleep-counts, finish-only, twoAsleep, two-sized, two-highest}
+use Rattle.promises.specs.PaperWords.{
+  MadeReady,
+  OnlyAnswered,
+  WokeFrom,
+  SleptAt,
+  Waiting,
+  HighestWaiter,
+  NoWaiter,
+  readied-made,
+  waiting-waits,
+  waits-waiting,
+  waiting-not,
+  none-waiting,
+  highest-first,
+  wake-woke,
+  wake-counts,
+  sleep-slept,
+  sleep-counts,
+  finish-only,
+  twoAsleep,
+  two-sized,
+  two-highest,
+}
 
 -- ---- what the counter rule says of a place: the laws below ask for no more
 

@@ -13,7 +13,19 @@ use Rattle.kernel.specs.Reference.{suspendedOn, resumed}
 use Rattle.kernel.proofs.TablesLaws.{Sized, sized-kept}
 use Rattle.kernel.proofs.MovesLaws.{block-immediate, block-sleeps, sleep-sizes}
 use Rattle.kernel.proofs.ReferenceLaws.{resume-wakes, resume-none}
-use Rattle.promises.specs.PaperWords.{OneReference, Woke, Slept, OnlyAnswered, wake-woke, wake-empties, sleep-slept, sleep-holds, finish-only, freshKernel, fresh-sized}
+use Rattle.promises.specs.PaperWords.{
+  OneReference,
+  Woke,
+  Slept,
+  OnlyAnswered,
+  wake-woke,
+  wake-empties,
+  sleep-slept,
+  sleep-holds,
+  finish-only,
+  freshKernel,
+  fresh-sized,
+}
 
 -- ---- 9: suspend
 

@@ -23,7 +23,23 @@ use Rattle.kernel.proofs.QueueLaws.{enqueue-blocks}
 use Rattle.kernel.proofs.SemaphoreLaws.{signal-below, signal-not-below, wait-above, wait-not-above, reset-counter, reset-counter-others}
 use Rattle.library.specs.Binary.{binarySignalled}
 use Rattle.promises.specs.Tallies.{Tallies}
-use Rattle.promises.specs.PaperWords.{OneCounter, ThreadsKept, Answered, OnlyAnswered, WokeFrom, SleptAt, HighestWaiter, waiting-waits, waits-waiting, finish-only, counter-answered, counter-one, twoAsleep, two-sized, two-highest}
+use Rattle.promises.specs.PaperWords.{
+  OneCounter,
+  ThreadsKept,
+  Answered,
+  OnlyAnswered,
+  WokeFrom,
+  SleptAt,
+  HighestWaiter,
+  waiting-waits,
+  waits-waiting,
+  finish-only,
+  counter-answered,
+  counter-one,
+  twoAsleep,
+  two-sized,
+  two-highest,
+}
 use Rattle.promises.specs.PaperQueues.{ReleasedAll, queue-wait-now, queue-wait-sleeps, release-first-highest, release-all-all}
 
 -- ---- 2: semaphore wait

@@ -35,7 +35,15 @@ use Rattle.steps.specs.Stepping.{outcomeOf}
 use Rattle.promises.specs.Flags.{mask-digit}
 use Rattle.promises.specs.Tests.{same-means}
 use Rattle.promises.specs.PaperWords.{finish-only, freshKernel}
-use Rattle.promises.specs.PaperMailboxes.{PlantAnswered, PlantSlept, BoxThere, positionsAt, kernel-only, post-sleeps, fetch-sleeps}
+use Rattle.promises.specs.PaperMailboxes.{
+  PlantAnswered,
+  PlantSlept,
+  BoxThere,
+  positionsAt,
+  kernel-only,
+  post-sleeps,
+  fetch-sleeps,
+}
 use Rattle.promises.specs.PaperPools.{PoolThere, HandedOver, hand-over-takes}
 
 -- ---- "the running thread is the first ready one, or idle"
@@ -147,7 +155,8 @@ module _ (p : Plant) (i : ℕ) where
 
 module _ (p : Plant) where
   -- an unfinished call of the running thread is continued, and settling goes on with whoever runs then
-  pub settle-on : (n : ℕ) → threadAt (p .kernel) (runningIn p) .call .kind ≢ 0 → settled (suc n) p ≡ settled n (continued p (runningIn p))
+  pub settle-on : (n : ℕ) → threadAt (p .kernel) (runningIn p) .call .kind ≢ 0
+      → settled (suc n) p ≡ settled n (continued p (runningIn p))
   unfolding settled
   settle-on n d = rw (ne-eqb (threadAt (p .kernel) (runningIn p) .call .kind) 0 d, settled)
 

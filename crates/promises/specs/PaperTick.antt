@@ -26,7 +26,18 @@ use Rattle.kernel.proofs.TimeLaws.{advance-wraps, advance-next}
 use Rattle.kernel.proofs.CountersLaws.{up-exact, debt-below}
 use Rattle.kernel.proofs.WaitersLaws.{waits}
 use Rattle.kernel.proofs.MovesLaws.{suspendedAt, wake-counter, wake-holder}
-use Rattle.kernel.proofs.TickingLaws.{aged-last, aged-counted, aged-idle, tick-row, tick-later, tick-flag, tick-flag-later, tick-finished, tick-answer, tick-sizes}
+use Rattle.kernel.proofs.TickingLaws.{
+  aged-last,
+  aged-counted,
+  aged-idle,
+  tick-row,
+  tick-later,
+  tick-flag,
+  tick-flag-later,
+  tick-finished,
+  tick-answer,
+  tick-sizes,
+}
 use Rattle.steps.specs.Stepping.{clockAfter}
 use Rattle.promises.specs.Tallies.{Tallies}
 use Rattle.promises.specs.PaperWords.{MadeReady, readied-made, twoAsleep, two-sized}
@@ -221,7 +232,8 @@ module _ (k : Kernel) (z : Sized k) where
             let t = threadAt k n in
             let x = both-means (eqb (t .remaining) 1) (suspendedAt r t) b in
             let y = both-means (eqb (t .state) suspended) (eqb (t .place) r) (x .1) in
-            absurd (w n (omega arith) (eqb-true (t .remaining) 1 (x .0)) (eqb-true (t .state) suspended (y .0)) (eqb-true (t .place) r (y .1))))
+            absurd (w n (omega arith) (eqb-true (t .remaining) 1 (x .0)) (eqb-true (t .state) suspended (y .0))
+            (eqb-true (t .place) r (y .1))))
             (λ b. b)
 
 -- ---- the whole tick
@@ -267,4 +279,8 @@ oneTick = record { kind = 2; object = 0; operand = 0; timeout = 1 }
 pub tick-example : counterAt (ticked (twoAsleep 0 oneTick) 3) 0 ≡ pos 0
 unfolding slept putOn countOf
 tick-example =
-    tick-counter (twoAsleep 0 oneTick) (two-sized 0 oneTick) 0 (omega arith) 3 (omega arith) (record { tally = refl; level = λ l. refl })
+    tick-counter (twoAsleep 0 oneTick) (two-sized 0 oneTick) 0 (omega arith) 3 (omega arith) (record {
+      tally =
+          refl;
+      level = λ l. refl;
+    })

@@ -143,7 +143,8 @@ module _ (z : Sizes) (p : ℕ) where
 
 module _ (k : Kernel) (z : Sizes) where
   -- the counter of a place in use fits
-  agrees : countersFit k z ≡ true → (p : ℕ) → p < 36 → inUse z p ≡ true → counterFits p (counterAt k p) (queuedCount k (z .threads) p) ≡ true
+  agrees : countersFit k z ≡ true → (p : ℕ) → p < 36 → inUse z p ≡ true
+      → counterFits p (counterAt k p) (queuedCount k (z .threads) p) ≡ true
   unfolding countersFit
   agrees e p h u = rw u at (all-at (placeAgrees k z) 36 p e h)
 
@@ -163,22 +164,26 @@ module _ (k : Kernel) (z : Sizes) where
           semaphore-of i (counterAt k i) (queuedCount k (z .threads) i) (omega arith)
           (agrees e i (omega arith) (semaphore-used z i l ∙ lt-ltb i (z .semaphores) h))
 
-      pool-at : (i : ℕ) → i < 4 → i < z .pools → (p : ℕ) → p ≡ 16 + i % 256 → SemaphoreCounter (counterAt k p) (queuedCount k (z .threads) p)
+      pool-at : (i : ℕ) → i < 4 → i < z .pools → (p : ℕ) → p ≡ 16 + i % 256
+          → SemaphoreCounter (counterAt k p) (queuedCount k (z .threads) p)
       pool-at i l h p same =
           semaphore-of p (counterAt k p) (queuedCount k (z .threads) p) (omega arith)
           (agrees e p (omega arith) (pool-used z p (omega arith) (omega arith) ∙ lt-ltb (p - 16) (z .pools) (omega arith)))
 
-      queue-at : (i : ℕ) → i < 8 → i < z .queues → (p : ℕ) → p ≡ 20 + i % 256 → QueueCounter (counterAt k p) (queuedCount k (z .threads) p)
+      queue-at : (i : ℕ) → i < 8 → i < z .queues → (p : ℕ) → p ≡ 20 + i % 256
+          → QueueCounter (counterAt k p) (queuedCount k (z .threads) p)
       queue-at i l h p same =
           queue-of p (counterAt k p) (queuedCount k (z .threads) p) (omega arith)
           (agrees e p (omega arith) (queue-used z p (omega arith) (omega arith) ∙ lt-ltb (p - 20) (z .queues) (omega arith)))
 
-      writers-at : (i : ℕ) → i < 4 → i < z .mailboxes → (p : ℕ) → p ≡ 28 + i % 256 → QueueCounter (counterAt k p) (queuedCount k (z .threads) p)
+      writers-at : (i : ℕ) → i < 4 → i < z .mailboxes → (p : ℕ) → p ≡ 28 + i % 256
+          → QueueCounter (counterAt k p) (queuedCount k (z .threads) p)
       writers-at i l h p same =
           queue-of p (counterAt k p) (queuedCount k (z .threads) p) (omega arith)
           (agrees e p (omega arith) (writers-used z p (omega arith) (omega arith) ∙ lt-ltb (p - 28) (z .mailboxes) (omega arith)))
 
-      readers-at : (i : ℕ) → i < 4 → i < z .mailboxes → (p : ℕ) → p ≡ 32 + i % 256 → QueueCounter (counterAt k p) (queuedCount k (z .threads) p)
+      readers-at : (i : ℕ) → i < 4 → i < z .mailboxes → (p : ℕ) → p ≡ 32 + i % 256
+          → QueueCounter (counterAt k p) (queuedCount k (z .threads) p)
       readers-at i l h p same =
           queue-of p (counterAt k p) (queuedCount k (z .threads) p) (omega arith)
           (agrees e p (omega arith) (readers-used z p (omega arith) ∙ lt-ltb (p - 32) (z .mailboxes) (omega arith)))
@@ -260,7 +265,8 @@ module _ (k : Kernel) (z : Sizes) (s : GoodSizes z) where
             ];
         holds = λ r h i l.
             holds-of (holderAt k r) r i (threadAt k i)
-            (all-at (threadAgrees k (holderAt k r) r) (z .threads) i (rw (used-all 16 (z .threads) (s .threads .1)) at (fits r h .1)) l);
+            (all-at (threadAgrees k (holderAt k r) r) (z .threads) i
+            (rw (used-all 16 (z .threads) (s .threads .1)) at (fits r h .1)) l);
       }
     where
       fits : (r : ℕ) → r < z .references

@@ -16,7 +16,20 @@ use Rattle.kernel.specs.Event.{isMet}
 use Rattle.kernel.proofs.Cases.{split, same-or, chosen, contrary, both-true, both-means, first-fails, second-fails}
 use Rattle.library.specs.declared.sizes.Sizes.{Sizes}
 use Rattle.library.specs.Calls.{keepsOperand}
-use Rattle.rules.specs.RowRules.{callLimit, callClear, callSound, callFits, waitState, waitPlace, waitFits, ticksFit, awaitedFit, nonePending, flagsFit, rowFits}
+use Rattle.rules.specs.RowRules.{
+  callLimit,
+  callClear,
+  callSound,
+  callFits,
+  waitState,
+  waitPlace,
+  waitFits,
+  ticksFit,
+  awaitedFit,
+  nonePending,
+  flagsFit,
+  rowFits,
+}
 use Rattle.promises.specs.Tests.{either-means, either-first, either-second, neither-means, not-of}
 use Rattle.promises.specs.Good.{CallKind, GoodThread}
 
@@ -65,7 +78,11 @@ module _ (z : Sizes) (t : Thread) where
       let x =
       both-means (eqb (t .state) (waitState (t .call .kind))) (eqb (t .place) (waitPlace (t .call .kind) (t .call .object)))
       (rw (ne-eqb (t .state) ready h) at e)
-      in (eqb-true (t .state) (waitState (t .call .kind)) (x .0), eqb-true (t .place) (waitPlace (t .call .kind) (t .call .object)) (x .1))
+      in (
+        eqb-true (t .state) (waitState (t .call .kind)) (x .0),
+        eqb-true (t .place) (waitPlace (t .call .kind) (t .call .object))
+            (x .1),
+      )
 
   nowhere-of : waitFits t ≡ true → t .state ≡ ready → t .place ≡ nowhere
   unfolding waitFits
@@ -75,7 +92,8 @@ module _ (z : Sizes) (t : Thread) where
   unfolding ticksFit
   no-ticks-of e h = eqb-true (t .remaining) 0 (rw h at e)
 
-  ticks-of : ticksFit t ≡ true → isReady t || eqb (t .call .timeout) infinite ≡ false → (1 ≤ t .remaining) × (t .remaining ≤ t .call .timeout)
+  ticks-of : ticksFit t ≡ true → isReady t || eqb (t .call .timeout) infinite ≡ false
+      → (1 ≤ t .remaining) × (t .remaining ≤ t .call .timeout)
   unfolding ticksFit
   ticks-of e h =
       let x = both-means (leb 1 (t .remaining)) (leb (t .remaining) (t .call .timeout)) (rw h at e) in
@@ -101,7 +119,8 @@ module _ (z : Sizes) (t : Thread) where
   -- ---- the record
 
   object-of : callSound (t .call) z ≡ true → t .call .object < callLimit z (t .call .kind)
-  object-of e = ltb-true (t .call .object) (callLimit z (t .call .kind)) (both-means (ltb (t .call .object) (callLimit z (t .call .kind))) _ e .0)
+  object-of e =
+      ltb-true (t .call .object) (callLimit z (t .call .kind)) (both-means (ltb (t .call .object) (callLimit z (t .call .kind))) _ e .0)
 
   rest-of : callSound (t .call) z ≡ true
       → (leb 1 (t .call .timeout) ≡ true) × (keepsOperand (t .call .kind) || eqb (t .call .operand) 0 ≡ true)
@@ -109,7 +128,8 @@ module _ (z : Sizes) (t : Thread) where
       both-means (leb 1 (t .call .timeout)) (keepsOperand (t .call .kind) || eqb (t .call .operand) 0)
       (both-means (ltb (t .call .object) (callLimit z (t .call .kind))) _ e .1)
 
-  operand-of : keepsOperand (t .call .kind) || eqb (t .call .operand) 0 ≡ true → keepsOperand (t .call .kind) ≡ false → t .call .operand ≡ 0
+  operand-of : keepsOperand (t .call .kind) || eqb (t .call .operand) 0 ≡ true → keepsOperand (t .call .kind) ≡ false
+      → t .call .operand ≡ 0
   operand-of e h =
       elim (either-means (keepsOperand (t .call .kind)) (eqb (t .call .operand) 0) e) [
         | inl a ↦ contrary a h
@@ -155,7 +175,8 @@ module _ (z : Sizes) (t : Thread) where
       chosen (λ v. v ≡ true) (eqb (t .call .kind) 0)
       (λ e.
       let x = g .no-call (eqb-true (t .call .kind) 0 e) in
-      both-true (eq-eqb (t .call .object) 0 (x .0)) (both-true (eq-eqb (t .call .operand) 0 (x .1 .0)) (eq-eqb (t .call .timeout) 0 (x .1 .1))))
+      both-true (eq-eqb (t .call .object) 0 (x .0))
+      (both-true (eq-eqb (t .call .operand) 0 (x .1 .0)) (eq-eqb (t .call .timeout) 0 (x .1 .1))))
       (λ e.
       let n = eqb-false (t .call .kind) 0 e in
       both-true (lt-ltb (t .call .object) (callLimit z (t .call .kind)) (g .object n))

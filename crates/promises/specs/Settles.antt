@@ -1,5 +1,5 @@
--- Settling: every continued call is a chain that leaves the tables whole, and finishes a call or puts its thread to sleep. So settling ends,
--- within twice the threads, with a running thread that has no unfinished call.
+-- Settling: every continued call is a chain that leaves the tables whole, and finishes a call or puts its thread to sleep. So settling
+-- ends, within twice the threads, with a running thread that has no unfinished call.
 use Prim.Native.Nat.{ℕ, zero, suc, _+_, _*_, _≤_, _<_}
 use native.Mathlib.Nat.{zero-add, suc-add}
 use native.Mathlib.Omega.{arith}

@@ -41,7 +41,16 @@ use Rattle.promises.specs.Chain.{stop, sleeps, passes, ages, finishes, h
 use Rattle.promises.specs.Flags.{maskBit}
 use Rattle.promises.specs.History.{History, ticksIn, signalsIn, someResult, run-hangs, made-hang}
 use Rattle.promises.specs.Lives.{WokenWithin, atWork, Lives, ownEvents}
-use Rattle.promises.specs.Demands.{demand-2, DoneWholly, demand-3a, demand-3b, demand-3c, demand-3c-pools, ticks-wake, ReleasedWithin}
+use Rattle.promises.specs.Demands.{
+  demand-2,
+  DoneWholly,
+  demand-3a,
+  demand-3b,
+  demand-3c,
+  demand-3c-pools,
+  ticks-wake,
+  ReleasedWithin,
+}
 
 -- two threads, one semaphore, one pool
 abbrev two : Sizes
@@ -106,7 +115,8 @@ timeout-shown =
 pub demand-3a-shown : WokenWithin 0 1 afterSleep
 unfolding timeout-shown
 demand-3a-shown =
-    demand-3a two Standard made-shown (waits 0 1 ∷ (ticks ∷ [])) timeout-shown 0 (omega arith) (waitCall 1) [] afterSleep refl (omega arith)
+    demand-3a two Standard made-shown (waits 0 1 ∷ (ticks ∷ [])) timeout-shown 0 (omega arith) (waitCall 1) [] afterSleep refl
+    (omega arith)
     (omega arith)
 
 -- ---- b: so does demand 3 b, of both threads
