@@ -29,6 +29,7 @@ use Rattle.rules.specs.Hanging.{runningFree, hangsTogether}
 use Rattle.steps.specs.declared.stepping.Outcome.{Outcome}
 use Rattle.steps.specs.Refusal.{refusalOf}
 use Rattle.steps.specs.Stepping.{maskOf, outcomeOf, doneWith, refusedWith, stepped}
+use Rattle.trace.specs.declared.reader.Found.the-variants.{Ended}
 use Rattle.trace.specs.Ordered.{getN}
 use Rattle.trace.specs.Reader.{endsInside, lengthRefusal, stepRefusal, decodedSizes, decodedStep, openedRead, steppedRead, nextRead}
 use Rattle.trace.specs.Traces.{Reading, readFrom, readAll}
@@ -107,3 +108,8 @@ told =
 pub twelve-facts : computed ≡ told
 unfolding firstFrom allFrom countOf firstReady firstWaiter takenOff putOn woken slept finished blocked enqueued releasedFirst releasedAll taken waited signalled ticked sizesFit made inTicks waitBegun effected actedOnKernel acted continued settled callFits waitFits ticksFit flagsFit rowFits rowsFit queuedCount countersFit holderFits referencesFit positionsFit mailboxesFit promisedCount occurrences entriesFit objectsFit poolFits poolsFit runningFree hangsTogether refusalOf maskOf outcomeOf doneWith refusedWith stepped getN endsInside lengthRefusal stepRefusal decodedSizes decodedStep openedRead steppedRead nextRead readFrom readAll ran
 twelve-facts = refl
+
+-- and the trace of the six steps is read to its end
+pub six-read : readAll sixSteps .stop ≡ Ended
+unfolding allFrom sizesFit getN endsInside lengthRefusal stepRefusal decodedSizes decodedStep openedRead steppedRead nextRead readFrom readAll
+six-read = refl
