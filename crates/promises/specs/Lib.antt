@@ -31,6 +31,7 @@ pub mod Lives
 pub mod Turns
 pub mod Demands
 pub mod Shown
+pub mod ShownArms
 pub mod PaperWords
 pub mod PaperSteps
 pub mod PaperQueues
