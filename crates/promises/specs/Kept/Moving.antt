@@ -1,0 +1,454 @@
+-- Every operation of the kernel part is a chain of moves. With each stands what it is called for: its tick, its signal, the unit that it
+-- takes, the sleep that it begins; wakings, ticks counted off and finished calls follow from these.
+use Prim.Native.Nat.{ℕ, zero, suc, _+_, _-_, _<_}
+use native.Mathlib.Nat.{zero-add}
+use native.Mathlib.Omega.{arith}
+use mathlib.Core.Path.{_≡_, refl, sym, ap, _∙_}
+use mathlib.Core.Logic.{_≢_, _⊎_, inl, inr}
+use mathlib.Core.Bool.{Bool, true, false, cond}
+use mathlib.Core.List.{List, [], _∷_, _++_}
+use lib.Dec.{eqb}
+use lib.ListN.{length, set}
+use lib.Seq.{set-set}
+use lib.Bits.{bitAnd, bitOr}
+use lib.IntN.{ℤ, pos, negsuc}
+use lib.Signed.{ltZ}
+use borrow.Author.Tests.{eqb-true, eqb-false, eq-eqb, ltb-true, lt-ltb}
+use Rattle.kernel.specs.declared.records.Call.{Call}
+use Rattle.kernel.specs.declared.records.Thread.{Thread}
+use Rattle.kernel.specs.declared.records.Kernel.{Kernel}
+use Rattle.kernel.specs.Numbers.{nobody, nowhere, ready, queued, suspended, awaiting, ok, timedOut, wasReset, immediate}
+use Rattle.kernel.specs.Tables.{threadAt, counterAt, holderAt, withThread, withWoken}
+use Rattle.kernel.specs.Moves.{readied, woken, slept, finished, blocked, takenOff}
+use Rattle.kernel.specs.Waiters.{queuedAt, firstWaiter}
+use Rattle.kernel.specs.Queue.{enqueued, releasedFirst, releasedAll}
+use Rattle.kernel.specs.Semaphore.{taken, waited, signalled, resetTo}
+use Rattle.kernel.specs.Reference.{resumed}
+use Rattle.kernel.specs.Event.{withPending, flagged, tookFlags, isMet, eventSignalled, eventWaited}
+use Rattle.kernel.specs.Ticking.{ticked}
+use Rattle.kernel.proofs.Cases.{split, same-or, contrary, both-means, both-true}
+use Rattle.kernel.proofs.CountersLaws.{debt-some}
+use Rattle.kernel.proofs.TablesLaws.{Sized, sized-kept, thread-sizes, thread-same, used-all, used-le-given}
+use Rattle.kernel.proofs.MovesLaws.{wake-row, wake-past, wake-sizes, finish-interrupt}
+use Rattle.kernel.proofs.WaitersLaws.{queued-place, first-waiter-cases, first-waiter-counted}
+use Rattle.kernel.proofs.QueueLaws.{release-all-keeps, release-all-empties}
+use Rattle.library.specs.declared.sizes.Sizes.{Sizes}
+use Rattle.library.specs.Binary.{binarySignalled}
+use Rattle.rules.specs.RowRules.{waitState, waitPlace}
+use Rattle.rules.specs.PoolRules.{isPromised}
+use Rattle.promises.specs.Together.Good.{GoodSizes, GoodThread, CallKind}
+use Rattle.promises.specs.Kept.Tallies.{Tallies}
+use Rattle.promises.specs.Kept.Story.{
+  Event,
+  woke,
+  sleepIn,
+  endWith,
+  tick,
+  countOff,
+  signalAt,
+  takeAt,
+  endStep,
+  countIn,
+  Follows,
+  each-kind,
+}
+use Rattle.promises.specs.Kept.Chain.{
+  Waken,
+  Sleeper,
+  Chain,
+  stop,
+  wakes,
+  passes,
+  raises,
+  ages,
+  sleeps,
+  takes,
+  sets,
+  finishes,
+  answers,
+  flags,
+  tickEvent,
+  tickThen,
+  chain-then,
+  queued-unready,
+}
+
+-- what a move is called for, before what comes after
+abbrev pub markThen : Event → List Event → List Event
+markThen (woke i m) r = r
+markThen (sleepIn i c) r = sleepIn i c ∷ r
+markThen (endWith i m d) r = r
+markThen tick r = tick ∷ r
+markThen (countOff i) r = r
+markThen (signalAt p) r = signalAt p ∷ r
+markThen (takeAt p) r = takeAt p ∷ r
+markThen endStep r = endStep ∷ r
+
+-- the ticks, signals, units taken, sleeps and ends of steps among the events
+abbrev pub marksOf : List Event → List Event
+marksOf [] = []
+marksOf (e ∷ es) = markThen e (marksOf es)
+
+-- from k to h by a chain with these marks
+pub record Chained (z : Sizes) (k h : Kernel) (ms : List Event) : Type 0 where
+  pub events : List Event
+  pub chain : Chain z h k events
+  pub marks : marksOf events ≡ ms
+
+mark-append : (e : Event) (r s : List Event) → markThen e (r ++ s) ≡ markThen e r ++ s
+mark-append (woke i m) r s = refl
+mark-append (sleepIn i c) r s = refl
+mark-append (endWith i m d) r s = refl
+mark-append tick r s = refl
+mark-append (countOff i) r s = refl
+mark-append (signalAt p) r s = refl
+mark-append (takeAt p) r s = refl
+mark-append endStep r s = refl
+
+pub marks-append : (es fs : List Event) → marksOf (es ++ fs) ≡ marksOf es ++ marksOf fs
+marks-append [] fs = refl
+marks-append (e ∷ es) fs = ap (markThen e) (marks-append es fs) ∙ mark-append e (marksOf es) (marksOf fs)
+
+-- a tick is one mark, whatever it is to each thread
+marks-tick : (k : Kernel) (n : ℕ) (es : List Event) → marksOf (tickThen k n es) ≡ marksOf es
+marks-tick k zero es = refl
+marks-tick k (suc n) es = marks-tick k n (tickEvent k n ∷ es) ∙ split (eqb (threadAt k n .remaining) 1) (λ e. rw e) (λ e. rw e)
+
+-- what is no waking, no tick counted off and no finished call is counted among the marks
+pub marks-count : (f : Event → Bool) (es : List Event) → ((i : ℕ) (m : ℤ) → f (woke i m) ≡ false)
+    → ((i : ℕ) (m : ℤ) (d : ℕ) → f (endWith i m d) ≡ false)
+    → ((i : ℕ) → f (countOff i) ≡ false) → countIn f (marksOf es) ≡ countIn f es
+unfolding countIn
+marks-count f [] w e c = refl
+marks-count f (woke i m ∷ es) w e c = rw (w i m, zero-add) (marks-count f es w e c)
+marks-count f (sleepIn i a ∷ es) w e c = rw (marks-count f es w e c)
+marks-count f (endWith i m d ∷ es) w e c = rw (e i m d, zero-add) (marks-count f es w e c)
+marks-count f (tick ∷ es) w e c = rw (marks-count f es w e c)
+marks-count f (countOff i ∷ es) w e c = rw (c i, zero-add) (marks-count f es w e c)
+marks-count f (signalAt p ∷ es) w e c = rw (marks-count f es w e c)
+marks-count f (takeAt p ∷ es) w e c = rw (marks-count f es w e c)
+marks-count f (endStep ∷ es) w e c = rw (marks-count f es w e c)
+
+-- one after the other
+pub after : {z : Sizes} {k j h : Kernel} {ms ns : List Event} → Chained z k j ms → Chained z j h ns → Chained z k h (ms ++ ns)
+after a b =
+    record {
+      events = a .events ++ b .events;
+      chain = chain-then (a .chain) (b .chain);
+      marks = marks-append (a .events) (b .events) ∙ rw (a .marks, b .marks);
+    }
+
+-- nothing happens
+pub rested : {z : Sizes} {k : Kernel} → Chained z k k []
+rested = record { events = []; chain = stop; marks = refl }
+
+-- a thread whose call may finish with any answer: one without an unfinished call, or one that tries its mailbox again
+pub record Free (t : Thread) : Type 0 where
+  pub is-ready : t .state ≡ ready
+  pub answers : (m : ℤ) (d : ℕ) → Follows t m d
+  pub unpromised : isPromised t ≡ false
+
+-- whose step it is: an interrupt's, or such a thread's
+abbrev pub Caller : Sizes → Kernel → ℕ → Type 0
+Caller z k i = (i ≡ nobody) ⊎ ((i < z .threads) × Free (threadAt k i))
+
+-- below 1 is below the top
+below-one : (c : ℤ) → ltZ c (pos 1) ≡ true → ltZ c (pos 2147483647) ≡ true
+below-one (pos m) e = lt-ltb m 2147483647 (omega (arith, ltb-true m 1 e))
+below-one (negsuc m) e = refl
+
+-- only an event wait awaits events
+awaiting-kind : (n : ℕ) → CallKind n → waitState n ≡ awaiting → n ≡ 14
+awaiting-kind =
+    each-kind (λ n. waitState n ≡ awaiting → n ≡ 14) (λ e. absurd (omega (arith, e))) (λ e. absurd (omega (arith, e)))
+    (λ e. absurd (omega (arith, e))) (λ e. absurd (omega (arith, e))) (λ e. absurd (omega (arith, e))) (λ e. refl)
+    (λ e. absurd (omega (arith, e))) (λ e. absurd (omega (arith, e))) (λ e. absurd (omega (arith, e))) (λ e. absurd (omega (arith, e)))
+
+module _ (z : Sizes) (g : GoodSizes z) where
+  abbrev n : ℕ
+  n = z .threads
+
+  module _ (k : Kernel) where
+    pub wake-chained : (i : ℕ) (m : ℤ) → Waken z k i m → Chained z k (woken k i m) []
+    wake-chained i m w = record { events = woke i m ∷ []; chain = wakes i m w stop; marks = refl }
+
+    pub finish-chained : (i : ℕ) (m : ℤ) (d : ℕ) → Caller z k i → Chained z k (finished k i m d) []
+    finish-chained i m d (inl e) =
+        rw (finish-interrupt k i m d e)
+        (record { events = []; chain = answers {es = []} (record { message = m; datum = d }) stop; marks = refl })
+    finish-chained i m d (inr f) =
+        record {
+          events = endWith i m d ∷ [];
+          chain = finishes i m d
+              (record { within = f .0; is-ready = f .1 .is-ready; follows = f .1 .answers m d; unpromised = f .1 .unpromised }) stop;
+          marks = refl;
+        }
+
+    pub tick-chained : Chained z k (ticked k n) (tick ∷ [])
+    tick-chained =
+        record {
+          events = tick ∷ tickThen k n [];
+          chain = ages {es = []} stop;
+          marks = ap (λ (r : List Event). tick ∷ r) (marks-tick k n []);
+        }
+
+    -- the sleep in a call that fits its state and place
+    pub sleep-chained : (i s p : ℕ) (c : Call) → s ≡ waitState (c .kind) → p ≡ waitPlace (c .kind) (c .object) → Sleeper z k i c
+        → Chained z k (slept k i s p c) (sleepIn i c ∷ [])
+    sleep-chained i s p c e f w = rw (e, f) (record { events = sleepIn i c ∷ []; chain = sleeps i c w stop; marks = refl })
+
+    -- what cannot be had at once
+    pub block-chained : (i s p : ℕ) (c : Call) → s ≡ waitState (c .kind) → p ≡ waitPlace (c .kind) (c .object)
+        → (c .timeout ≢ 0 → Sleeper z k i c) → Caller z k i
+        → Chained z k (blocked k i s p c) (cond (eqb (c .timeout) immediate) [] (sleepIn i c ∷ []))
+    unfolding blocked
+    block-chained i s p c e f w a =
+        split (eqb (c .timeout) immediate) (λ b. rw b (finish-chained i timedOut 0 a))
+        (λ b. rw b (sleep-chained i s p c e f (w (eqb-false (c .timeout) immediate b))))
+
+    -- who waits at a place may be made ready; at a semaphore, by a reset
+    waiter-waken : (p i : ℕ) (m : ℤ) → i < n → queuedAt p (threadAt k i) ≡ true → (p < 20 → m ≡ wasReset) → Waken z k i m
+    waiter-waken p i m l e c =
+        record {
+          within = l;
+          asleep = queued-unready p (threadAt k i) e;
+          cause = λ q h f. c (rw (eqb-true p q (sym (queued-place p q (threadAt k i) e) ∙ f)) h);
+        }
+
+    pub release-first-chained : Sized k → (p : ℕ) (m : ℤ) → (p < 20 → m ≡ wasReset) → Chained z k (releasedFirst k n p m) []
+    unfolding releasedFirst
+    release-first-chained s p m c =
+        elim (first-waiter-cases k n p) [
+          | inl f ↦ wake-chained (firstWaiter k n p) m
+              (waiter-waken p (firstWaiter k n p) m (omega (arith, f .below, used-le-given n)) (f .passes) c)
+          | inr f ↦ rw (f .0, wake-past k nobody m (omega (arith, s .threads)) (omega (arith, s .woken))) rested
+        ]
+
+  pub release-all-chained : (k : Kernel) (p : ℕ) (m : ℤ) → (p < 20 → m ≡ wasReset) → Chained z k (releasedAll k n p m) []
+  release-all-chained k p m c =
+      release-all-keeps k n p m (λ h. Chained z k h [])
+      (λ i l h e a. after a (wake-chained h i m (waiter-waken h p i m l e c))) rested
+
+  -- ---- semaphores
+
+  module _ (k : Kernel) (p : ℕ) (semaphore : p < 20) where
+    pub signal-chained : Tallies n p k → ltZ (counterAt k p) (pos 2147483647) ≡ true → Chained z k (signalled k n p) (signalAt p ∷ [])
+    unfolding signalled releasedFirst
+    signal-chained t b =
+        split (ltZ (counterAt k p) (pos 0))
+        (λ e. rw e
+        (let f = first-waiter-counted k n p (g .threads .1) (omega (arith, t .tally, debt-some (counterAt k p) e)) in
+        record {
+          events =
+              signalAt p ∷ (woke (firstWaiter k n p) ok ∷ []);
+          chain = passes p (firstWaiter k n p) semaphore f stop;
+          marks = refl;
+        }))
+        (λ e. rw e (record { events = signalAt p ∷ []; chain = raises p semaphore e b stop; marks = refl }))
+
+    -- "as 3 if the counter is below 1, else nothing"
+    pub binary-chained : Tallies n p k → Chained z k (binarySignalled k n p) (cond (ltZ (counterAt k p) (pos 1)) (signalAt p ∷ []) [])
+    unfolding binarySignalled
+    binary-chained t =
+        split (ltZ (counterAt k p) (pos 1)) (λ e. rw e (signal-chained t (below-one (counterAt k p) e))) (λ e. rw e rested)
+
+    -- one unit taken
+    pub take-chained : ltZ (pos 0) (counterAt k p) ≡ true → Chained z k (taken k p) (takeAt p ∷ [])
+    take-chained e = record { events = takeAt p ∷ []; chain = takes p semaphore e stop; marks = refl }
+
+  pub reset-chained : (k : Kernel) (p : ℕ) (c : ℤ) → p < 16 → ltZ c (pos 0) ≡ false → Chained z k (resetTo k n p c) []
+  unfolding resetTo
+  reset-chained k p c l e =
+      after (release-all-chained k p wasReset (λ h. refl))
+      (record {
+        events = [];
+        chain = sets {es = []} p c
+            (record {
+              semaphore = l;
+              none = λ i h. release-all-empties k n p wasReset i (rw (used-all n (g .threads .1)) h);
+              value = e;
+            })
+            stop;
+        marks = refl;
+      })
+
+  -- "counter above 0: less 1, answer 0. Else timeout 0: answer -1 .. Else counter less 1 and sleep"
+  pub wait-chained : (k : Kernel) (i p : ℕ) (c : Call) → p < 20 → queued ≡ waitState (c .kind) → p ≡ waitPlace (c .kind) (c .object)
+      → (c .timeout ≢ 0 → ltZ (pos 0) (counterAt k p) ≡ false → Sleeper z k i c) → Caller z k i
+      → Chained z k (waited k i p c)
+      (cond (ltZ (pos 0) (counterAt k p)) (takeAt p ∷ []) (cond (eqb (c .timeout) immediate) [] (sleepIn i c ∷ [])))
+  unfolding waited enqueued taken
+  wait-chained k i p c l s f w a =
+      split (ltZ (pos 0) (counterAt k p))
+      (λ e. rw e (after (take-chained k p l e) (finish-chained (taken k p) i ok 0 a)))
+      (λ e. rw e (block-chained k i queued p c s f (λ t. w t e) a))
+
+  -- ---- references
+
+  pub resume-chained : (k : Kernel) (r : ℕ) (m : ℤ) → Sized k → (holderAt k r ≢ nobody → holderAt k r < n)
+      → (holderAt k r ≢ nobody → threadAt k (holderAt k r) .state ≡ suspended) → Chained z k (resumed k r m) []
+  unfolding resumed
+  resume-chained k r m s h a =
+      same-or (holderAt k r) nobody
+      (λ e. rw (e, wake-past k nobody m (omega (arith, s .threads)) (omega (arith, s .woken))) rested)
+      (λ d. wake-chained k (holderAt k r) m
+      (record {
+        within = h d;
+        asleep = λ e. absurd (not-ready (sym (a d) ∙ e));
+        cause =
+            λ p l e. absurd (not-queued
+            (sym (a d) ∙ eqb-true (threadAt k (holderAt k r) .state) queued
+            (both-means (eqb (threadAt k (holderAt k r) .state) queued) (eqb (threadAt k (holderAt k r) .place) p) e .0)));
+      }))
+    where
+      not-ready : suspended ≡ ready → ⊥
+      not-ready e = omega arith
+
+      not-queued : suspended ≡ queued → ⊥
+      not-queued e = omega arith
+
+  -- ---- events
+
+  -- other pending flags, of a thread that awaits none of them
+  pub flags-chained : (k : Kernel) (i f : ℕ) → (threadAt k i .state ≡ awaiting → bitAnd f (threadAt k i .awaited) ≡ 0)
+      → Chained z k (withThread k i (withPending (threadAt k i) f)) []
+  flags-chained k i f a = record { events = []; chain = flags {es = []} i f a stop; marks = refl }
+
+  -- "pending flags in a are cleared and are the datum"
+  pub take-flags-chained : (k : Kernel) (i mask : ℕ) → i < n → Sized k → threadAt k i .state ≡ ready
+      → ((d : ℕ) → Follows (threadAt k i) ok d) → isPromised (threadAt k i) ≡ false → Chained z k (tookFlags k i mask) []
+  unfolding tookFlags
+  take-flags-chained k i mask l s r a u =
+      let t = withPending (threadAt k i) (threadAt k i .pending - bitAnd (threadAt k i .pending) mask) in
+      let here : i < length (k .threads) = omega (arith, s .threads, g .threads .1) in
+      let row = thread-same k i t here in
+      let d = bitAnd (threadAt k i .pending) mask in
+      let f = a d in
+      after (flags-chained k i (t .pending) (λ e. absurd (not-awaiting (sym r ∙ e))))
+      (record {
+        events = endWith i ok d ∷ [];
+        chain = finishes i ok d
+            (record {
+              within = l;
+              is-ready = rw row r;
+              follows = rw row (record { others = f .others; no-datum = f .no-datum; boxes = f .boxes });
+              unpromised = rw row u;
+            })
+            stop;
+        marks = refl;
+      })
+    where
+      not-awaiting : ready ≡ awaiting → ⊥
+      not-awaiting e = omega arith
+
+  -- 14: pending flags are taken at once, else the thread waits for them
+  pub event-wait-chained : (k : Kernel) (i : ℕ) (c : Call) → Sized k → i < n → Free (threadAt k i) → c .kind ≡ 14
+      → (c .timeout ≢ 0 → bitAnd (threadAt k i .pending) (c .operand) ≡ 0 → Sleeper z k i c)
+      → Chained z k (eventWaited k i c)
+      (cond (eqb (bitAnd (threadAt k i .pending) (c .operand)) 0) (cond (eqb (c .timeout) immediate) [] (sleepIn i c ∷ [])) [])
+  unfolding eventWaited
+  event-wait-chained k i c s l f e w =
+      split (eqb (bitAnd (threadAt k i .pending) (c .operand)) 0)
+      (λ b. rw b (block-chained k i awaiting nowhere c (rw e) (rw e)
+      (λ t. w t (eqb-true (bitAnd (threadAt k i .pending) (c .operand)) 0 b)) (inr (l, f))))
+      (λ b. rw b (take-flags-chained k i (c .operand) l s (f .is-ready) (f .answers ok) (f .unpromised)))
+
+  -- who awaits events leaves neither a place nor a reference
+  wake-alone : (k : Kernel) (i : ℕ) (m : ℤ) → threadAt k i .state ≡ awaiting
+      → woken k i m ≡ withWoken (withThread k i (readied (threadAt k i) m)) i
+  unfolding woken takenOff
+  wake-alone k i m e = rw e
+
+  -- who awaits events is woken before its flags are told or after: it comes to the same
+  told-woken : (k : Kernel) (i f : ℕ) → i < length (k .threads) → threadAt k i .state ≡ awaiting
+      → woken (withThread k i (withPending (threadAt k i) f)) i ok ≡ withThread (woken k i ok) i (withPending (threadAt (woken k i ok) i) f)
+  told-woken k i f h e =
+      wake-alone (withThread k i t) i ok (ap (λ (x : Thread). x .state) (thread-same k i t h) ∙ e)
+      ∙ ap (λ (x : Thread). withWoken (withThread (withThread k i t) i (readied x ok)) i) (thread-same k i t h)
+      ∙ ap placed (set-set (k .threads) i t (readied t ok) ∙ sym (set-set (k .threads) i (readied (threadAt k i) ok) (readied t ok)))
+      ∙ sym (ap (λ (x : Kernel). withThread x i (withPending (threadAt (woken k i ok) i) f)) (wake-alone k i ok e)
+      ∙ ap (λ (x : Thread). withThread (withWoken (withThread k i (readied (threadAt k i) ok)) i) i (withPending x f))
+      (wake-row k i ok h))
+    where
+      t : Thread
+      t = withPending (threadAt k i) f
+
+      placed : List Thread → Kernel
+      placed l =
+          record {
+            threads = l;
+            counters = k .counters;
+            references = k .references;
+            woken = set (k .woken) i true;
+            finished = k .finished;
+            answer = k .answer;
+          }
+
+  -- 13: "the flags of a are ORed to those pending"; "if its state is awaiting events, for any of them, it is made ready"
+  pub event-signal-chained : (k : Kernel) (i mask : ℕ) → Sized k → i < n → GoodThread z (threadAt k i)
+      → Chained z k (eventSignalled k i mask) []
+  unfolding eventSignalled
+  event-signal-chained k i mask s l t =
+      split (isMet (flagged (threadAt k i) mask)) (λ e. rw e (met e))
+      (λ e. rw e (flags-chained k i (bitOr (threadAt k i .pending) mask) (unmet e)))
+    where
+      here : i < length (k .threads)
+      here = omega (arith, s .threads, g .threads .1)
+
+      f : ℕ
+      f = bitOr (threadAt k i .pending) mask
+
+      unmet : isMet (flagged (threadAt k i) mask) ≡ false → threadAt k i .state ≡ awaiting → bitAnd f (threadAt k i .awaited) ≡ 0
+      unmet e a =
+          split (eqb (bitAnd f (threadAt k i .awaited)) 0) (λ b. eqb-true (bitAnd f (threadAt k i .awaited)) 0 b)
+          (λ b. contrary (both-true (eq-eqb (threadAt k i .state) awaiting a) (rw b)) e)
+
+      -- its call is an event wait
+      kind : threadAt k i .state ≡ awaiting → threadAt k i .call .kind ≡ 14
+      kind a =
+          let u : threadAt k i .state ≢ ready = λ r. absurd (not-ready (sym a ∙ r)) in
+          awaiting-kind (threadAt k i .call .kind) (t .kind (t .unready-call u)) (sym (t .unready-state u) ∙ a)
+        where
+          not-ready : awaiting ≡ ready → ⊥
+          not-ready e = omega arith
+
+      met : isMet (flagged (threadAt k i) mask) ≡ true
+          → Chained z k (tookFlags (woken (withThread k i (flagged (threadAt k i) mask)) i ok) i (threadAt k i .awaited)) []
+      met e =
+          let a = eqb-true (threadAt k i .state) awaiting (both-means (eqb (threadAt k i .state) awaiting) _ e .0) in
+          let k14 = kind a in
+          let row : threadAt (woken k i ok) i ≡ readied (threadAt k i) ok = wake-row k i ok here in
+          let after-wake = woken k i ok in
+          let told = withThread after-wake i (withPending (threadAt after-wake i) f) in
+          let s1 = sized-kept (wake-sizes k i ok) s in
+          let s2 = sized-kept (thread-sizes after-wake i (withPending (threadAt after-wake i) f)) s1 in
+          let toldrow : threadAt told i ≡ withPending (readied (threadAt k i) ok) f =
+          thread-same after-wake i (withPending (threadAt after-wake i) f) (omega (arith, s1 .threads, g .threads .1)) ∙ ap
+          (λ (x : Thread). withPending x f) row in
+          rw (told-woken k i f here a)
+          (after (wake-chained k i ok
+          (record {
+            within = l;
+            asleep = λ r. absurd (not-ready (sym a ∙ r));
+            cause =
+                λ p h q. absurd (not-queued
+                (sym a ∙ eqb-true (threadAt k i .state) queued
+                (both-means (eqb (threadAt k i .state) queued) (eqb (threadAt k i .place) p) q .0)));
+          }))
+          (after (flags-chained after-wake i f (λ r. absurd (ready-not (sym (ap (λ (x : Thread). x .state) row) ∙ r))))
+          (take-flags-chained told i (threadAt k i .awaited) l s2 (ap (λ (x : Thread). x .state) toldrow)
+          (λ d. rw toldrow (record {
+            others = λ x y. refl;
+            no-datum = λ x y z. absurd (z k14);
+            boxes = λ b x. contrary b (rw k14);
+          }))
+          (rw (toldrow, k14)))))
+        where
+          not-ready : awaiting ≡ ready → ⊥
+          not-ready e = omega arith
+
+          ready-not : ready ≡ awaiting → ⊥
+          ready-not e = omega arith
+
+          not-queued : awaiting ≡ queued → ⊥
+          not-queued e = omega arith

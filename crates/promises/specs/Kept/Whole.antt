@@ -1,0 +1,187 @@
+-- Tables that hang together, but for the running thread, in the form in which the moves keep them; and that a chain of moves, with
+-- mailboxes and pools in step with it, leaves them so.
+use Prim.Native.Nat.{ℕ, _+_, _<_}
+use native.Mathlib.Omega.{arith}
+use mathlib.Core.Path.{_≡_, refl, sym, ap, _∙_, subst}
+use mathlib.Core.Logic.{_⊎_, inl, inr}
+use mathlib.Core.List.{List}
+use lib.ListN.{length}
+use Rattle.kernel.specs.declared.records.Thread.{Thread}
+use Rattle.kernel.specs.declared.records.Kernel.{Kernel}
+use Rattle.kernel.specs.Numbers.{nobody}
+use Rattle.kernel.specs.Places.{poolPlace}
+use Rattle.kernel.specs.Tables.{threadAt, counterAt}
+use Rattle.kernel.specs.Waiters.{isReady}
+use Rattle.kernel.proofs.Cases.{contrary, second-fails}
+use Rattle.kernel.proofs.TablesLaws.{Sized}
+use Rattle.library.specs.declared.sizes.Sizes.{Sizes}
+use Rattle.library.specs.declared.tables.Plant.{Plant}
+use Rattle.library.specs.Tables.{mailboxAt, poolAt, withKernel}
+use Rattle.rules.specs.PoolRules.{promisedCount}
+use Rattle.promises.specs.Together.Good.{GoodSizes, Good}
+use Rattle.promises.specs.Kept.CounterRule.{counters-tally, tally-counters}
+use Rattle.promises.specs.Kept.ReferenceRule.{references-hold, holds-references}
+use Rattle.promises.specs.Kept.RingKept.{MailboxesGood}
+use Rattle.promises.specs.Kept.PoolKept.{PoolsListed, PoolSized, stock, good-listed, listed-good, good-length, length-promises}
+use Rattle.promises.specs.Kept.Story.{Event, countIn, isSlept, Idle, story-idle}
+use Rattle.promises.specs.Kept.Chain.{Sound, chain-sound, chain-story}
+use Rattle.promises.specs.Kept.Moving.{Chained, Free, Caller, marks-count}
+use Rattle.promises.specs.Kept.Owed.{isSignal, isTake, owed-is, chain-owed}
+
+-- the lists are as long as the tables of a host
+pub record PlantSized (p : Plant) : Type 0 where
+  pub kernel : Sized (p .kernel)
+  pub mailboxes : length (p .mailboxes) ≡ 4
+  pub messages : (m : ℕ) → m < 4 → length (mailboxAt p m .messages) ≡ 16
+  pub pools : length (p .pools) ≡ 4
+  pub pool : (q : ℕ) → q < p .sizes .pools → PoolSized (poolAt p q)
+
+-- all rules but that of the running thread
+pub record Whole (z : Sizes) (p : Plant) : Type 0 where
+  pub same : p .sizes ≡ z
+  pub sizes : GoodSizes z
+  pub kernel : Sound z (p .kernel)
+  pub mailboxes : MailboxesGood p
+  pub boxes : length (p .mailboxes) ≡ 4
+  pub messages : (m : ℕ) → m < 4 → length (mailboxAt p m .messages) ≡ 16
+  pub pools : PoolsListed p
+  pub rows : length (p .pools) ≡ 4
+  -- "its length is the larger of counter and 0, plus" the objects promised
+  pub lengths : (q : ℕ) → q < z .pools
+      → poolAt p q .length ≡ stock (counterAt (p .kernel) (poolPlace q)) + promisedCount (p .kernel) (z .threads) q
+
+module _ (p : Plant) where
+  -- good tables of a host are such
+  pub good-whole : Good p → PlantSized p → Whole (p .sizes) p
+  good-whole g s =
+      record {
+        same = refl;
+        sizes = g .sizes;
+        kernel = record {
+          rules = record {
+            sized = s .kernel;
+            places = counters-tally (p .kernel) (p .sizes) (g .sizes) (g .counters);
+            references = references-hold (p .kernel) (p .sizes) (g .references);
+          };
+          rows = g .threads;
+        };
+        mailboxes = g .mailboxes;
+        boxes = s .mailboxes;
+        messages = s .messages;
+        pools = record { listed = λ q h. good-listed (g .pools q h); sized = s .pool };
+        rows = s .pools;
+        lengths = λ q h. good-length (g .pools q h);
+      }
+
+  good-of : Whole (p .sizes) p → Good p
+  good-of w =
+      record {
+        sizes = w .sizes;
+        counters = tally-counters (p .kernel) (p .sizes) (w .sizes) (w .kernel .rules .places);
+        references = holds-references (p .kernel) (p .sizes) (w .kernel .rules .references);
+        mailboxes = w .mailboxes;
+        pools = λ q h.
+            listed-good (w .pools .listed q h)
+            (length-promises (poolAt p q) (counterAt (p .kernel) (poolPlace q)) (promisedCount (p .kernel) (p .sizes .threads) q)
+            (w .lengths q h));
+        threads = w .kernel .rows;
+      }
+
+  -- and such tables are good
+  pub whole-good : (z : Sizes) → Whole z p → Good p
+  whole-good z w = good-of (subst (λ (y : Sizes). Whole y p) (sym (w .same)) w)
+
+  pub whole-sized : (z : Sizes) → Whole z p → PlantSized p
+  whole-sized z w =
+      record { kernel = w .kernel .rules .sized; mailboxes = w .boxes; messages = w .messages; pools = w .rows; pool = w .pools .sized }
+
+-- ---- a chain leaves them so
+
+-- the pools of h are as much longer than those of p as the marks say
+abbrev pub InStep : Sizes → Plant → Plant → List Event → Type 0
+InStep z p h ms = (q : ℕ) → q < z .pools
+    → poolAt h q .length + countIn (isTake (poolPlace q)) ms ≡ poolAt p q .length + countIn (isSignal (poolPlace q)) ms
+
+-- what an operation leaves: a chain from the kernel's tables to its own, with these marks, and whole tables
+pub record Done (z : Sizes) (p h : Plant) (ms : List Event) : Type 0 where
+  pub chained : Chained z (p .kernel) (h .kernel) ms
+  pub whole : Whole z h
+
+module _ (z : Sizes) (p h : Plant) (ms : List Event) (w : Whole z p) (c : Chained z (p .kernel) (h .kernel) ms) where
+  -- what a pool owes goes with the marks
+  pub owed-marks : (q : ℕ) (there : q < z .pools)
+      → stock (counterAt (h .kernel) (poolPlace q)) + promisedCount (h .kernel) (z .threads) q + countIn (isTake (poolPlace q)) ms
+      ≡ stock (counterAt (p .kernel) (poolPlace q)) + promisedCount (p .kernel) (z .threads) q + countIn (isSignal (poolPlace q)) ms
+  owed-marks q there =
+      let e = chain-owed z (w .sizes) q there (c .chain) (w .kernel) in
+      let a = marks-count (isTake (poolPlace q)) (c .events) (λ i m. refl) (λ i m d. refl) (λ i. refl) in
+      let b = marks-count (isSignal (poolPlace q)) (c .events) (λ i m. refl) (λ i m d. refl) (λ i. refl) in
+      rw (sym (c .marks), a, b, owed-is z (w .sizes) q there (h .kernel), owed-is z (w .sizes) q there (p .kernel)) e
+
+  -- whole tables, with mailboxes and pools kept in step
+  pub done : h .sizes ≡ p .sizes → MailboxesGood h → length (h .mailboxes) ≡ 4
+      → ((m : ℕ) → m < 4 → length (mailboxAt h m .messages) ≡ 16) → PoolsListed h → length (h .pools) ≡ 4 → InStep z p h ms
+      → Done z p h ms
+  done e m b x o r l =
+      record {
+        chained = c;
+        whole = record {
+          same = e ∙ w .same;
+          sizes = w .sizes;
+          kernel = chain-sound z (w .sizes) (c .chain) (w .kernel);
+          mailboxes = m;
+          boxes = b;
+          messages = x;
+          pools = o;
+          rows = r;
+          lengths = λ q there. omega (arith, l q there, owed-marks q there, w .lengths q there);
+        };
+      }
+
+-- the kernel's tables alone, by marks that give and take no pool anything
+pub kernel-done : (z : Sizes) (p : Plant) (k : Kernel) (ms : List Event) → Whole z p → Chained z (p .kernel) k ms
+    → ((q : ℕ) → q < z .pools → countIn (isTake (poolPlace q)) ms ≡ countIn (isSignal (poolPlace q)) ms) → Done z p (withKernel p k) ms
+kernel-done z p k ms w c e =
+    done z p (withKernel p k) ms w c refl (w .mailboxes) (w .boxes) (w .messages) (record {
+      listed =
+          w .pools .listed;
+      sized = w .pools .sized;
+    }) (w .rows)
+    (λ q there. ap (λ (x : ℕ). poolAt p q .length + x) (e q there))
+
+-- ---- whose step it is
+
+-- an interrupt, or a thread without a call
+abbrev pub Stepper : Sizes → Kernel → ℕ → Type 0
+Stepper z k i = (i ≡ nobody) ⊎ ((i < z .threads) × Idle (threadAt k i))
+
+-- its call may finish with any answer
+pub idle-free : (t : Thread) → Idle t → Free t
+idle-free t a =
+    record {
+      is-ready = a .is-ready;
+      answers = λ m d.
+          record {
+            others = λ n. absurd (n (a .no-call));
+            no-datum = λ n. absurd (n (a .no-call));
+            boxes = λ b. contrary b (rw (a .no-call));
+          };
+      unpromised = rw (a .no-call) (second-fails (isReady t) refl);
+    }
+
+pub stepper-caller : (z : Sizes) (k : Kernel) (i : ℕ) → Stepper z k i → Caller z k i
+stepper-caller z k i (inl e) = inl e
+stepper-caller z k i (inr a) = inr (a .0, idle-free (threadAt k i) (a .1))
+
+-- and stays so while it does not sleep
+pub stepper-kept : (z : Sizes) (k h : Kernel) (i : ℕ) (ms : List Event) → GoodSizes z → Sound z k → Chained z k h ms
+    → countIn (isSlept i) ms ≡ 0
+    → Stepper z k i → Stepper z h i
+stepper-kept z k h i ms g s c o (inl e) = inl e
+stepper-kept z k h i ms g s c o (inr a) =
+    inr (
+      a .0,
+      story-idle (chain-story z (g .threads .1) i (a .0) (c .chain) (s .rules .sized) (s .rows i (a .0)))
+          (sym (marks-count (isSlept i) (c .events) (λ j m. refl) (λ j m d. refl) (λ j. refl)) ∙ rw (c .marks) o)
+          (a .1),
+    )

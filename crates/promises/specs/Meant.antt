@@ -1,0 +1,22 @@
+-- What the meanings that the contracts cite come to, in the paper's words.
+pub mod Words
+pub mod Steps
+pub mod Queues
+pub mod Semaphores
+pub mod References
+pub mod Delays
+pub mod Events
+pub mod Tick
+pub mod Mailboxes
+pub mod Pools
+pub mod Settling
+pub mod Answers
+pub mod Refusals
+pub mod Accepted
+pub mod AcceptedBoxes
+pub mod Only
+pub mod Broken
+pub mod Moves
+pub mod Calls
+pub mod Rows
+pub mod Step

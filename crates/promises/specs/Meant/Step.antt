@@ -1,0 +1,314 @@
+-- What `stepped` gives back is what document 01 tells of the step: for any tables, any clock and any step of a host.
+use Prim.Native.Nat.{ℕ, zero, suc, _-_, _≤_, _<_}
+use native.Mathlib.Omega.{arith}
+use mathlib.Core.Path.{_≡_, refl, sym, ap, _∙_, subst}
+use mathlib.Core.Logic.{_≢_, _⊎_, inl, inr}
+use mathlib.Core.Bool.{Bool, true, false, cond}
+use lib.Dec.{eqb}
+use lib.ListN.{getD}
+use lib.IntN.{pos}
+use borrow.Author.Tests.{eqb-true, eqb-false, ne-eqb}
+use Rattle.kernel.specs.declared.clock.Clock.{Clock}
+use Rattle.kernel.specs.declared.records.Thread.{Thread}
+use Rattle.kernel.specs.Numbers.{nobody}
+use Rattle.kernel.specs.Walk.{bit}
+use Rattle.kernel.specs.Tables.{threadAt}
+use Rattle.kernel.specs.Moves.{finished}
+use Rattle.kernel.specs.Waiters.{firstReady}
+use Rattle.kernel.proofs.Cases.{split, same-or, in-or-out, contrary}
+use Rattle.kernel.proofs.TablesLaws.{thread-blank}
+use Rattle.library.specs.declared.calls.Step.{Step}
+use Rattle.library.specs.declared.sizes.Sizes.{Sizes}
+use Rattle.library.specs.declared.tables.Plant.{Plant}
+use Rattle.library.specs.declared.tables.Tables.{Tables}
+use Rattle.library.specs.Signs.{same}
+use Rattle.library.specs.Acting.{acted}
+use Rattle.library.specs.Settling.{isBoxCall, answeredOnly, continued, runningIn, isSettled, settled}
+use Rattle.library.specs.Tables.{opened, closed}
+use Rattle.rules.specs.Hanging.{hangsTogether}
+use Rattle.steps.specs.declared.stepping.Stepped.{Stepped}
+use Rattle.steps.specs.Refusal.{refusalOf}
+use Rattle.steps.specs.Stepping.{clockAfter, budgetOf, outcomeOf, doneWith, refusedWith, stepped}
+use Rattle.steps.proofs.StepLaws.{step-code}
+use Rattle.promises.specs.Runs.Answers.{step-done, step-stopped}
+use Rattle.promises.specs.Together.Tests.{same-means}
+use Rattle.promises.specs.Runs.Flags.{mask-digit}
+use Rattle.promises.specs.Together.Hanging.{test-hangs}
+use Rattle.promises.specs.Kept.Accepting.{refusal-none}
+use Rattle.promises.specs.Kept.Acts.{step-acts}
+use Rattle.promises.specs.Kept.Whole.{PlantSized, Whole, good-whole}
+use Rattle.promises.specs.Kept.Settles.{continue-tries}
+use Rattle.promises.specs.Runs.History.{Hangs, settles}
+use Rattle.promises.specs.Meant.Tick.{tick-time, tick-time-wraps, other-time}
+use Rattle.promises.specs.Meant.Pools.{promise-stocked}
+use Rattle.promises.specs.Meant.Settling.{running-first, post-again, fetch-again, alloc-again, settle-on, settle-ends}
+use Rattle.promises.specs.Meant.Refusals.{first-broken}
+use Rattle.promises.specs.Paper.Step.{
+  World,
+  Left,
+  ended,
+  First,
+  Running,
+  Post,
+  Fetch,
+  Continued,
+  Settles,
+  ClockAfter,
+  ResultOf,
+  RefusedWith,
+  StepOf,
+}
+use Rattle.promises.specs.Meant.Broken.{breaks-broken, broken-breaks}
+use Rattle.promises.specs.Meant.Moves.{worldOf, found-is, finish-world}
+use Rattle.promises.specs.Meant.Calls.{sized, few, good, post-is, fetch-is, top-is, pool-row}
+use Rattle.promises.specs.Meant.Rows.{act-is}
+use Rattle.promises.specs.Meant.Only.{first-only, step-only}
+
+-- what the types of a host fix: the lengths of its arrays, and the widths of a step's fields and of the time
+pub record Host (t : Tables) (c : Clock) (s : Step) : Type 0 where
+  pub lengths : PlantSized (opened t)
+  pub object : s .object < 256
+  pub operand : s .a < 4294967296
+  pub time : c .time .0 < 4294967296
+
+-- ---- who runs
+
+pub running-is : (p : Plant) → p .sizes .threads ≤ 16 → Running (worldOf p) (firstReady (p .kernel) (p .sizes .threads))
+running-is p few =
+    elim (running-first (p .kernel) (p .sizes .threads) few) [
+      | inl f ↦ Running.thread (record { thread = f .thread; is-ready = f .is-ready; first = f .first })
+      | inr f ↦ Running.idle (f .none) (f .nobody)
+    ]
+
+-- ---- settling
+
+-- tables at work whose every rule holds, but that of the running thread
+module _ (p : Plant) (w : Whole (p .sizes) p) where
+  abbrev r : ℕ
+  r = runningIn p
+
+  -- settled tables have no call to continue
+  quiet : isSettled p ≡ true → (i : ℕ) → First (worldOf p) i → worldOf p .thread i .call .kind ≡ 0
+  quiet e i f =
+      elim (running-is p (few p w)) [
+        | Running.thread g ↦ rw (first-only (worldOf p) i r f g) (eqb-true (threadAt (p .kernel) r .call .kind) 0 e)
+        | Running.idle none d ↦ absurd (none i (f .thread) (f .is-ready))
+      ]
+
+  -- others have a running thread with one
+  due : isSettled p ≡ false → First (worldOf p) r
+  due e =
+      elim (running-is p (few p w)) [
+        | Running.thread g ↦ g
+        | Running.idle none d ↦ contrary (rw (d, thread-blank (p .kernel) 255 (omega (arith, sized p w .threads)))) e
+      ]
+
+  module _ (i : ℕ) (f : First (worldOf p) i) (call : threadAt (p .kernel) i .call .kind ≢ 0) where
+    abbrev t : Thread
+    t = threadAt (p .kernel) i
+
+    abbrev o : ℕ
+    o = t .call .object
+
+    here : i < 16
+    here = omega (arith, f .thread, few p w)
+
+    answer-is : answeredOnly t ≡ true → worldOf (continued p i) ≡ ended (worldOf p) i (t .message) 0
+    unfolding continued
+    answer-is e = rw e (finish-world p (sized p w) i (t .message) 0 (inr here))
+
+    other-kind : t .call .kind ≢ 15 → t .call .kind ≢ 16 → t .call .kind ≢ 17 → t .call .kind ≢ 20 → answeredOnly t ≡ true
+    other-kind a b c d =
+        rw (ne-eqb (t .call .kind) 15 a, ne-eqb (t .call .kind) 16 b, ne-eqb (t .call .kind) 17 c, ne-eqb (t .call .kind) 20 d)
+
+    -- "mailbox, wake message 0: the whole mailbox rule is tried again"
+    post-on : (t .call .kind ≡ 15) ⊎ (t .call .kind ≡ 16) → t .message ≡ pos 0 → Continued (worldOf p) i (worldOf (continued p i))
+    post-on e m =
+        Continued.posts e m
+        (subst (λ (h : Plant). Post (worldOf p) i (t .call) (worldOf h)) (sym (post-again p i e m))
+        (post-is p w i (t .call) (there e) (inr here) (λ d. here) e))
+      where
+        there : (t .call .kind ≡ 15) ⊎ (t .call .kind ≡ 16) → o < p .sizes .mailboxes
+        there (inl e) = rw e at (good p w .threads i (f .thread) .object call)
+        there (inr e) = rw e at (good p w .threads i (f .thread) .object call)
+
+    fetch-on : t .call .kind ≡ 17 → t .message ≡ pos 0 → Continued (worldOf p) i (worldOf (continued p i))
+    fetch-on e m =
+        Continued.fetches e m
+        (subst (λ (h : Plant). Fetch (worldOf p) i (t .call) (worldOf h)) (sym (fetch-again p i e m))
+        (fetch-is p w i (t .call) (rw e at (good p w .threads i (f .thread) .object call)) (inr here) (λ d. here)))
+
+    -- "pool, message 0: it takes the top"
+    take-on : t .call .kind ≡ 20 → t .message ≡ pos 0 → Continued (worldOf p) i (worldOf (continued p i))
+    take-on e m =
+        let there : o < p .sizes .pools = rw e at (good p w .threads i (f .thread) .object call) in
+        Continued.takes e m
+        (ap worldOf (alloc-again p i e m)
+        ∙ top-is p (sized p w) i (inr here) o (pool-row p w o there)
+        (promise-stocked p (good p w) o there i (f .thread) (f .is-ready) e m refl))
+
+    -- the three bullets
+    continued-is : Continued (worldOf p) i (worldOf (continued p i))
+    continued-is =
+        split (same (t .message) (pos 0))
+        (λ e.
+        let m = same-means (t .message) (pos 0) e in
+        same-or (t .call .kind) 15 (λ a. post-on (inl a) m)
+        (λ n15. same-or (t .call .kind) 16 (λ a. post-on (inr a) m)
+        (λ n16. same-or (t .call .kind) 17 (λ a. fetch-on a m)
+        (λ n17. same-or (t .call .kind) 20 (λ a. take-on a m)
+        (λ n20. Continued.answers (inl (n15, n16, n17, n20)) (answer-is (other-kind n15 n16 n17 n20)))))))
+        (λ e.
+        Continued.answers (inr (λ x. contrary (rw x) e)) (answer-is (split (isBoxCall (t .call .kind)) (λ b. rw (b, e)) (λ b. rw b))))
+
+    whole-on : Whole (continued p i .sizes) (continued p i)
+    whole-on =
+        let v = continue-tries p w i (record { within = f .thread; is-ready = f .is-ready; unfinished = call }) .done .whole in
+        subst (λ (y : Sizes). Whole y (continued p i)) (sym (v .same)) v
+
+spent-all : (p : Plant) → settled 0 p ≡ p
+unfolding settled
+spent-all p = refl
+
+-- settling that ended with a budget of b
+abbrev SettlesWith : ℕ → Type 0
+SettlesWith b = (p : Plant) → Whole (p .sizes) p → isSettled (settled b p) ≡ true → Settles (worldOf (settled b p)) (worldOf p)
+
+settles-on : (b : ℕ) → SettlesWith b → (p : Plant) → Whole (p .sizes) p → isSettled (settled (suc b) p) ≡ true → isSettled p ≡ false
+    → Settles (worldOf (settled (suc b) p)) (worldOf p)
+settles-on b rest p w e q =
+    let r = runningIn p in
+    let f = due p w q in
+    let call = eqb-false (threadAt (p .kernel) r .call .kind) 0 q in
+    let h = continued p r in
+    let on = settle-on p b call in
+    Settles.goes r f call (worldOf h) (continued-is p w r f call)
+    (subst (λ (x : Plant). Settles (worldOf x) (worldOf h)) (sym on) (rest h (whole-on p w r f call) (rw on at e)))
+
+pub settles-is : (b : ℕ) → SettlesWith b
+settles-is zero p w e = Settles.ends (quiet p w (rw (spent-all p) at e)) (ap worldOf (spent-all p))
+settles-is (suc b) p w e =
+    split (isSettled p)
+    (λ q. Settles.ends (quiet p w q) (ap worldOf (settle-ends p (suc b) (eqb-true (threadAt (p .kernel) (runningIn p) .call .kind) 0 q))))
+    (settles-on b (settles-is b) p w e)
+
+-- ---- clock and result
+
+clock-is : (c : Clock) → c .time .0 < 4294967296 → (kind : ℕ) → ClockAfter c kind (clockAfter c kind)
+clock-is c h kind =
+    same-or kind 1
+    (λ e. in-or-out (c .time .0) 4294967295
+    (λ l. ClockAfter.next e l (rw e (λ x. record { time = record { 0 = tick-time c l x }; frequency = c .frequency })))
+    (λ l.
+    let top : c .time .0 ≡ 4294967295 = omega arith in
+    ClockAfter.wraps e top (rw e (λ x. record { time = record { 0 = tick-time-wraps c top x }; frequency = c .frequency }))))
+    (λ d. ClockAfter.stays d (other-time c kind d))
+
+bit-one : (b : Bool) → bit b ≡ cond b 1 0
+bit-one true = refl
+bit-one false = refl
+
+result-is : (p : Plant) → p .sizes .threads ≤ 16 → (caller : ℕ)
+    → ResultOf (worldOf p) caller (outcomeOf (p .kernel) (p .sizes .threads) caller)
+unfolding outcomeOf
+result-is p few caller =
+    record {
+      code = refl;
+      running = running-is p few;
+      woken = λ i. mask-digit (p .kernel .woken) i ∙ bit-one (getD (p .kernel .woken) i false);
+      finished = λ i. mask-digit (p .kernel .finished) i ∙ bit-one (getD (p .kernel .finished) i false);
+      message = split (eqb caller 255) (λ e. rw e) (λ e. rw e);
+      datum = split (eqb caller 255) (λ e. rw e) (λ e. rw e);
+    }
+
+left-is : (p : Plant) → Whole (p .sizes) p → Left (worldOf p) (closed p)
+left-is p w =
+    record {
+      sizes = refl;
+      threads = λ i. refl;
+      counters = λ i. refl;
+      references = λ i. refl;
+      boxes = λ i. refl;
+      pools = λ i. refl;
+      thread-rows = w .kernel .rules .sized .threads;
+      counter-rows = w .kernel .rules .sized .counters;
+      reference-rows = w .kernel .rules .sized .references;
+      box-rows = w .boxes;
+      pool-rows = w .rows;
+    }
+
+-- ---- ONE STEP
+
+module _ (t : Tables) (c : Clock) (s : Step) (host : Host t c s) where
+  abbrev p : Plant
+  p = opened t
+
+  abbrev n : ℕ
+  n = refusalOf p c s
+
+  -- tables that break no rule have at most 16 threads
+  few-then : n ≢ 1 → t .sizes .threads ≤ 16
+  few-then x =
+      split (hangsTogether p c) (λ e. test-hangs p c e .good .sizes .threads .1) (λ e. absurd (x (unfold refusalOf in rw e)))
+
+  refused-is : n ≢ 0 → RefusedWith t c n (refusedWith t c p n)
+  unfolding refusedWith
+  refused-is d =
+      record {
+        tables = refl;
+        clock = refl;
+        code = refl;
+        no-running = λ e. rw e;
+        running = λ x. rw (ne-eqb n 1 x) (subst (λ (w : World). Running w (runningIn p)) (found-is t) (running-is p (few-then x)));
+        woken = refl;
+        finished = refl;
+        message = refl;
+        datum = refl;
+      }
+
+  abbrev h : Plant
+  h = settled (budgetOf (t .sizes .threads)) (acted p (c .time) s)
+
+  module _ (e : n ≡ 0) where
+    hangs : Hangs t c
+    hangs = record { together = test-hangs p c (refusal-none p c s e .hangs); sized = host .lengths }
+
+    begun-whole : Whole (t .sizes) p
+    begun-whole = good-whole p (hangs .together .good) (host .lengths)
+
+    acted-whole : Whole (t .sizes) (acted p (c .time) s)
+    acted-whole = step-acts p c s (refusal-none p c s e) begun-whole .done .whole
+
+    code : stepped t c s .outcome .code ≡ 0
+    code = step-code t c s ∙ e
+
+    own : {x : Plant} → Whole (t .sizes) x → Whole (x .sizes) x
+    own {x} v = subst (λ (y : Sizes). Whole y x) (sym (v .same)) v
+
+    settled-whole : Whole (h .sizes) h
+    settled-whole = own (settles t c s hangs code .tries .done .whole)
+
+    accepted-is : StepOf t c s (doneWith h c s)
+    unfolding doneWith
+    accepted-is =
+        StepOf.accepted (λ m b. first-broken p c s (host .object) .none e m (broken-breaks t c s (λ x. few-then (λ y. absurd (omega (arith, e, y)))) b)) (worldOf (acted p (c .time) s)) (worldOf h)
+        (act-is t c s begun-whole (host .operand) e)
+        (settles-is (budgetOf (t .sizes .threads)) (acted p (c .time) s) (own acted-whole) (settles t c s hangs code .ended))
+        (left-is h settled-whole) (clock-is c (host .time) (s .kind)) (result-is h (settled-whole .sizes .threads .1) (s .caller))
+
+  -- EVERY STEP IS AS DOCUMENT 01 TELLS IT
+  pub step-is : StepOf t c s (stepped t c s)
+  step-is =
+      same-or n 0
+      (λ e. subst (StepOf t c s) (sym (step-done t c s (step-code t c s ∙ e))) (accepted-is e))
+      (λ d.
+      subst (StepOf t c s) (sym (step-stopped t c s (λ x. d (sym (step-code t c s) ∙ x))))
+      (StepOf.refused n (breaks-broken t c s (λ x. few-then (λ y. absurd (omega (arith, x, y)))) (first-broken p c s (host .object) .broken d))
+      (λ m l b.
+      first-broken p c s (host .object) .before m l (broken-breaks t c s (λ x. few-then (λ y. absurd (omega (arith, x, y, l)))) b))
+      (refused-is d)))
+
+-- DEMAND 2: what document 01 tells of a step, `stepped` gives back, and it is the only answer of which it is told
+pub demand-two : (t : Tables) (c : Clock) (s : Step) → Host t c s
+    → StepOf t c s (stepped t c s) × ((r : Stepped) → StepOf t c s r → r ≡ stepped t c s)
+demand-two t c s host = (step-is t c s host, λ r a. step-only t c s r (stepped t c s) a (step-is t c s host))

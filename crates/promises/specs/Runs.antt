@@ -1,0 +1,8 @@
+-- Runs: any list of steps, refused ones included.
+pub mod Run
+pub mod Answers
+pub mod Refusals
+pub mod Flags
+pub mod History
+pub mod Lives
+pub mod Turns

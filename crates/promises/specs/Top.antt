@@ -1,0 +1,5 @@
+-- The demands, the twelve facts, and runs that show that both speak of something.
+pub mod Demands
+pub mod Facts
+pub mod Shown
+pub mod ShownArms
