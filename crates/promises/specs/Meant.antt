@@ -15,8 +15,8 @@ pub mod Refusals
 pub mod Accepted
 pub mod AcceptedBoxes
 pub mod Only
-pub mod Broken
 pub mod Moves
 pub mod Calls
 pub mod Rows
 pub mod Step
+pub mod Together

@@ -1,2 +1,7 @@
--- Document 01, as statements: one step, and what it is told in. No proof stands here.
+-- Document 01, as statements. No proof stands here, and no meaning that a contract cites.
+pub mod World
+pub mod Rows
+pub mod Settling
+pub mod Together
+pub mod Refusals
 pub mod Step

@@ -43,22 +43,11 @@ use Rattle.promises.specs.Meant.Tick.{tick-time, tick-time-wraps, other-
 use Rattle.promises.specs.Meant.Pools.{promise-stocked}
 use Rattle.promises.specs.Meant.Settling.{running-first, post-again, fetch-again, alloc-again, settle-on, settle-ends}
 use Rattle.promises.specs.Meant.Refusals.{first-broken}
-use Rattle.promises.specs.Paper.Step.{
-  World,
-  Left,
-  ended,
-  First,
-  Running,
-  Post,
-  Fetch,
-  Continued,
-  Settles,
-  ClockAfter,
-  ResultOf,
-  RefusedWith,
-  StepOf,
-}
-use Rattle.promises.specs.Meant.Broken.{breaks-broken, broken-breaks}
+use Rattle.promises.specs.Paper.World.{World, Left, ended, First, Running}
+use Rattle.promises.specs.Paper.Rows.{Post, Fetch}
+use Rattle.promises.specs.Paper.Settling.{Continued, Settles}
+use Rattle.promises.specs.Paper.Refusals.{RefusedWith}
+use Rattle.promises.specs.Paper.Step.{ClockAfter, ResultOf, StepOf}
 use Rattle.promises.specs.Meant.Moves.{worldOf, found-is, finish-world}
 use Rattle.promises.specs.Meant.Calls.{sized, few, good, post-is, fetch-is, top-is, pool-row}
 use Rattle.promises.specs.Meant.Rows.{act-is}
@@ -291,7 +280,7 @@ module _ (t : Tables) (c : Clock) (s : Step) (host : Host t c s) where
     accepted-is : StepOf t c s (doneWith h c s)
     unfolding doneWith
     accepted-is =
-        StepOf.accepted (λ m b. first-broken p c s (host .object) .none e m (broken-breaks t c s (λ x. few-then (λ y. absurd (omega (arith, e, y)))) b)) (worldOf (acted p (c .time) s)) (worldOf h)
+        StepOf.accepted (first-broken t c s (host .lengths .kernel .threads) (host .object) .none e) (worldOf (acted p (c .time) s)) (worldOf h)
         (act-is t c s begun-whole (host .operand) e)
         (settles-is (budgetOf (t .sizes .threads)) (acted p (c .time) s) (own acted-whole) (settles t c s hangs code .ended))
         (left-is h settled-whole) (clock-is c (host .time) (s .kind)) (result-is h (settled-whole .sizes .threads .1) (s .caller))
@@ -299,13 +288,12 @@ module _ (t : Tables) (c : Clock) (s : Step) (host : Host t c s) where
   -- EVERY STEP IS AS DOCUMENT 01 TELLS IT
   pub step-is : StepOf t c s (stepped t c s)
   step-is =
+      let first = first-broken t c s (host .lengths .kernel .threads) (host .object) in
       same-or n 0
       (λ e. subst (StepOf t c s) (sym (step-done t c s (step-code t c s ∙ e))) (accepted-is e))
       (λ d.
       subst (StepOf t c s) (sym (step-stopped t c s (λ x. d (sym (step-code t c s) ∙ x))))
-      (StepOf.refused n (breaks-broken t c s (λ x. few-then (λ y. absurd (omega (arith, x, y)))) (first-broken p c s (host .object) .broken d))
-      (λ m l b.
-      first-broken p c s (host .object) .before m l (broken-breaks t c s (λ x. few-then (λ y. absurd (omega (arith, x, y, l)))) b))
+      (StepOf.refused n (first .broken d) (first .before)
       (refused-is d)))
 
 -- DEMAND 2: what document 01 tells of a step, `stepped` gives back, and it is the only answer of which it is told
