@@ -5,3 +5,4 @@ pub mod Settling
 pub mod Together
 pub mod Refusals
 pub mod Step
+pub mod Waking
