@@ -94,7 +94,7 @@ module _ (t : Tables) (c : Clock) (s : Step) (host : Host t c s) (e : stepped t 
         → Continued (worldOf p) i x → Q (worldOf p) → Q x
     continues p w i f call x h q =
         let within : i < t .sizes .threads = rw (q .0 .sizes) at (f .thread) in
-        continue-keeps t s Q both (worldOf p) i within (f .is-ready) call (timed p w i f call) (q .0 .tried i within) (top-object p w i f call) h q
+        continue-keeps t s Q (both .moves) (worldOf p) i within (f .is-ready) call (timed p w i f call) (q .0 .tried i within) (top-object p w i f call) h q
 
     pub step-keeps : P (worldOf (h t c s host))
     step-keeps =

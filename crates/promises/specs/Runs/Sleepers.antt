@@ -157,18 +157,20 @@ module _ (t : Tables) (s : Step) where
   pub kept-keeps : Keeps t s Kept
   kept-keeps =
       record {
+        moves = record {
+          counter = λ w p c k. record { sizes = k .sizes; tried = k .tried };
+          box = λ w b x k. record { sizes = k .sizes; tried = k .tried };
+          pool = λ w q x k. record { sizes = k .sizes; tried = k .tried };
+          wakes = λ w j m a b k. ready-kept w j m k;
+          ends-on = λ w r m d l a b e k. ended-kept w r m d k;
+          sleeps-on = λ w r q l a b m side k. sleep-kept w r 3 q (w .thread r .call) (k .tried r l) k;
+        };
         begins = λ a b. found-kept;
         ticks = λ v e h. ticks-kept (t .sizes .threads) (found t) v h found-kept;
         events = λ v e h. event-kept (found t) v (s .object) (s .a) h found-kept;
-        counter = λ w p c k. record { sizes = k .sizes; tried = k .tried };
-        box = λ w b x k. record { sizes = k .sizes; tried = k .tried };
-        pool = λ w q x k. record { sizes = k .sizes; tried = k .tried };
-        wakes = λ w j m a b k. ready-kept w j m k;
         ends = λ w m d k. ended-kept w (s .caller) m d k;
         takes = λ a k. took-kept (found t) (s .caller) a k;
         sleeps = λ w st pl c may b k. sleep-kept w (s .caller) st pl c b k;
-        ends-on = λ w r m d l a b e k. ended-kept w r m d k;
-        sleeps-on = λ w r q l a b m side k. sleep-kept w r 3 q (w .thread r .call) (k .tried r l) k;
       }
 
 -- ---- a thread that slept before the step
@@ -538,27 +540,29 @@ module _ (t : Tables) (s : Step) (i : ℕ) (someone : i ≢ 255) (within : i < t
   pub life-keeps : Keeps t s Life
   life-keeps =
       record {
+        moves = record {
+          counter = λ w p c l. l;
+          box = λ w b x l. l;
+          pool = λ w q x l. l;
+          wakes = wakes;
+          ends-on = λ w r m d k z n h l.
+              same-or i r
+              (λ e. subst (λ (j : ℕ). Life (ended w j m d)) e
+              (ends-own w m d (rw e z) (rw e n) (subst (λ (j : ℕ). Ends (w .thread j) m d) (sym e) h) l))
+              (λ d'. ended-stays w r m d d' l);
+          sleeps-on = λ w r q k z g h side l.
+              same-or i r
+              (λ e. subst (λ (j : ℕ). Life (fallAsleep w j 3 q (w .thread j .call))) e
+              (sleeps-own w q (rw e z) (subst (λ (j : ℕ). IsMailing (w .thread j .call .kind)) (sym e) g) (rw e h)
+              (subst (λ (j : ℕ). SideOf (w .thread j .call) q) (sym e) side) l))
+              (λ d. sleep-stays w r 3 q (w .thread r .call) d l);
+        };
         begins = begins;
         ticks = λ v e h. ticks-life e (t .sizes .threads) v h .1 within;
         events = λ v e h. events e v h;
-        counter = λ w p c l. l;
-        box = λ w b x l. l;
-        pool = λ w q x l. l;
-        wakes = wakes;
         ends = λ w m d l. ended-stays w (s .caller) m d apart l;
         takes = takes;
         sleeps = λ w st pl c may b l. sleep-stays w (s .caller) st pl c apart l;
-        ends-on = λ w r m d k z n h l.
-            same-or i r
-            (λ e. subst (λ (j : ℕ). Life (ended w j m d)) e
-            (ends-own w m d (rw e z) (rw e n) (subst (λ (j : ℕ). Ends (w .thread j) m d) (sym e) h) l))
-            (λ d'. ended-stays w r m d d' l);
-        sleeps-on = λ w r q k z g h side l.
-            same-or i r
-            (λ e. subst (λ (j : ℕ). Life (fallAsleep w j 3 q (w .thread j .call))) e
-            (sleeps-own w q (rw e z) (subst (λ (j : ℕ). IsMailing (w .thread j .call .kind)) (sym e) g) (rw e h)
-            (subst (λ (j : ℕ). SideOf (w .thread j .call) q) (sym e) side) l))
-            (λ d. sleep-stays w r 3 q (w .thread r .call) d l);
       }
 
 -- ---- a thread that was ready before the step
@@ -706,23 +710,25 @@ module _ (t : Tables) (s : Step) (i : ℕ) (someone : i ≢ 255) (was-ready : ro
   pub calm-keeps : Keeps t s Calm
   calm-keeps =
       record {
+        moves = record {
+          counter = λ w p c h. calm-same w (counterTo w p c) refl refl h;
+          box = λ w m x h. calm-same w (boxTo w m x) refl refl h;
+          pool = λ w q x h. calm-same w (poolTo w q x) refl refl h;
+          wakes = λ w j m n c h. wakes-calm w j m n h;
+          ends-on = λ w r m d l z n e h. ends-calm w r m d h;
+          sleeps-on = λ w r q l z g m side h.
+              same-or i r
+              (λ e. subst (λ (j : ℕ). Calm (fallAsleep w j 3 q (w .thread j .call))) e
+              (again-calm w q (subst (λ (j : ℕ). IsMailing (w .thread j .call .kind)) (sym e) g) (rw e m)
+              (subst (λ (j : ℕ). SideOf (w .thread j .call) q) (sym e) side) h))
+              (λ d. calm-same w (fallAsleep w r 3 q (w .thread r .call)) (put-other (w .thread) r i _ d) refl h);
+        };
         begins = λ x y. Calm.ready still-found;
         ticks = λ v e h. Calm.ready (ticks-still (t .sizes .threads) v h);
         events = λ v e h. events-calm v h;
-        counter = λ w p c h. calm-same w (counterTo w p c) refl refl h;
-        box = λ w m x h. calm-same w (boxTo w m x) refl refl h;
-        pool = λ w q x h. calm-same w (poolTo w q x) refl refl h;
-        wakes = λ w j m n c h. wakes-calm w j m n h;
         ends = λ w m d h. ends-calm w (s .caller) m d h;
         takes = took-calm;
         sleeps = λ w st pl c o d h. own-calm w st pl c o h;
-        ends-on = λ w r m d l z n e h. ends-calm w r m d h;
-        sleeps-on = λ w r q l z g m side h.
-            same-or i r
-            (λ e. subst (λ (j : ℕ). Calm (fallAsleep w j 3 q (w .thread j .call))) e
-            (again-calm w q (subst (λ (j : ℕ). IsMailing (w .thread j .call .kind)) (sym e) g) (rw e m)
-            (subst (λ (j : ℕ). SideOf (w .thread j .call) q) (sym e) side) h))
-            (λ d. calm-same w (fallAsleep w r 3 q (w .thread r .call)) (put-other (w .thread) r i _ d) refl h);
       }
 
   pub calm-after : (w : World) → Calm w → WakerAfter t s i (w .thread i) (w .woken i)
