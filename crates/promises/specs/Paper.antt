@@ -6,3 +6,4 @@ pub mod Together
 pub mod Refusals
 pub mod Step
 pub mod Waking
+pub mod Run

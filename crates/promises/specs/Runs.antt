@@ -9,3 +9,4 @@ pub mod Turns
 pub mod Keeping
 pub mod Sleepers
 pub mod OneStep
+pub mod Waiters

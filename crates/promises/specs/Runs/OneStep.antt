@@ -6,10 +6,11 @@ use mathlib.Core.Logic.{_≢_, _⊎_, inl, inr}
 use mathlib.Core.Bool.{Bool, true, false, cond}
 use lib.Dec.{eqb}
 use lib.IntN.{pos}
+use borrow.Author.Tests.{eq-eqb, ne-eqb}
 use Rattle.kernel.specs.declared.clock.Clock.{Clock}
 use Rattle.kernel.specs.declared.records.Thread.{Thread}
 use Rattle.kernel.specs.Tables.{threadAt}
-use Rattle.kernel.proofs.Cases.{in-or-out}
+use Rattle.kernel.proofs.Cases.{same-or, in-or-out}
 use Rattle.library.specs.declared.calls.Step.{Step}
 use Rattle.library.specs.declared.tables.Plant.{Plant}
 use Rattle.library.specs.declared.tables.Tables.{Tables}
@@ -20,14 +21,14 @@ use Rattle.steps.specs.Refusal.{refusalOf}
 use Rattle.steps.specs.Stepping.{budgetOf, outcomeOf, doneWith, stepped}
 use Rattle.steps.proofs.StepLaws.{step-code}
 use Rattle.promises.specs.Paper.World.{World, found, First}
-use Rattle.promises.specs.Paper.Rows.{topIn}
+use Rattle.promises.specs.Paper.Rows.{topIn, Act}
 use Rattle.promises.specs.Paper.Settling.{Continued}
 use Rattle.promises.specs.Paper.Together.{TicksFit, ThreadFits}
 use Rattle.promises.specs.Paper.Refusals.{Broken}
 use Rattle.promises.specs.Paper.Waking.{rowOf, inMask, SleeperAfter, WakerAfter}
 use Rattle.promises.specs.Kept.Whole.{Whole}
 use Rattle.promises.specs.Runs.Answers.{step-done}
-use Rattle.promises.specs.Runs.Keeping.{Keeps, both-keeps, act-keeps, continue-keeps}
+use Rattle.promises.specs.Runs.Keeping.{KeepsOn, Keeps, both-on, act-keeps, continue-keeps}
 use Rattle.promises.specs.Runs.Sleepers.{Kept, kept-keeps, Life, life-keeps, Calm, calm-keeps, calm-after}
 use Rattle.promises.specs.Meant.Together.{rules-together}
 use Rattle.promises.specs.Meant.Pools.{promise-stocked}
@@ -58,10 +59,10 @@ module _ (p : Plant) (w : Whole (p .sizes) p) (r : ℕ) (f : First (worldOf p) r
 
 -- WHAT EACH MOVE KEEPS, AN ACCEPTED STEP KEEPS
 module _ (t : Tables) (c : Clock) (s : Step) (host : Host t c s) (e : stepped t c s .outcome .code ≡ 0) where
-  accepted : refusalOf (opened t) c s ≡ 0
+  pub accepted : refusalOf (opened t) c s ≡ 0
   accepted = sym (step-code t c s) ∙ e
 
-  unbroken : (m : ℕ) → Broken t c s m → ⊥
+  pub unbroken : (m : ℕ) → Broken t c s m → ⊥
   unbroken = first-broken t c s (host .lengths .kernel .threads) (host .object) .none accepted
 
   -- whom a reference holds is suspended on it
@@ -80,40 +81,68 @@ module _ (t : Tables) (c : Clock) (s : Step) (host : Host t c s) (e : stepped t 
           in-or-out (s .object) (t .sizes .references) (λ l. l)
           (λ l. absurd (unbroken 5 (Broken.reference (omega (arith, k)) (omega (arith, k)) l)))
 
-  module _ (P : World → Type 0) (k : Keeps t s P) where
-    abbrev Q : World → Type 0
-    Q w = Kept t s w × P w
+  -- the tables after the step's own act
+  abbrev pub x₀ : World
+  x₀ = worldOf (acted (opened t) (c .time) s)
 
-    both : Keeps t s Q
-    both = both-keeps t s (Kept t s) P (kept-keeps t s) k
+  pub act : Act t (c .time) s x₀ (s .kind)
+  act = act-is t c s (begun-whole t c s host accepted) (host .operand) accepted
 
-    after-act : Q (worldOf (acted (opened t) (c .time) s))
-    after-act = act-keeps t s Q both (c .time) held refl (act-is t c s (begun-whole t c s host accepted) (host .operand) accepted)
+  kept-act : Kept t s x₀
+  kept-act = act-keeps t s (Kept t s) (kept-keeps t s) (c .time) held refl act
 
-    continues : (p : Plant) → Whole (p .sizes) p → (i : ℕ) → First (worldOf p) i → threadAt (p .kernel) i .call .kind ≢ 0 → (x : World)
-        → Continued (worldOf p) i x → Q (worldOf p) → Q x
-    continues p w i f call x h q =
-        let within : i < t .sizes .threads = rw (q .0 .sizes) at (f .thread) in
-        continue-keeps t s Q (both .moves) (worldOf p) i within (f .is-ready) call (timed p w i f call) (q .0 .tried i within) (top-object p w i f call) h q
+  -- what each continued call keeps, settling keeps
+  settle-keeps : (P : World → Type 0) → KeepsOn t s P → P x₀ → P (worldOf (h t c s host))
+  settle-keeps P k q =
+      settled-keeps Q continues (budgetOf (t .sizes .threads)) (acted (opened t) (c .time) s)
+      (own t c s host accepted (acted-whole t c s host accepted)) (kept-act, q) .1
+    where
+      Q : World → Type 0
+      Q w = Kept t s w × P w
 
-    pub step-keeps : P (worldOf (h t c s host))
-    step-keeps =
-        settled-keeps Q continues (budgetOf (t .sizes .threads)) (acted (opened t) (c .time) s)
-        (own t c s host accepted (acted-whole t c s host accepted)) after-act .1
+      continues : (p : Plant) → Whole (p .sizes) p → (i : ℕ) → First (worldOf p) i → threadAt (p .kernel) i .call .kind ≢ 0 → (x : World)
+          → Continued (worldOf p) i x → Q (worldOf p) → Q x
+      continues p w i f call x h q =
+          let within : i < t .sizes .threads = rw (q .0 .sizes) at (f .thread) in
+          continue-keeps t s Q (both-on t s (Kept t s) P (kept-keeps t s .moves) k) (worldOf p) i within (f .is-ready) call (timed p w i f call)
+          (q .0 .tried i within) (top-object p w i f call) h q
+
+  step-keeps : (P : World → Type 0) → Keeps t s P → P (worldOf (h t c s host))
+  step-keeps P k = settle-keeps P (k .moves) (act-keeps t s P k (c .time) held refl act)
+
+  -- who was woken by the step's own act is in the mask
+  pub woken-seen : (j : ℕ) → x₀ .woken j ≡ true → inMask j (stepped t c s .outcome .woken) ≡ true
+  unfolding doneWith outcomeOf
+  woken-seen j a =
+      let x : World = worldOf (h t c s host) in
+      let r = result-is (h t c s host) (settled-whole t c s host accepted .sizes .threads .1) (s .caller) in
+      subst (λ (q : Stepped). inMask j (q .outcome .woken) ≡ true) (sym (step-done t c s e))
+      (rw (bit-in _ j (x .woken j) (r .woken j)) (settle-keeps (λ w. w .woken j ≡ true) stays a))
+    where
+      stays : KeepsOn t s (λ w. w .woken j ≡ true)
+      stays =
+          record {
+            counter = λ w p c q. q;
+            box = λ w b x q. q;
+            pool = λ w p x q. q;
+            wakes = λ w i m n d q. same-or j i (λ z. rw (z, eq-eqb i i refl)) (λ z. rw (ne-eqb j i z) q);
+            ends-on = λ w r m d l z n g q. q;
+            sleeps-on = λ w r p l z b m g q. q;
+          }
 
   -- ---- of one thread
 
   abbrev u : Tables
   u = stepped t c s .tables
 
-  few : t .sizes .threads ≤ 16
+  pub few : t .sizes .threads ≤ 16
   few = hangs t c s host accepted .together .good .sizes .threads .1
 
   module _ (i : ℕ) (within : i < t .sizes .threads) where
     someone : i ≢ 255
     someone z = omega (arith, z, within, few)
 
-    fits : ThreadFits (t .sizes) (rowOf t i)
+    pub fits : ThreadFits (t .sizes) (rowOf t i)
     fits = rules-together t c (hangs t c s host accepted .together) .threads i within
 
     -- a thread that sleeps is not the caller, for it does not run
