@@ -10,3 +10,4 @@ pub mod Keeping
 pub mod Sleepers
 pub mod OneStep
 pub mod Waiters
+pub mod Moments
