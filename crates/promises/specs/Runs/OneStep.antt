@@ -117,6 +117,12 @@ module _ (t : Tables) (c : Clock) (s : Step) (host : Host t c s) (e : stepped t 
   sizes-after =
       subst (λ (q : Stepped). q .tables .sizes ≡ t .sizes) (sym (step-done t c s e)) (step-keeps (Kept t s) (kept-keeps t s) .sizes)
 
+  -- what holds of a record after the step's own act, and is kept, holds of it in the tables after the step
+  pub rows-after : (i : ℕ) (P : Thread → Type 0) → KeepsOn t s (λ w. P (w .thread i)) → P (x₀ .thread i) → P (rowOf (stepped t c s .tables) i)
+  unfolding doneWith
+  rows-after i P k q =
+      subst (λ (r : Stepped). P (rowOf (r .tables) i)) (sym (step-done t c s e)) (settle-keeps (λ w. P (w .thread i)) k q)
+
   -- who was woken by the step's own act is in the mask
   pub woken-seen : (j : ℕ) → x₀ .woken j ≡ true → inMask j (stepped t c s .outcome .woken) ≡ true
   unfolding doneWith outcomeOf
