@@ -38,7 +38,9 @@ fn show_all(names: &[u8], whole: bool) {
     let mut i: usize = 0;
     while i < names.len() {
         if names[i] == b' ' {
-            show(&names[from..i], whole);
+            if from <= i {
+                show(&names[from..i], whole);
+            }
             from = i + 1;
         }
         i += 1;
