@@ -20,3 +20,4 @@ pub mod Moves
 pub mod Calls
 pub mod Rows
 pub mod Step
+pub mod Time
