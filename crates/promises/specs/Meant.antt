@@ -21,3 +21,5 @@ pub mod Calls
 pub mod Rows
 pub mod Step
 pub mod Time
+pub mod Sizes
+pub mod Fresh

@@ -1,3 +1,5 @@
 -- Document 01, as statements: one step, and what it is told in. No proof stands here.
 pub mod Step
 pub mod Time
+pub mod Sizes
+pub mod Fresh

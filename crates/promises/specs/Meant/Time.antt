@@ -115,16 +115,16 @@ same-unit Seconds = refl
 same-unit Milliseconds = refl
 same-unit Microseconds = refl
 
-same-rate : (r : Rate) → frequencyOf r ≡ ticksInSecond r
+pub same-rate : (r : Rate) → frequencyOf r ≡ ticksInSecond r
 same-rate (Given f) = refl
 same-rate Standard = refl
 
-possible-fits : (f : ℕ) → frequencyFits f ≡ true → Possible f
+pub possible-fits : (f : ℕ) → frequencyFits f ≡ true → Possible f
 possible-fits f e =
     let b = both-means (leb 1 f) (leb f 1000000) e in
     record { low = leb-true 1 f (b .0); high = leb-true f 1000000 (b .1) }
 
-fits-possible : (f : ℕ) → Possible f → frequencyFits f ≡ true
+pub fits-possible : (f : ℕ) → Possible f → frequencyFits f ≡ true
 fits-possible f p = both-true (le-leb 1 f (p .low)) (le-leb f 1000000 (p .high))
 
 -- a quotient rounded up is the least number that covers: with one less it would be n * b < a + b
