@@ -23,3 +23,4 @@ pub mod Step
 pub mod Time
 pub mod Sizes
 pub mod Fresh
+pub mod Said

@@ -3,3 +3,4 @@ pub mod Step
 pub mod Time
 pub mod Sizes
 pub mod Fresh
+pub mod Answers
