@@ -24,3 +24,4 @@ pub mod Time
 pub mod Sizes
 pub mod Fresh
 pub mod Said
+pub mod Reader

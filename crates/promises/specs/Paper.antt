@@ -4,3 +4,4 @@ pub mod Time
 pub mod Sizes
 pub mod Fresh
 pub mod Answers
+pub mod Reader
