@@ -25,3 +25,5 @@ pub mod Sizes
 pub mod Fresh
 pub mod Said
 pub mod Reader
+pub mod Writer
+pub mod Encoding

@@ -5,3 +5,4 @@ pub mod Sizes
 pub mod Fresh
 pub mod Answers
 pub mod Reader
+pub mod Writer

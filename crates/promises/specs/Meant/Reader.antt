@@ -90,9 +90,9 @@ module _ (s : List ℕ) (from n : ℕ) where
       (λ t. rw t (part-byte (6 + m) (omega (arith, ltb-true m k t))))
       (λ t. rw t (part-past (6 + m) (omega (arith, ltb-false m k t))))
 
-pub sizes-is : (s : List ℕ) → getN 2 s 1 ≡ 6 + byte s 7 → headSizes s ≡ sizesIn s
+pub head-sizes : (s : List ℕ) → getN 2 s 1 ≡ 6 + byte s 7 → headSizes s ≡ sizesIn s
 unfolding decodedSizes
-sizes-is s e =
+head-sizes s e =
     let n : ℕ = getN 2 s 1 in
     rw (part-byte s 3 n 0 (omega arith), part-byte s 3 n 1 (omega arith), part-byte s 3 n 2 (omega arith), part-byte s 3 n 3 (omega arith),
       part-byte s 3 n 4 (omega arith), part-byte s 3 n 5 (omega arith), part-slot s 3 n 0 (byte s 7) e, part-slot s 3 n 1 (byte s 7) e,
@@ -225,14 +225,14 @@ module _ (s : List ℕ) where
       let right : two s 1 ≡ 6 + byte s 7 = sym (two-is s 1) ∙ sized in
       split (sizesFit (headSizes s))
       (λ e.
-      let limits : InLimits (sizesIn s) = fit-limits (sizesIn s) (rw (sizes-is s sized) at e) in
+      let limits : InLimits (sizesIn s) = fit-limits (sizesIn s) (rw (head-sizes s sized) at e) in
       rw (a, b, c, d, e)
       (HeadRead.opened
       (λ n x. none-of 16 (λ l. short) (λ l. version) (λ l. within) (λ l. right) (λ l. limits) n (order-under n (numbers-head x .1)) x)
-      (record { found = refl; sized = sizes-is s sized; place = omega arith })))
+      (record { found = refl; sized = head-sizes s sized; place = omega arith })))
       (λ e. head-refused 14 (rw (a, b, c, d, e)) (λ z. omega arith)
       (record {
-        broken = HeadBroken.size (out-of-limits (sizesIn s) (rw (sizes-is s sized) at e));
+        broken = HeadBroken.size (out-of-limits (sizesIn s) (rw (head-sizes s sized) at e));
         none-before = none-of 14 (λ l. short) (λ l. version) (λ l. within) (λ l. right) (λ l. absurd (omega arith));
       })))
       (λ d. head-refused 13 (rw (a, b, c, d)) (λ z. omega arith)
