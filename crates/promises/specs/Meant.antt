@@ -27,3 +27,4 @@ pub mod Said
 pub mod Reader
 pub mod Writer
 pub mod Encoding
+pub mod Boundary

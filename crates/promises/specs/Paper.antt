@@ -6,3 +6,4 @@ pub mod Fresh
 pub mod Answers
 pub mod Reader
 pub mod Writer
+pub mod Boundary
