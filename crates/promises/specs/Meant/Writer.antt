@@ -331,3 +331,23 @@ sizes-write-one {z} {l} (WriteOfSizes.refused m f e c) (WriteOfSizes.refused n g
 sizes-write-one (WriteOfSizes.refused m f e c) (WriteOfSizes.written g d b) = absurd (g m (f .unfit))
 sizes-write-one (WriteOfSizes.written f e c) (WriteOfSizes.refused n g d b) = absurd (f n (g .unfit))
 sizes-write-one {v = v} {w = w} (WriteOfSizes.written f e c) (WriteOfSizes.written g d b) = (written-one v w (e ∙ sym d), head-only c b)
+
+-- ---- where nothing is refused, the record stands
+
+pub record-stands : {x : Step} {at : ℕ} {l : List ℕ} {w : Written} {k : List ℕ} → WriteOfStep x at l w k → writtenSaid w .code ≡ 0
+    → RecordIn x at l k
+record-stands (WriteOfStep.refused n f e c) z = absurd (some (f .unfit) (sym (ap (λ (s : Said). s .code) e) ∙ z))
+  where
+    some : {at n : ℕ} {l : List ℕ} → StepUnfit at l n → n ≢ 0
+    some (StepUnfit.long a) q = omega arith
+    some (StepUnfit.short a) q = omega arith
+record-stands (WriteOfStep.written f e c) z = c
+
+pub head-stands : {z : Sizes} {l : List ℕ} {w : Written} {k : List ℕ} → WriteOfSizes z l w k → writtenSaid w .code ≡ 0 → HeadIn z l k
+head-stands (WriteOfSizes.refused n f e c) z = absurd (some (f .unfit) (sym (ap (λ (s : Said). s .code) e) ∙ z))
+  where
+    some : {y : Sizes} {n : ℕ} {l : List ℕ} → SizesUnfit y l n → n ≢ 0
+    some (SizesUnfit.size a) q = omega arith
+    some (SizesUnfit.long a) q = omega arith
+    some (SizesUnfit.short a) q = omega arith
+head-stands (WriteOfSizes.written f e c) z = c
