@@ -12,7 +12,7 @@ use Rattle.kernel.proofs.Cases.{split}
 use Rattle.trace.specs.declared.reader.Found.the-variants.{Ended}
 use Rattle.trace.specs.declared.reader.Read.{Read}
 use Rattle.trace.specs.Ordered.{getN}
-use Rattle.trace.specs.Reader.{foundCode, numberAt, headRefusal, headSizes, stepRefusal, refusedRead, openedRead, nextRead}
+use Rattle.trace.specs.Reader.{foundCode, headRefusal, stepRefusal, openedRead, nextRead}
 use Rattle.trace.proofs.Framing.{Head, head, stands}
 use Rattle.trace.proofs.ReadingLaws.{ends, steps-on, refuses}
 use Rattle.lines.specs.Ending.{placeAfter}

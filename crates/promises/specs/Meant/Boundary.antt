@@ -3,8 +3,6 @@
 use Prim.Native.Nat.{ℕ}
 use native.Mathlib.Omega.{arith}
 use mathlib.Core.Path.{_≡_, refl, sym, ap, _∙_}
-use mathlib.Core.Logic.{_≢_}
-use mathlib.Core.Bool.{true, false, cond}
 use mathlib.Core.List.{List, [], _∷_}
 use lib.Dec.{eqb}
 use borrow.Author.Tests.{eqb-true, eqb-false}
@@ -19,10 +17,9 @@ use Rattle.steps.specs.declared.stepping.Stepped.{Stepped}
 use Rattle.steps.specs.Stepping.{stepped}
 use Rattle.trace.specs.declared.reader.Found.{Found}
 use Rattle.trace.specs.declared.reader.Found.the-variants as found
-use Rattle.trace.specs.declared.reader.Read.{Read}
 use Rattle.trace.specs.declared.writer.Written.{Written}
 use Rattle.trace.specs.declared.writer.Written.the-variants as written
-use Rattle.trace.specs.Reader.{foundCode, numberAt, nextRead}
+use Rattle.trace.specs.Reader.{foundCode, nextRead}
 use Rattle.trace.specs.Writer.{writtenCode, sizesAnswer, sizesWritten, stepAnswer, stepWritten}
 use Rattle.host.specs.declared.request.Request.{Request}
 use Rattle.host.specs.declared.request.StepResult.{StepResult}
@@ -31,11 +28,7 @@ use Rattle.host.specs.Request.{stepOf, resultOf}
 use Rattle.host.specs.Setup.{madeFor, prepared, tablesSet, clockSet}
 use Rattle.host.specs.Reads.{requestIn, foundNumber, readAt}
 use Rattle.host.specs.Writes.{placeAfter}
-use Rattle.promises.specs.Paper.Step.{StepOf}
-use Rattle.promises.specs.Paper.Fresh.{MadeOf}
 use Rattle.promises.specs.Paper.Answers.{Said, foundSaid, writtenSaid}
-use Rattle.promises.specs.Paper.Reader.{NumberOf, ReadOf}
-use Rattle.promises.specs.Paper.Writer.{WriteOfSizes, WriteOfStep}
 use Rattle.promises.specs.Paper.Boundary.{asked, StepCall, FreshCall, StepGiven, ReadCall, PlaceKept, SizesCall, RecordCall}
 use Rattle.promises.specs.Meant.Step.{Host, demand-two}
 use Rattle.promises.specs.Meant.Only.{step-only}
@@ -68,9 +61,10 @@ step-call-one {t} {c} {q} {o = o} {p = p} a b =
     let parts : _≡_ {A = StepResult}
     (record { code = o .code; running = o .running; woken = o .woken; finished = o .finished; message = o .message; datum = o .datum })
     (record { code = p .code; running = p .running; woken = p .woken; finished = p .finished; message = p .message; datum = p .datum }) =
-    rw (a .code, a .running, a .woken, a .finished, a .message, a .datum, b .code, b .running, b .woken, b .finished, b .message, b .datum, same) in
-    (a .tables ∙ ap (λ (x : Stepped). x .tables) same ∙ sym (b .tables),
-      (a .clock ∙ ap (λ (x : Stepped). x .clock) same ∙ sym (b .clock), parts))
+    rw (a .code, a .running, a .woken, a .finished, a .message, a .datum, b .code, b .running, b .woken, b .finished, b .message, b .datum, same) in (
+      a .tables ∙ ap (λ (x : Stepped). x .tables) same ∙ sym (b .tables),
+      (a .clock ∙ ap (λ (x : Stepped). x .clock) same ∙ sym (b .clock), parts),
+    )
 
 -- ---- nil_fresh
 
@@ -182,9 +176,10 @@ pub sizes-call-one : {z : Sizes} {l : List ℕ} {place c d : ℕ} {k j : List �
     → (c ≡ d) × ((k ≡ j) × (m ≡ n))
 sizes-call-one {place = place} {m = m} {n = n} a b =
     let same = sizes-write-one (a .is-write) (b .is-write) in
-    let placed : PlaceKept (writtenSaid (b .done)) place m = rw (same .0) at (a .placed) in
-    (a .coded ∙ ap (λ (w : Written). writtenSaid w .code) (same .0) ∙ sym (b .coded),
-      (same .1, kept-one (writtenSaid (b .done)) place m n placed (b .placed)))
+    let placed : PlaceKept (writtenSaid (b .done)) place m = rw (same .0) at (a .placed) in (
+      a .coded ∙ ap (λ (w : Written). writtenSaid w .code) (same .0) ∙ sym (b .coded),
+      (same .1, kept-one (writtenSaid (b .done)) place m n placed (b .placed)),
+    )
 
 pub record-call-is : (q : Request) (at : ℕ) (l : List ℕ) (place : ℕ)
     → RecordCall q at l place (writtenCode (stepAnswer at l)) (stepWritten (stepOf q) at l) (placeAfter (stepAnswer at l) place)
@@ -200,6 +195,7 @@ pub record-call-one : {q : Request} {at : ℕ} {l : List ℕ} {place c d : ℕ} 
     → RecordCall q at l place c k m → RecordCall q at l place d j n → (c ≡ d) × ((k ≡ j) × (m ≡ n))
 record-call-one {place = place} {m = m} {n = n} a b =
     let same = step-write-one (a .is-write) (b .is-write) in
-    let placed : PlaceKept (writtenSaid (b .done)) place m = rw (same .0) at (a .placed) in
-    (a .coded ∙ ap (λ (w : Written). writtenSaid w .code) (same .0) ∙ sym (b .coded),
-      (same .1, kept-one (writtenSaid (b .done)) place m n placed (b .placed)))
+    let placed : PlaceKept (writtenSaid (b .done)) place m = rw (same .0) at (a .placed) in (
+      a .coded ∙ ap (λ (w : Written). writtenSaid w .code) (same .0) ∙ sym (b .coded),
+      (same .1, kept-one (writtenSaid (b .done)) place m n placed (b .placed)),
+    )

@@ -3,11 +3,10 @@
 use Prim.Native.Nat.{ℕ, zero, suc, _+_, _*_, _/_, _%_, _≤_, _<_}
 use native.Mathlib.Omega.{arith}
 use mathlib.Core.Path.{_≡_, refl, sym, ap, _∙_}
-use mathlib.Core.Logic.{_≢_}
-use mathlib.Core.Bool.{true, false, cond}
+use mathlib.Core.Bool.{cond}
 use mathlib.Core.List.{List, [], _∷_, _++_}
 use lib.Dec.{ltb}
-use lib.ListN.{length, getD, take, drop}
+use lib.ListN.{length, getD, take}
 use lib.Seq.{ext-getD, getD-take, length-take-le, take-append-seam}
 use borrow.Author.Tests.{lt-ltb, le-ltb}
 use Rattle.kernel.proofs.Cases.{in-or-out}
@@ -21,7 +20,7 @@ use Rattle.trace.proofs.ReadingLaws.{all-read}
 use Rattle.trace.proofs.WritingLaws.{all-written}
 use Rattle.promises.specs.Paper.Sizes.{InLimits}
 use Rattle.promises.specs.Paper.Fresh.{nothing}
-use Rattle.promises.specs.Paper.Answers.{Said, foundSaid}
+use Rattle.promises.specs.Paper.Answers.{foundSaid}
 use Rattle.promises.specs.Paper.Reader.{byte, two, four, sizesIn, HeadBroken, RecordBroken, Gives, HeadRead, LaterRead, ReadOf}
 use Rattle.promises.specs.Paper.Writer.{HeadIn, FourIn, RecordIn, AnyStep, Present}
 use Rattle.promises.specs.Meant.Sizes.{limits-fit}
@@ -40,6 +39,7 @@ four-back {k} {at} {n} f h =
   where
     first : byte k at ≡ n / 16777216 % 256 → byte k at ≡ n / 256 / 256 / 256
     first e = omega arith
+
     second : byte k (at + 1) ≡ n / 65536 % 256 → byte k (at + 1) ≡ n / 256 / 256 % 256
     second e = omega arith
 

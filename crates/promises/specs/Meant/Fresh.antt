@@ -1,13 +1,10 @@
 -- What is made is fresh as the paper tells it, and the paper leaves no choice: every field of the tables is written out.
 use Prim.Native.Nat.{ℕ}
 use mathlib.Core.Path.{_≡_, refl, sym, _∙_}
-use mathlib.Core.Bool.{true, false}
 use mathlib.Core.List.{List}
 use lib.IntN.{ℤ}
 use Rattle.kernel.specs.declared.clock.Clock.{Clock}
-use Rattle.kernel.specs.declared.time.SystemTime.{SystemTime}
 use Rattle.kernel.specs.declared.units.Rate.{Rate}
-use Rattle.kernel.specs.declared.records.Records.{Records}
 use Rattle.kernel.specs.declared.records.Thread.{Thread}
 use Rattle.kernel.specs.Units.{frequencyFits}
 use Rattle.kernel.proofs.Cases.{split, contrary}
@@ -18,8 +15,7 @@ use Rattle.library.specs.declared.tables.Tables.{Tables}
 use Rattle.library.specs.declared.fresh.Made.{Made}
 use Rattle.library.specs.Sizes.{sizesFit}
 use Rattle.library.specs.Fresh.{freshTables, freshClock, made}
-use Rattle.promises.specs.Paper.Time.{ticksInSecond, Possible}
-use Rattle.promises.specs.Paper.Sizes.{InLimits}
+use Rattle.promises.specs.Paper.Time.{ticksInSecond}
 use Rattle.promises.specs.Paper.Fresh.{FreshTables, FreshClock, nothing, Holds, MadeOf}
 use Rattle.promises.specs.Meant.Time.{same-rate, possible-fits, fits-possible}
 use Rattle.promises.specs.Meant.Sizes.{fit-limits, out-of-limits}

@@ -1,22 +1,19 @@
 -- What the code reads at a place is what the paper tells of it, for any bytes, and the paper leaves no choice: the tests of the code, in
 -- their order, are the rules in theirs.
-use Prim.Native.Nat.{ℕ, zero, suc, _+_, _-_, _*_, _/_, _≤_, _<_}
-use native.Mathlib.Nat.{add-zero}
+use Prim.Native.Nat.{ℕ, suc, _+_, _-_, _*_, _/_, _≤_, _<_}
 use native.Mathlib.Omega.{arith}
 use mathlib.Core.Path.{_≡_, refl, sym, ap, ap₂, _∙_}
 use mathlib.Core.Logic.{_≢_}
-use mathlib.Core.Bool.{Bool, true, false, cond}
+use mathlib.Core.Bool.{true, cond}
 use mathlib.Core.List.{List, [], _∷_}
 use lib.Dec.{eqb, ltb}
 use lib.ListN.{length, getD, take, drop, List·getD-eq-default}
 use lib.Seq.{getD-take, getD-drop}
 use denote.Ref.{now}
-use borrow.Author.Tests.{ltb-true, ltb-false, lt-ltb, le-ltb, eqb-true, eqb-false, eq-eqb, ne-eqb}
-use Rattle.kernel.proofs.Cases.{split, same-or, in-or-out, contrary}
-use Rattle.library.specs.declared.calls.Step.{Step}
+use borrow.Author.Tests.{ltb-true, ltb-false, eqb-true, eqb-false, ne-eqb}
+use Rattle.kernel.proofs.Cases.{split, same-or, in-or-out}
 use Rattle.library.specs.declared.sizes.Sizes.{Sizes}
 use Rattle.library.specs.Sizes.{sizesFit}
-use Rattle.trace.specs.declared.reader.Found.{Found}
 use Rattle.trace.specs.declared.reader.Found.the-variants as found
 use Rattle.trace.specs.declared.reader.Read.{Read}
 use Rattle.trace.specs.declared.reading.Reader.{Reader}
@@ -30,7 +27,6 @@ use Rattle.trace.specs.Reader.{
   stepRefusal,
   decodedSizes,
   decodedStep,
-  refusedRead,
   openedRead,
   steppedRead,
   nextRead,
@@ -40,7 +36,6 @@ use Rattle.trace.proofs.Widths.{get-two, get-four, get-same}
 use Rattle.trace.proofs.BodyLaws.{take-short}
 use Rattle.trace.proofs.Framing.{whole}
 use Rattle.promises.specs.Paper.Sizes.{InLimits}
-use Rattle.promises.specs.Paper.Fresh.{nothing}
 use Rattle.promises.specs.Paper.Answers.{Said, foundSaid}
 use Rattle.promises.specs.Paper.Reader.{
   byte,
@@ -94,9 +89,18 @@ pub head-sizes : (s : List ℕ) → getN 2 s 1 ≡ 6 + byte s 7 → headSizes s 
 unfolding decodedSizes
 head-sizes s e =
     let n : ℕ = getN 2 s 1 in
-    rw (part-byte s 3 n 0 (omega arith), part-byte s 3 n 1 (omega arith), part-byte s 3 n 2 (omega arith), part-byte s 3 n 3 (omega arith),
-      part-byte s 3 n 4 (omega arith), part-byte s 3 n 5 (omega arith), part-slot s 3 n 0 (byte s 7) e, part-slot s 3 n 1 (byte s 7) e,
-      part-slot s 3 n 2 (byte s 7) e, part-slot s 3 n 3 (byte s 7) e)
+    rw (
+      part-byte s 3 n 0 (omega arith),
+      part-byte s 3 n 1 (omega arith),
+      part-byte s 3 n 2 (omega arith),
+      part-byte s 3 n 3 (omega arith),
+      part-byte s 3 n 4 (omega arith),
+      part-byte s 3 n 5 (omega arith),
+      part-slot s 3 n 0 (byte s 7) e,
+      part-slot s 3 n 1 (byte s 7) e,
+      part-slot s 3 n 2 (byte s 7) e,
+      part-slot s 3 n 3 (byte s 7) e,
+    )
 
 pub step-said : (s : List ℕ) (at : ℕ)
     → foundSaid (found.Stepped (decodedStep (take 11 (drop (at + 2) s))))
@@ -111,8 +115,13 @@ step-said s at =
     λ i to h e. part-byte s (at + 2) 11 i h ∙ ap (byte s) e in
     let all-four : (i to : ℕ) → i + 4 ≤ 11 → at + 2 + i ≡ to → getN 4 (take 11 (drop (at + 2) s)) i ≡ four s to =
     λ i to h e. part-four s (at + 2) 11 i h ∙ ap (getN 4 s) e ∙ four-is s to in
-    rw (one 0 (at + 2) (omega arith) (omega arith), one 1 (at + 3) (omega arith) (omega arith), one 2 (at + 4) (omega arith) (omega arith),
-      all-four 3 (at + 5) (omega arith) (omega arith), all-four 7 (at + 9) (omega arith) (omega arith))
+    rw (
+      one 0 (at + 2) (omega arith) (omega arith),
+      one 1 (at + 3) (omega arith) (omega arith),
+      one 2 (at + 4) (omega arith) (omega arith),
+      all-four 3 (at + 5) (omega arith) (omega arith),
+      all-four 7 (at + 9) (omega arith) (omega arith),
+    )
 
 -- ---- the record's number
 

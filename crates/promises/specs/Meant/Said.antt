@@ -2,7 +2,7 @@
 use Prim.Native.Nat.{ℕ}
 use native.Mathlib.Omega.{arith}
 use mathlib.Core.Path.{_≡_, refl, ap}
-use mathlib.Core.List.{List, [], _∷_}
+use mathlib.Core.List.{[], _∷_}
 use Rattle.library.specs.declared.calls.Step.{Step}
 use Rattle.trace.specs.declared.reader.Found.{Found}
 use Rattle.trace.specs.declared.reader.Found.the-variants as found

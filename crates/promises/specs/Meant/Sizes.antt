@@ -4,7 +4,7 @@ use mathlib.Core.Logic.{_↔_}
 use mathlib.Core.Bool.{true, false}
 use Rattle.library.specs.declared.sizes.Sizes.{Sizes}
 use Rattle.library.specs.Sizes.{sizesFit}
-use Rattle.kernel.proofs.Cases.{split, contrary}
+use Rattle.kernel.proofs.Cases.{contrary}
 use Rattle.promises.specs.Paper.Sizes.{InLimits}
 use Rattle.promises.specs.Together.Good.{GoodSizes}
 use Rattle.promises.specs.Together.PlaceTests.{sizes-good, good-sizes}

@@ -1,23 +1,21 @@
 -- What the code writes is what the paper tells of it, byte by byte, and the paper leaves no choice: a byte that is pasted is the record's,
 -- any other the buffer's own.
-use Prim.Native.Nat.{ℕ, zero, suc, _+_, _-_, _*_, _/_, _%_, _≤_, _<_}
-use native.Mathlib.Nat.{add-zero}
+use Prim.Native.Nat.{ℕ, zero, suc, _+_, _-_, _/_, _%_, _≤_, _<_}
 use native.Mathlib.Omega.{arith}
 use mathlib.Core.Path.{_≡_, refl, sym, ap, _∙_}
 use mathlib.Core.Logic.{_≢_}
-use mathlib.Core.Bool.{Bool, true, false, cond}
 use mathlib.Core.List.{List, [], _∷_, _++_}
-use lib.Dec.{eqb, ltb}
-use lib.ListN.{length, getD, take, drop, length-append, length-take, length-drop, List·getD-eq-default, List·getD-append}
+use lib.Dec.{ltb}
+use lib.ListN.{length, getD, take, drop, length-append, List·getD-eq-default, List·getD-append}
 use lib.Seq.{sets, sets-eq, length-sets, getD-append-add, getD-take, getD-drop, length-take-le, ext-getD}
 use borrow.Author.Tests.{ltb-true, ltb-false, ne-eqb}
-use Rattle.kernel.proofs.Cases.{split, same-or, in-or-out, contrary}
+use Rattle.kernel.proofs.Cases.{split, in-or-out}
 use Rattle.library.specs.declared.calls.Step.{Step}
 use Rattle.library.specs.declared.sizes.Sizes.{Sizes}
 use Rattle.library.specs.Sizes.{sizesFit}
 use Rattle.trace.specs.declared.writer.Written.{Written}
 use Rattle.trace.specs.declared.writer.Written.the-variants as written
-use Rattle.trace.specs.TraceBytes.{sizesBody, headOf, stepBody, recordOf}
+use Rattle.trace.specs.TraceBytes.{sizesBody, headOf, recordOf}
 use Rattle.trace.specs.Writer.{roomRefusal, sizesRefusal, sizesAnswer, sizesWritten, stepAnswer, stepWritten}
 use Rattle.promises.specs.Paper.Sizes.{InLimits}
 use Rattle.promises.specs.Paper.Answers.{Said, writtenSaid}
@@ -193,9 +191,11 @@ module _ (x : Step) (at : ℕ) (l : List ℕ) where
       first : (m : ℕ) → m < 15 → StepUnfit at l m → ⊥
       first m h (StepUnfit.long a) = omega arith
       first m h (StepUnfit.short a) = omega arith
+
       second : at + 13 ≤ 60000 → (m : ℕ) → m < 16 → StepUnfit at l m → ⊥
       second g m h (StepUnfit.long a) = omega arith
       second g m h (StepUnfit.short a) = omega arith
+
       fit : at + 13 ≤ 60000 → at + 13 ≤ length l → (m : ℕ) → StepUnfit at l m → ⊥
       fit g i m (StepUnfit.long a) = omega arith
       fit g i m (StepUnfit.short a) = omega arith
@@ -222,10 +222,12 @@ module _ (z : Sizes) (l : List ℕ) where
       first m h (SizesUnfit.size a) = omega arith
       first m h (SizesUnfit.long a) = omega arith
       first m h (SizesUnfit.short a) = omega arith
+
       second : InLimits z → 9 + z .mailboxes ≤ 60000 → (m : ℕ) → m < 16 → SizesUnfit z l m → ⊥
       second g i m h (SizesUnfit.size a) = a g
       second g i m h (SizesUnfit.long a) = omega arith
       second g i m h (SizesUnfit.short a) = omega arith
+
       fit : InLimits z → 9 + z .mailboxes ≤ 60000 → 9 + z .mailboxes ≤ length l → (m : ℕ) → SizesUnfit z l m → ⊥
       fit g i j m (SizesUnfit.size a) = a g
       fit g i j m (SizesUnfit.long a) = omega arith

@@ -3,10 +3,8 @@
 use Prim.Native.Nat.{ℕ, zero, suc, _≤_, _<_}
 use native.Mathlib.Omega.{arith}
 use mathlib.Core.Path.{_≡_, refl}
-use mathlib.Core.Bool.{true, false}
 use mathlib.Core.List.{List, [], _∷_, _++_}
 use lib.ListN.{length, getD, take, drop, replicate}
-use lib.IntN.{pos, negsuc}
 use Rattle.kernel.specs.declared.time.SystemTime.{SystemTime}
 use Rattle.kernel.specs.declared.time.Interval.{Interval}
 use Rattle.kernel.specs.declared.clock.Clock.{Clock}
@@ -19,9 +17,8 @@ use Rattle.kernel.specs.Units.{inTicks, ofTicks}
 use Rattle.kernel.specs.Walk.{bit, allFrom}
 use Rattle.library.specs.declared.calls.Step.{Step}
 use Rattle.library.specs.declared.sizes.Sizes.{Sizes}
-use Rattle.library.specs.declared.fresh.Made.{Made}
 use Rattle.library.specs.Sizes.{sizesFit}
-use Rattle.library.specs.Tables.{opened, blankMailbox}
+use Rattle.library.specs.Tables.{blankMailbox}
 use Rattle.library.specs.Fresh.{made}
 use Rattle.trace.specs.declared.reader.Found.the-variants.{Ended}
 use Rattle.trace.specs.declared.reader.Read.{Read}
@@ -30,23 +27,22 @@ use Rattle.trace.specs.Ordered.{getN}
 use Rattle.trace.specs.TraceBytes.{headOf, recordOf, traceOf}
 use Rattle.trace.specs.Reader.{endsInside, lengthRefusal, stepRefusal, decodedSizes, decodedStep, openedRead, steppedRead, nextRead}
 use Rattle.trace.specs.Writer.{sizesAnswer, sizesWritten, stepAnswer, stepWritten}
-use Rattle.trace.specs.Traces.{readAll, writtenAll, Encodes, AllEncode, none, more}
+use Rattle.trace.specs.Traces.{readAll, writtenAll, none, more}
 use Rattle.host.specs.declared.request.Request.{Request}
 use Rattle.host.specs.declared.reads.ReadResult.{ReadResult}
-use Rattle.host.specs.Setup.{prepared, tablesSet, clockSet}
+use Rattle.host.specs.Setup.{prepared, clockSet}
 use Rattle.host.specs.Reads.{readAt}
 use Rattle.host.specs.Request.{stepOf}
 use Rattle.host.specs.Writes.{placeAfter}
 use Rattle.promises.specs.Paper.Sizes.{InLimits}
 use Rattle.promises.specs.Paper.Fresh.{nothing}
 use Rattle.promises.specs.Paper.Answers.{foundSaid, writtenSaid}
-use Rattle.promises.specs.Paper.Reader.{Gives, ReadOf, Reached, NumberOf}
-use Rattle.promises.specs.Paper.Writer.{HeadIn, RecordIn, AnyStep, Present, WriteOfSizes, WriteOfStep}
+use Rattle.promises.specs.Paper.Reader.{Gives, Reached, NumberOf}
+use Rattle.promises.specs.Paper.Writer.{AnyStep, Present}
 use Rattle.promises.specs.Meant.Sizes.{fit-limits}
 use Rattle.promises.specs.Meant.Reader.{read-is, reached-number}
 use Rattle.promises.specs.Meant.Writer.{step-write-is, sizes-write-is, record-stands, head-stands}
 use Rattle.promises.specs.Meant.Step.{Host}
-use Rattle.promises.specs.Kept.Whole.{PlantSized}
 use Rattle.promises.specs.Meant.Encoding.{step-read-back, sizes-read-back, round-trip-any}
 
 -- ---- time
@@ -268,6 +264,7 @@ two-present =
     slot : (m : ℕ) → m < 1 → getD (two-read .slots) m 0 ≡ getD (two .slots) m 0
     slot zero h = refl
     slot (suc m) h = absurd (omega arith)
+
     absent : (m : ℕ) → 1 ≤ m → getD (two-read .slots) m 0 ≡ 0
     absent zero h = absurd (omega arith)
     absent (suc zero) h = refl
