@@ -42,6 +42,8 @@ use Rattle.promises.specs.Paper.Reader.{
   two,
   four,
   sizesIn,
+  sizesOfBody,
+  stepOfBody,
   NumberOf,
   HeadBroken,
   RecordBroken,
@@ -122,6 +124,15 @@ step-said s at =
       all-four 3 (at + 5) (omega arith) (omega arith),
       all-four 7 (at + 9) (omega arith) (omega arith),
     )
+
+-- the decoders, on any body
+pub sizes-body-is : (b : List ℕ) → decodedSizes b ≡ sizesOfBody b
+unfolding decodedSizes
+sizes-body-is b = refl
+
+pub step-body-is : (b : List ℕ) → decodedStep b ≡ stepOfBody b
+unfolding decodedStep
+step-body-is b = rw (four-is b 3, four-is b 7)
 
 -- ---- the record's number
 

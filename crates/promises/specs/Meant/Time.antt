@@ -110,7 +110,8 @@ some-in-second Seconds = omega arith
 some-in-second Milliseconds = omega arith
 some-in-second Microseconds = omega arith
 
-same-unit : (u : Unit) → perSecond u ≡ inSecond u
+-- how many of a unit make a second, and how many ticks
+pub same-unit : (u : Unit) → perSecond u ≡ inSecond u
 same-unit Seconds = refl
 same-unit Milliseconds = refl
 same-unit Microseconds = refl
@@ -119,6 +120,7 @@ pub same-rate : (r : Rate) → frequencyOf r ≡ ticksInSecond r
 same-rate (Given f) = refl
 same-rate Standard = refl
 
+-- the code's test of a frequency passes exactly where it is possible
 pub possible-fits : (f : ℕ) → frequencyFits f ≡ true → Possible f
 possible-fits f e =
     let b = both-means (leb 1 f) (leb f 1000000) e in

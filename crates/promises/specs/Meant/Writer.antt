@@ -8,19 +8,20 @@ use mathlib.Core.List.{List, [], _∷_, _++_}
 use lib.Dec.{ltb}
 use lib.ListN.{length, getD, take, drop, length-append, List·getD-eq-default, List·getD-append}
 use lib.Seq.{sets, sets-eq, length-sets, getD-append-add, getD-take, getD-drop, length-take-le, ext-getD}
-use borrow.Author.Tests.{ltb-true, ltb-false, ne-eqb}
-use Rattle.kernel.proofs.Cases.{split, in-or-out}
+use borrow.Author.Tests.{ltb-true, ltb-false, le-leb, lt-leb, ne-eqb}
+use Rattle.kernel.proofs.Cases.{split, same-or, in-or-out}
 use Rattle.library.specs.declared.calls.Step.{Step}
 use Rattle.library.specs.declared.sizes.Sizes.{Sizes}
 use Rattle.library.specs.Sizes.{sizesFit}
 use Rattle.trace.specs.declared.writer.Written.{Written}
 use Rattle.trace.specs.declared.writer.Written.the-variants as written
+use Rattle.trace.specs.Ordered.{bytesN, putN}
 use Rattle.trace.specs.TraceBytes.{sizesBody, headOf, recordOf}
 use Rattle.trace.specs.Writer.{roomRefusal, sizesRefusal, sizesAnswer, sizesWritten, stepAnswer, stepWritten}
 use Rattle.promises.specs.Paper.Sizes.{InLimits}
 use Rattle.promises.specs.Paper.Answers.{Said, writtenSaid}
 use Rattle.promises.specs.Paper.Reader.{byte}
-use Rattle.promises.specs.Paper.Writer.{HeadIn, FourIn, RecordIn, SizesUnfit, StepUnfit, LeastOf, WriteOfSizes, WriteOfStep}
+use Rattle.promises.specs.Paper.Writer.{HeadIn, TwoIn, FourIn, NumberWritten, RecordIn, SizesUnfit, StepUnfit, LeastOf, WriteOfSizes, WriteOfStep}
 use Rattle.promises.specs.Meant.Sizes.{fit-limits, out-of-limits}
 use Rattle.promises.specs.Meant.Said.{written-one}
 
@@ -55,11 +56,44 @@ module _ (l v : List ℕ) (at : ℕ) (fits : at + length v ≤ length l) where
       ∙ getD-drop (at + length v) l (i - (at + length v)) 0
       ∙ ap (byte l) same)
 
--- ---- a step's record
+-- ---- numbers
+
+pub two-write-is : (l : List ℕ) (at n : ℕ) → NumberWritten 2 l at (λ k. TwoIn k at n) (putN 2 l at n)
+unfolding putN
+two-write-is l at n =
+    in-or-out (length l) (at + 2)
+    (λ h. rw (lt-leb (at + 2) (length l) h) (NumberWritten.no-room h refl))
+    (λ h.
+    let v : List ℕ = bytesN 2 n in
+    rw (le-leb (at + 2) (length l) h)
+    (NumberWritten.written h (length-sets l at v) (pasted-before l v at h)
+    (record {
+      first = pasted-in l v at h 0 at (omega arith) (omega arith);
+      last = pasted-in l v at h 1 (at + 1) (omega arith) refl;
+    })
+    (pasted-behind l v at h)))
 
 four-in : (k : List ℕ) (at n : ℕ) → byte k at ≡ n / 256 / 256 / 256 % 256 → byte k (at + 1) ≡ n / 256 / 256 % 256
     → byte k (at + 2) ≡ n / 256 % 256 → byte k (at + 3) ≡ n % 256 → FourIn k at n
 four-in k at n a b c d = record { first = omega arith; second = omega arith; third = c; last = d }
+
+pub four-write-is : (l : List ℕ) (at n : ℕ) → NumberWritten 4 l at (λ k. FourIn k at n) (putN 4 l at n)
+unfolding putN
+four-write-is l at n =
+    in-or-out (length l) (at + 4)
+    (λ h. rw (lt-leb (at + 4) (length l) h) (NumberWritten.no-room h refl))
+    (λ h.
+    let v : List ℕ = bytesN 4 n in
+    rw (le-leb (at + 4) (length l) h)
+    (NumberWritten.written h (length-sets l at v) (pasted-before l v at h)
+    (four-in (sets l at v) at n
+    (pasted-in l v at h 0 at (omega arith) (omega arith))
+    (pasted-in l v at h 1 (at + 1) (omega arith) refl)
+    (pasted-in l v at h 2 (at + 2) (omega arith) refl)
+    (pasted-in l v at h 3 (at + 3) (omega arith) refl))
+    (pasted-behind l v at h)))
+
+-- ---- a step's record
 
 record-in : (x : Step) (at : ℕ) (l : List ℕ) → at + 13 ≤ length l → RecordIn x at l (sets l at (recordOf x))
 unfolding recordOf
@@ -305,6 +339,48 @@ record-only {x} {at} {l} {k} {j} a b =
     (move (at + 9 + 3) (at + 12) (omega arith) (ft .1 .1 .1))
     (i - at) (omega arith)))
     (λ m. a .behind i m ∙ sym (b .behind i m))))
+
+-- a number written: the bytes before it and behind it are the buffer's
+module _ (wide : ℕ) (l : List ℕ) (at : ℕ) (In : List ℕ → Type 0) (k j : List ℕ)
+    (same : In k → In j → (i : ℕ) → i < wide → byte k (at + i) ≡ byte j (at + i)) where
+  number-only : NumberWritten wide l at In k → NumberWritten wide l at In j → k ≡ j
+  number-only (NumberWritten.written r s b n a) (NumberWritten.written r′ s′ b′ n′ a′) =
+      ext-getD 0 k j (s ∙ sym s′)
+      (λ i h. in-or-out i at
+      (λ g. b i g ∙ sym (b′ i g))
+      (λ g. in-or-out i (at + wide)
+      (λ m.
+      let place : at + (i - at) ≡ i = omega arith in
+      ap (byte k) (sym place) ∙ same n n′ (i - at) (omega arith) ∙ ap (byte j) place)
+      (λ m. a i m ∙ sym (a′ i m))))
+  number-only (NumberWritten.written r s b n a) (NumberWritten.no-room r′ e) = absurd (omega arith)
+  number-only (NumberWritten.no-room r e) (NumberWritten.written r′ s′ b′ n′ a′) = absurd (omega arith)
+  number-only (NumberWritten.no-room r e) (NumberWritten.no-room r′ e′) = e ∙ sym e′
+
+at-first : (k j : List ℕ) (at i : ℕ) → i ≡ 0 → byte k at ≡ byte j at → byte k (at + i) ≡ byte j (at + i)
+at-first k j at i z e =
+    let place : at ≡ at + i = omega arith in
+    ap (byte k) (sym place) ∙ e ∙ ap (byte j) place
+
+pub two-write-one : (l : List ℕ) (at n : ℕ) {k j : List ℕ} → NumberWritten 2 l at (λ m. TwoIn m at n) k
+    → NumberWritten 2 l at (λ m. TwoIn m at n) j → k ≡ j
+two-write-one l at n {k} {j} =
+    number-only 2 l at (λ m. TwoIn m at n) k j
+    (λ a b i h. same-or i 0
+    (λ z. at-first k j at i z (a .first ∙ sym (b .first)))
+    (λ z. let one : i ≡ 1 = omega arith in rw one (a .last ∙ sym (b .last))))
+
+pub four-write-one : (l : List ℕ) (at n : ℕ) {k j : List ℕ} → NumberWritten 4 l at (λ m. FourIn m at n) k
+    → NumberWritten 4 l at (λ m. FourIn m at n) j → k ≡ j
+four-write-one l at n {k} {j} =
+    number-only 4 l at (λ m. FourIn m at n) k j
+    (λ a b i h. same-or i 0
+    (λ z. at-first k j at i z (a .first ∙ sym (b .first)))
+    (λ z. same-or i 1
+    (λ y. rw y (a .second ∙ sym (b .second)))
+    (λ y. same-or i 2
+    (λ x. rw x (a .third ∙ sym (b .third)))
+    (λ x. let three : i ≡ 3 = omega arith in rw three (a .last ∙ sym (b .last))))))
 
 module _ (Unfit : ℕ → Type 0) where
   least-one : (m n : ℕ) → LeastOf Unfit m → LeastOf Unfit n → m ≡ n

@@ -7,6 +7,7 @@ use mathlib.Core.Bool.{cond}
 use mathlib.Core.List.{List, [], _∷_}
 use lib.Dec.{eqb, ltb}
 use lib.ListN.{length, getD}
+use Rattle.library.specs.declared.calls.Step.{Step}
 use Rattle.library.specs.declared.sizes.Sizes.{Sizes}
 use Rattle.trace.specs.declared.reader.Read.{Read}
 use Rattle.promises.specs.Paper.Sizes.{InLimits}
@@ -43,6 +44,23 @@ sizesIn s =
           ∷ cond (ltb 3 (byte s 7)) (byte s 12) 0
           ∷ [];
     }
+
+-- a body by itself, as the decoders are handed it: "T, S, Q, R, M, P and M bytes of slots"
+abbrev pub sizesOfBody : List ℕ → Sizes
+sizesOfBody b =
+    record {
+      threads = byte b 0;
+      semaphores = byte b 1;
+      queues = byte b 2;
+      references = byte b 3;
+      mailboxes = byte b 4;
+      pools = byte b 5;
+      slots = byte b 6 ∷ byte b 7 ∷ byte b 8 ∷ byte b 9 ∷ [];
+    }
+
+-- "kind, caller, object (a byte each), a, timeout (four each, big-endian)"
+abbrev pub stepOfBody : List ℕ → Step
+stepOfBody b = record { kind = byte b 0; caller = byte b 1; object = byte b 2; a = four b 3; timeout = four b 7 }
 
 -- the record's number, from its place: record 0 ends at 9 to 13, and each later record is 13 bytes long
 pub data NumberOf (at : ℕ) : ℕ → Type 0 where

@@ -36,6 +36,17 @@ pub record FourIn (k : List ℕ) (at n : ℕ) : Type 0 where
   pub third : byte k (at + 2) ≡ n / 256 % 256
   pub last : byte k (at + 3) ≡ n % 256
 
+-- "two bytes big-endian"
+pub record TwoIn (k : List ℕ) (at n : ℕ) : Type 0 where
+  pub first : byte k at ≡ n / 256 % 256
+  pub last : byte k (at + 1) ≡ n % 256
+
+-- a number of so many bytes is written at a place, where there is room for it, and nothing else
+pub data NumberWritten (wide : ℕ) (l : List ℕ) (at : ℕ) (In : List ℕ → Type 0) (k : List ℕ) : Type 0 where
+  written : at + wide ≤ length l → length k ≡ length l → ((i : ℕ) → i < at → byte k i ≡ byte l i) → In k
+      → ((i : ℕ) → at + wide ≤ i → byte k i ≡ byte l i) → NumberWritten wide l at In k
+  no-room : length l < at + wide → k ≡ l → NumberWritten wide l at In k
+
 -- "Each later body is 11 bytes: kind, caller, object (a byte each), a, timeout (four each, big-endian)"
 pub record RecordIn (x : Step) (at : ℕ) (l k : List ℕ) : Type 0 where
   pub size : length k ≡ length l
