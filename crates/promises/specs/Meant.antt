@@ -15,7 +15,6 @@ pub mod Refusals
 pub mod Accepted
 pub mod AcceptedBoxes
 pub mod Only
-pub mod Broken
 pub mod Moves
 pub mod Calls
 pub mod Rows
@@ -28,3 +27,4 @@ pub mod Reader
 pub mod Writer
 pub mod Encoding
 pub mod Boundary
+pub mod Together

@@ -33,7 +33,7 @@ use Rattle.steps.specs.Stepping.{budgetOf, doneWith, stepped}
 use Rattle.steps.proofs.StepLaws.{step-code, Untouched}
 use Rattle.promises.specs.Runs.Run.{ran}
 use Rattle.promises.specs.Runs.Answers.{step-answers, step-done}
-use Rattle.promises.specs.Together.Good.{HangTogether}
+use Rattle.promises.specs.Together.Good.{RulesHold}
 use Rattle.promises.specs.Together.Hanging.{all-blank}
 use Rattle.promises.specs.Kept.CounterRule.{semaphore-place, pool-place}
 use Rattle.promises.specs.Kept.Story.{Event, sleepIn, isWoke, Idle, Story, story-sleeps}
@@ -163,7 +163,7 @@ module _ (y : Sizes) (r : Rate) (legal : made y r .code ≡ 0) where
   c₀ = made y r .clock
 
   -- "Fresh tables pass, and accepted steps keep it so"
-  pub always-together : (ss : List Step) → HangTogether (opened (ran t₀ c₀ ss .tables)) (ran t₀ c₀ ss .clock)
+  pub always-together : (ss : List Step) → RulesHold (opened (ran t₀ c₀ ss .tables)) (ran t₀ c₀ ss .clock)
   always-together ss = run-hangs t₀ c₀ ss (made-hang y r legal) .together
 
   in-sizes : {i : ℕ} → i < y .threads → i < t₀ .sizes .threads
