@@ -6,7 +6,6 @@ pub mod Together
 pub mod Refusals
 pub mod Step
 pub mod Time
-pub mod Sizes
 pub mod Fresh
 pub mod Answers
 pub mod Reader

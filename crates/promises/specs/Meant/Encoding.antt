@@ -18,7 +18,7 @@ use Rattle.trace.specs.TraceBytes.{framed, sizesBody, headOf, recordsOf, traceO
 use Rattle.trace.specs.Traces.{readAll, writtenAll, AllEncode}
 use Rattle.trace.proofs.ReadingLaws.{all-read}
 use Rattle.trace.proofs.WritingLaws.{all-written}
-use Rattle.promises.specs.Paper.Sizes.{InLimits}
+use Rattle.promises.specs.Paper.Together.{SizesFit}
 use Rattle.promises.specs.Paper.Fresh.{nothing}
 use Rattle.promises.specs.Paper.Answers.{foundSaid}
 use Rattle.promises.specs.Paper.Reader.{byte, two, four, sizesIn, HeadBroken, RecordBroken, Gives, HeadRead, LaterRead, ReadOf}
@@ -77,7 +77,7 @@ slot-past k (suc (suc zero)) h = absurd (omega arith)
 slot-past k (suc (suc (suc zero))) h = absurd (omega arith)
 slot-past k (suc (suc (suc (suc m)))) h = refl
 
-slots-present : (z : Sizes) (l k : List ℕ) → InLimits z → HeadIn z l k → Present z (sizesIn k)
+slots-present : (z : Sizes) (l k : List ℕ) → SizesFit z → HeadIn z l k → Present z (sizesIn k)
 slots-present z l k limits w =
     record {
       threads = w .threads;
@@ -93,7 +93,7 @@ slots-present z l k limits w =
     absent : (m : ℕ) → z .mailboxes ≤ m → getD (sizesIn k .slots) m 0 ≡ 0
     absent m h = in-or-out m 4 (λ l. slot-in k m l ∙ rw (w .mailboxes, le-ltb m (z .mailboxes) h)) (λ l. slot-past k m l)
 
-present-limits : (z y : Sizes) → Present z y → InLimits z → InLimits y
+present-limits : (z y : Sizes) → Present z y → SizesFit z → SizesFit y
 present-limits z y p g =
     record {
       threads = rw (p .threads) (g .threads);
@@ -105,7 +105,7 @@ present-limits z y p g =
       slots = λ m h. rw (p .slots m (rw (p .mailboxes) at h)) (g .slots m (rw (p .mailboxes) at h));
     }
 
-module _ (z : Sizes) (l k : List ℕ) (limits : InLimits z) (room : 9 + z .mailboxes ≤ length k) (short : length k ≤ 60000) (written : HeadIn z l k) where
+module _ (z : Sizes) (l k : List ℕ) (limits : SizesFit z) (room : 9 + z .mailboxes ≤ length k) (short : length k ≤ 60000) (written : HeadIn z l k) where
   head-right : two k 1 ≡ 6 + byte k 7
   head-right = omega (arith, written .length-high, written .length-low, written .mailboxes)
 
@@ -129,7 +129,7 @@ module _ (z : Sizes) (l k : List ℕ) (limits : InLimits z) (room : 9 + z .mailb
 -- ---- a whole trace
 
 -- the bytes of record 0 do not show the mailboxes that are not there
-body-present : (z y : Sizes) → InLimits z → length (z .slots) ≡ 4 → length (y .slots) ≡ 4 → Present z y → sizesBody z ≡ sizesBody y
+body-present : (z y : Sizes) → SizesFit z → length (z .slots) ≡ 4 → length (y .slots) ≡ 4 → Present z y → sizesBody z ≡ sizesBody y
 body-present z y g fz fy p =
     let n : z .mailboxes ≤ 4 = g .mailboxes in
     let tz : length (take (z .mailboxes) (z .slots)) ≡ z .mailboxes = length-take-le (z .mailboxes) (z .slots) (omega arith) in
@@ -146,7 +146,7 @@ unfolding traceOf headOf
 trace-present z y xs e = ap (λ (b : List ℕ). (1 ∷ framed b) ++ recordsOf xs) e
 
 -- "a trace of steps is written and read back as the same steps", whatever stands for mailboxes that are not there: they are read as 0
-pub round-trip-any : (z y : Sizes) (xs : List Step) (l : List ℕ) → InLimits z → length (z .slots) ≡ 4 → Present z y → length (y .slots) ≡ 4
+pub round-trip-any : (z y : Sizes) (xs : List Step) (l : List ℕ) → SizesFit z → length (z .slots) ≡ 4 → Present z y → length (y .slots) ≡ 4
     → AllEncode xs → length (traceOf z xs) ≤ 60000 → length (traceOf z xs) ≤ length l
     → readAll (take (length (traceOf z xs)) (writtenAll z xs l .buffer)) ≡ record { sizes = y; steps = xs; stop = Ended }
 round-trip-any z y xs l g fz p fy es short room =

@@ -35,7 +35,7 @@ use Rattle.trace.specs.Reading.{moved}
 use Rattle.trace.proofs.Widths.{get-two, get-four, get-same}
 use Rattle.trace.proofs.BodyLaws.{take-short}
 use Rattle.trace.proofs.Framing.{whole}
-use Rattle.promises.specs.Paper.Sizes.{InLimits}
+use Rattle.promises.specs.Paper.Together.{SizesFit}
 use Rattle.promises.specs.Paper.Answers.{Said, foundSaid}
 use Rattle.promises.specs.Paper.Reader.{
   byte,
@@ -202,7 +202,7 @@ module _ (s : List ℕ) where
   -- what holds where no rule before n is broken
   none-of : (n : ℕ) → (order 15 < order n → length s ≤ 60000) → (order 11 < order n → byte s 0 ≡ 1)
       → (order 12 < order n → 3 + two s 1 ≤ length s) → (order 13 < order n → two s 1 ≡ 6 + byte s 7)
-      → (order 14 < order n → InLimits (sizesIn s)) → (m : ℕ) → order m < order n → HeadBroken s m → ⊥
+      → (order 14 < order n → SizesFit (sizesIn s)) → (m : ℕ) → order m < order n → HeadBroken s m → ⊥
   none-of n a b c d e m l (HeadBroken.long x) = omega (arith, a l)
   none-of n a b c d e m l (HeadBroken.empty x) = omega (arith, b l, List·getD-eq-default s 0 {n = 0} (omega arith))
   none-of n a b c d e m l (HeadBroken.version x) = x (b l)
@@ -245,7 +245,7 @@ module _ (s : List ℕ) where
       let right : two s 1 ≡ 6 + byte s 7 = sym (two-is s 1) ∙ sized in
       split (sizesFit (headSizes s))
       (λ e.
-      let limits : InLimits (sizesIn s) = fit-limits (sizesIn s) (rw (head-sizes s sized) at e) in
+      let limits : SizesFit (sizesIn s) = fit-limits (sizesIn s) (rw (head-sizes s sized) at e) in
       rw (a, b, c, d, e)
       (HeadRead.opened
       (λ n x. none-of 16 (λ l. short) (λ l. version) (λ l. within) (λ l. right) (λ l. limits) n (order-under n (numbers-head x .1)) x)
@@ -379,7 +379,7 @@ opened-stands : {s : List ℕ} {at : ℕ} → ((n : ℕ) → HeadBroken s n → 
 opened-stands {s} none e =
     let short : length s ≤ 60000 = in-or-out 60000 (length s) (λ l. absurd (none 15 (HeadBroken.long l))) (λ l. l) in
     let few : byte s 7 ≤ 4 =
-    in-or-out 4 (byte s 7) (λ l. absurd (none 14 (HeadBroken.size (λ (g : InLimits (sizesIn s)). omega (arith, g .mailboxes))))) (λ l. l) in
+    in-or-out 4 (byte s 7) (λ l. absurd (none 14 (HeadBroken.size (λ (g : SizesFit (sizesIn s)). omega (arith, g .mailboxes))))) (λ l. l) in
     let sized : two s 1 ≡ 6 + byte s 7 = same-or (two s 1) (6 + byte s 7) (λ q. q) (λ q. absurd (none 13 (HeadBroken.wrong-length q))) in
     let body : 3 + two s 1 ≤ length s =
     in-or-out (length s) (3 + two s 1) (λ l. absurd (none 12 (HeadBroken.in-body l))) (λ l. l) in

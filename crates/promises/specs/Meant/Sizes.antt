@@ -5,11 +5,11 @@ use mathlib.Core.Bool.{true, false}
 use Rattle.library.specs.declared.sizes.Sizes.{Sizes}
 use Rattle.library.specs.Sizes.{sizesFit}
 use Rattle.kernel.proofs.Cases.{contrary}
-use Rattle.promises.specs.Paper.Sizes.{InLimits}
+use Rattle.promises.specs.Paper.Together.{SizesFit}
 use Rattle.promises.specs.Together.Good.{GoodSizes}
 use Rattle.promises.specs.Together.PlaceTests.{sizes-good, good-sizes}
 
-pub fit-limits : (z : Sizes) → sizesFit z ≡ true → InLimits z
+pub fit-limits : (z : Sizes) → sizesFit z ≡ true → SizesFit z
 fit-limits z e =
     let g : GoodSizes z = sizes-good z e in
     record {
@@ -22,7 +22,7 @@ fit-limits z e =
       slots = g .slots;
     }
 
-pub limits-fit : (z : Sizes) → InLimits z → sizesFit z ≡ true
+pub limits-fit : (z : Sizes) → SizesFit z → sizesFit z ≡ true
 limits-fit z g =
     good-sizes z
     (record {
@@ -35,9 +35,9 @@ limits-fit z g =
       slots = g .slots;
     })
 
-pub limits-exactly : (z : Sizes) → (sizesFit z ≡ true) ↔ InLimits z
+pub limits-exactly : (z : Sizes) → (sizesFit z ≡ true) ↔ SizesFit z
 limits-exactly z = (fit-limits z, limits-fit z)
 
 -- what does not pass is not within its limits
-pub out-of-limits : (z : Sizes) → sizesFit z ≡ false → InLimits z → ⊥
+pub out-of-limits : (z : Sizes) → sizesFit z ≡ false → SizesFit z → ⊥
 out-of-limits z f g = contrary (limits-fit z g) f

@@ -18,7 +18,7 @@ use Rattle.trace.specs.declared.writer.Written.the-variants as written
 use Rattle.trace.specs.Ordered.{bytesN, putN}
 use Rattle.trace.specs.TraceBytes.{sizesBody, headOf, recordOf}
 use Rattle.trace.specs.Writer.{roomRefusal, sizesRefusal, sizesAnswer, sizesWritten, stepAnswer, stepWritten}
-use Rattle.promises.specs.Paper.Sizes.{InLimits}
+use Rattle.promises.specs.Paper.Together.{SizesFit}
 use Rattle.promises.specs.Paper.Answers.{Said, writtenSaid}
 use Rattle.promises.specs.Paper.Reader.{byte}
 use Rattle.promises.specs.Paper.Writer.{HeadIn, TwoIn, FourIn, NumberWritten, RecordIn, SizesUnfit, StepUnfit, LeastOf, WriteOfSizes, WriteOfStep}
@@ -123,13 +123,13 @@ record-in x at l h =
 -- ---- record 0
 
 -- a mailbox that has slots stands in the table
-slots-long : (z : Sizes) → InLimits z → z .mailboxes ≤ length (z .slots)
+slots-long : (z : Sizes) → SizesFit z → z .mailboxes ≤ length (z .slots)
 slots-long z g =
     in-or-out (length (z .slots)) (z .mailboxes)
     (λ l. absurd (omega (arith, g .slots (length (z .slots)) l .0, List·getD-eq-default (z .slots) 0 {n = length (z .slots)} (omega arith))))
     (λ h. h)
 
-module _ (z : Sizes) (limits : InLimits z) where
+module _ (z : Sizes) (limits : SizesFit z) where
   taken-long : length (take (z .mailboxes) (z .slots)) ≡ z .mailboxes
   taken-long = length-take-le (z .mailboxes) (z .slots) (slots-long z limits)
 
@@ -245,7 +245,7 @@ module _ (z : Sizes) (l : List ℕ) where
   sizes-write-is =
       split (sizesFit z)
       (λ s.
-      let g : InLimits z = fit-limits z s in
+      let g : SizesFit z = fit-limits z s in
       room-cases 0 (9 + z .mailboxes) l
       (λ a e. absurd (omega (arith, g .mailboxes)))
       (λ a b e. sizes-refused 16 (rw (s, e)) (λ n. omega arith) (record { unfit = SizesUnfit.short (omega arith); none-before = second g (omega arith) }))
@@ -257,12 +257,12 @@ module _ (z : Sizes) (l : List ℕ) where
       first m h (SizesUnfit.long a) = omega arith
       first m h (SizesUnfit.short a) = omega arith
 
-      second : InLimits z → 9 + z .mailboxes ≤ 60000 → (m : ℕ) → m < 16 → SizesUnfit z l m → ⊥
+      second : SizesFit z → 9 + z .mailboxes ≤ 60000 → (m : ℕ) → m < 16 → SizesUnfit z l m → ⊥
       second g i m h (SizesUnfit.size a) = a g
       second g i m h (SizesUnfit.long a) = omega arith
       second g i m h (SizesUnfit.short a) = omega arith
 
-      fit : InLimits z → 9 + z .mailboxes ≤ 60000 → 9 + z .mailboxes ≤ length l → (m : ℕ) → SizesUnfit z l m → ⊥
+      fit : SizesFit z → 9 + z .mailboxes ≤ 60000 → 9 + z .mailboxes ≤ length l → (m : ℕ) → SizesUnfit z l m → ⊥
       fit g i j m (SizesUnfit.size a) = a g
       fit g i j m (SizesUnfit.long a) = omega arith
       fit g i j m (SizesUnfit.short a) = omega arith

@@ -10,7 +10,7 @@ use Rattle.library.specs.declared.sizes.Sizes.{Sizes}
 use Rattle.library.specs.declared.tables.Tables.{Tables}
 use Rattle.library.specs.declared.fresh.Made.{Made}
 use Rattle.promises.specs.Paper.Time.{ticksInSecond, Possible}
-use Rattle.promises.specs.Paper.Sizes.{InLimits}
+use Rattle.promises.specs.Paper.Together.{SizesFit}
 
 -- "Fresh: all ready, references and mailboxes empty, pool objects absent, .. all else 0 or clear": 16 threads, 36 counters (semaphores,
 -- pools, queues, mailboxes' writers and readers), 8 references, 4 mailboxes, 4 pools. Ready is state 0, nobody 255, absent mark 0
@@ -51,6 +51,6 @@ pub record Holds (n : ℕ) (z : Sizes) (f : ℕ) (m : Made) : Type 0 where
 
 -- "14 a size out of its limits", then 6 for "a frequency outside its range": a refusal holds tables of no sizes and a clock of frequency 0
 pub data MadeOf (z : Sizes) (rate : Rate) (m : Made) : Type 0 where
-  no-size : (InLimits z → ⊥) → Holds 14 nothing 0 m → MadeOf z rate m
-  no-frequency : InLimits z → (Possible (ticksInSecond rate) → ⊥) → Holds 6 nothing 0 m → MadeOf z rate m
-  fresh : InLimits z → Possible (ticksInSecond rate) → Holds 0 z (ticksInSecond rate) m → MadeOf z rate m
+  no-size : (SizesFit z → ⊥) → Holds 14 nothing 0 m → MadeOf z rate m
+  no-frequency : SizesFit z → (Possible (ticksInSecond rate) → ⊥) → Holds 6 nothing 0 m → MadeOf z rate m
+  fresh : SizesFit z → Possible (ticksInSecond rate) → Holds 0 z (ticksInSecond rate) m → MadeOf z rate m

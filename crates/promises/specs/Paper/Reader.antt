@@ -10,7 +10,7 @@ use lib.ListN.{length, getD}
 use Rattle.library.specs.declared.calls.Step.{Step}
 use Rattle.library.specs.declared.sizes.Sizes.{Sizes}
 use Rattle.trace.specs.declared.reader.Read.{Read}
-use Rattle.promises.specs.Paper.Sizes.{InLimits}
+use Rattle.promises.specs.Paper.Together.{SizesFit}
 use Rattle.promises.specs.Paper.Fresh.{nothing}
 use Rattle.promises.specs.Paper.Answers.{Said, foundSaid}
 
@@ -82,7 +82,7 @@ pub data HeadBroken (s : List ℕ) : ℕ → Type 0 where
   -- "13 wrong length": "Record 0's right length is 6 plus its M byte; below 6 is wrong"
   wrong-length : two s 1 ≢ 6 + byte s 7 → HeadBroken s 13
   -- "14 a size out of its limits"
-  size : (InLimits (sizesIn s) → ⊥) → HeadBroken s 14
+  size : (SizesFit (sizesIn s) → ⊥) → HeadBroken s 14
 
 -- and a later record at a place
 pub data RecordBroken (s : List ℕ) (at : ℕ) : ℕ → Type 0 where

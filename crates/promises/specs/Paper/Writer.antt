@@ -6,7 +6,7 @@ use lib.ListN.{length, getD}
 use Rattle.library.specs.declared.calls.Step.{Step}
 use Rattle.library.specs.declared.sizes.Sizes.{Sizes}
 use Rattle.trace.specs.declared.writer.Written.{Written}
-use Rattle.promises.specs.Paper.Sizes.{InLimits}
+use Rattle.promises.specs.Paper.Together.{SizesFit}
 use Rattle.promises.specs.Paper.Answers.{writtenSaid}
 use Rattle.promises.specs.Paper.Reader.{byte}
 
@@ -65,7 +65,7 @@ pub record RecordIn (x : Step) (at : ℕ) (l k : List ℕ) : Type 0 where
 -- record 0 of the sizes z, into the buffer l, breaks the rule of this number
 pub data SizesUnfit (z : Sizes) (l : List ℕ) : ℕ → Type 0 where
   -- "14 for such a size", that is one "out of its limits"
-  size : (InLimits z → ⊥) → SizesUnfit z l 14
+  size : (SizesFit z → ⊥) → SizesUnfit z l 14
   -- "15 above 60,000 bytes"
   long : 60000 < 9 + z .mailboxes → SizesUnfit z l 15
   -- "16 if its buffer is too short"

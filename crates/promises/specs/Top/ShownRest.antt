@@ -34,7 +34,7 @@ use Rattle.host.specs.Setup.{prepared, clockSet}
 use Rattle.host.specs.Reads.{readAt}
 use Rattle.host.specs.Request.{stepOf}
 use Rattle.host.specs.Writes.{placeAfter}
-use Rattle.promises.specs.Paper.Sizes.{InLimits}
+use Rattle.promises.specs.Paper.Together.{SizesFit}
 use Rattle.promises.specs.Paper.Fresh.{nothing}
 use Rattle.promises.specs.Paper.Answers.{foundSaid, writtenSaid}
 use Rattle.promises.specs.Paper.Reader.{Gives, Reached, NumberOf}
@@ -113,7 +113,7 @@ abbrev many : Sizes
 many =
     record { threads = 17; semaphores = 1; queues = 0; references = 0; mailboxes = 0; pools = 0; slots = 0 ∷ 0 ∷ 0 ∷ 0 ∷ [] }
 
-two-limits : InLimits two
+two-limits : SizesFit two
 unfolding sizesFit
 two-limits = fit-limits two refl
 
