@@ -19,4 +19,12 @@ pub mod Moves
 pub mod Calls
 pub mod Rows
 pub mod Step
+pub mod Time
+pub mod Sizes
+pub mod Fresh
+pub mod Said
+pub mod Reader
+pub mod Writer
+pub mod Encoding
+pub mod Boundary
 pub mod Together

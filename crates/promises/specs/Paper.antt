@@ -6,5 +6,11 @@ pub mod Together
 pub mod Host
 pub mod Refusals
 pub mod Step
+pub mod Time
+pub mod Fresh
+pub mod Answers
+pub mod Reader
+pub mod Writer
+pub mod Boundary
 pub mod Waking
 pub mod Run

@@ -472,8 +472,7 @@ module _ (t : Tables) (s : Step) (i : ℕ) (someone : i ≢ 255) (within : i < t
     ticks-life : (n : ℕ) (x : World) → Ticks (found t) n x → (n ≤ i → Untouched x) × (i < n → Life x)
     ticks-life zero x e = (λ l. rw e found-untouched, λ l. absurd (omega arith))
     ticks-life (suc n) x h =
-        let rest = ticks-life n (h .0) (h .1) in
-        (
+        let rest = ticks-life n (h .0) (h .1) in (
           λ l. tick-untouched (h .0) x n (λ e. omega (arith, l, e)) (h .2) (rest .0 (omega arith)),
           λ l. same-or i n (λ e. tick-own (h .0) x (rest .0 (omega (arith, e))) (subst (λ (j : ℕ). TickOf (h .0) j x) (sym e) (h .2)))
               (λ d. tick-stays (h .0) x n d (h .2) (rest .1 (omega arith))),
@@ -632,8 +631,8 @@ module _ (t : Tables) (s : Step) (i : ℕ) (someone : i ≢ 255) (was-ready : ro
       same-or (s .caller) i
       (λ e.
       let r : fallAsleep w (s .caller) st pl c .thread i ≡ asleep (w .thread i) st pl c =
-              subst (λ (k : ℕ). fallAsleep w k st pl c .thread i ≡ asleep (w .thread i) st pl c) (sym e)
-              (put-same (w .thread) i (asleep (w .thread i) st pl c)) in
+      subst (λ (k : ℕ). fallAsleep w k st pl c .thread i ≡ asleep (w .thread i) st pl c) (sym e)
+      (put-same (w .thread) i (asleep (w .thread i) st pl c)) in
       Calm.own e st pl o
       (λ x l.
       let three : st ≡ 3 = sym (ap (λ (v : Thread). v .state) r) ∙ x in

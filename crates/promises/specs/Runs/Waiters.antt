@@ -277,8 +277,13 @@ module _ (t : Tables) (c : Clock) (s : Step) (host : Host t c s) (e : stepped t 
     turn-of i q x (WokenBy.call (CalledOut.signal k st pl)) = TurnOf.signal k (sym pl ∙ x)
     turn-of i q x (WokenBy.call (CalledOut.reset k st pl)) =
         TurnOf.reset k (sym pl ∙ x)
-        (omega (arith, sym pl ∙ x, semaphores, in-or-out (s .object) (t .sizes .semaphores) (λ l. l)
-        (λ l. absurd (unbroken t c s host e 5 (Broken.semaphore (omega (arith, k)) (omega (arith, k)) l)))))
+        (omega (
+          arith,
+          sym pl ∙ x,
+          semaphores,
+          in-or-out (s .object) (t .sizes .semaphores) (λ l. l)
+              (λ l. absurd (unbroken t c s host e 5 (Broken.semaphore (omega (arith, k)) (omega (arith, k)) l))),
+        ))
       where
         semaphores : t .sizes .semaphores ≤ 16
         semaphores = together .sizes .semaphores
