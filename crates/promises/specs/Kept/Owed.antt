@@ -1,6 +1,6 @@
 -- What a pool owes: the units of its semaphore and the objects that it has promised. A signal owes one more, a unit taken one less,
 -- and no other move changes it; so the free list, which a free and an add lengthen and a taking shortens, has that length.
-use Prim.Native.Nat.{ℕ, zero, suc, _+_, _-_, _<_}
+use Prim.Native.Nat.{ℕ, zero, suc, _+_, _<_}
 use native.Mathlib.Omega.{arith}
 use mathlib.Core.Path.{_≡_, refl, sym, ap, _∙_}
 use mathlib.Core.Logic.{_≢_}

@@ -12,7 +12,7 @@ use borrow.Author.Tests.{eq-eqb, ne-eqb, ltb-true, lt-ltb}
 use Rattle.kernel.specs.declared.records.Call.{Call}
 use Rattle.kernel.specs.declared.records.Thread.{Thread}
 use Rattle.kernel.specs.declared.records.Kernel.{Kernel}
-use Rattle.kernel.specs.Numbers.{ready, queued, awaiting, ok, wasReset, timedOut}
+use Rattle.kernel.specs.Numbers.{queued, awaiting, ok, wasReset, timedOut}
 use Rattle.kernel.specs.Places.{poolPlace, writersPlace, readersPlace}
 use Rattle.kernel.specs.Walk.{each}
 use Rattle.kernel.specs.Tables.{usedRows, threadAt, counterAt, holderAt, withThread, withCounter}

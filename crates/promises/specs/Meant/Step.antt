@@ -1,5 +1,5 @@
 -- What `stepped` gives back is what document 01 tells of the step: for any tables, any clock and any step of a host.
-use Prim.Native.Nat.{ℕ, zero, suc, _-_, _≤_, _<_}
+use Prim.Native.Nat.{ℕ, zero, suc, _≤_, _<_}
 use native.Mathlib.Omega.{arith}
 use mathlib.Core.Path.{_≡_, refl, sym, ap, _∙_, subst}
 use mathlib.Core.Logic.{_≢_, _⊎_, inl, inr}
@@ -32,13 +32,13 @@ use Rattle.steps.specs.Stepping.{clockAfter, budgetOf, outcomeOf, doneWith, ref
 use Rattle.steps.proofs.StepLaws.{step-code}
 use Rattle.promises.specs.Runs.Answers.{step-done, step-stopped}
 use Rattle.promises.specs.Together.Tests.{same-means}
-use Rattle.promises.specs.Runs.Flags.{mask-digit}
+use Rattle.promises.specs.Meant.Masks.{mask-digit}
 use Rattle.promises.specs.Together.Hanging.{test-hangs}
 use Rattle.promises.specs.Kept.Accepting.{refusal-none}
 use Rattle.promises.specs.Kept.Acts.{step-acts}
 use Rattle.promises.specs.Kept.Whole.{PlantSized, Whole, good-whole}
 use Rattle.promises.specs.Kept.Settles.{continue-tries}
-use Rattle.promises.specs.Runs.History.{Hangs, settles}
+use Rattle.promises.specs.Kept.Steps.{Hangs, settles}
 use Rattle.promises.specs.Meant.Tick.{tick-time, tick-time-wraps, other-time}
 use Rattle.promises.specs.Meant.Pools.{promise-stocked}
 use Rattle.promises.specs.Meant.Settling.{running-first, post-again, fetch-again, alloc-again, settle-on, settle-ends}
