@@ -4,19 +4,21 @@ use native.Mathlib.Omega.{arith}
 use mathlib.Core.Path.{_≡_, refl, sym, ap, _∙_}
 use mathlib.Core.Bool.{true}
 use mathlib.Core.List.{List, [], _∷_, _++_, append-assoc, append-nil}
+use lib.Dec.{eqb}
 use lib.ListN.{length, take, drop, length-append}
 use lib.Seq.{take-at, drop-append-add, length-take-le}
-use borrow.Author.Tests.{eq-eqb, ne-eqb}
+use borrow.Author.Tests.{eq-eqb, ne-eqb, eqb-true, eqb-false}
 use Rattle.library.specs.declared.calls.Step.{Step}
 use Rattle.library.specs.declared.sizes.Sizes.{Sizes}
-use Rattle.trace.specs.declared.reader.Found.the-variants.{Opened, Stepped, Ended}
+use Rattle.trace.specs.declared.reader.Found.the-variants.{Opened, Stepped, Ended, Refused}
 use Rattle.trace.specs.Ordered.{bytesN, getN}
 use Rattle.library.specs.Sizes.{sizesFit, noSizes}
 use Rattle.trace.specs.TraceBytes.{longest, sizesBody, headOf, stepBody, recordOf, recordsOf, traceOf}
-use Rattle.trace.specs.Reader.{stepRefusal, decodedStep, stoppedRead, refusedRead, openedRead, steppedRead, nextRead}
+use Rattle.trace.specs.Reader.{numberAt, headRefusal, stepRefusal, decodedStep, stoppedRead, refusedRead, openedRead, steppedRead, nextRead}
 use Rattle.trace.specs.Traces.{readFrom, readAll, Encodes, AllEncode, more, Tabled}
 use Rattle.trace.proofs.BodyLaws.{step-decoded, sizes-decoded}
-use Rattle.trace.proofs.Framing.{Opens, Stands, opened, accepted}
+use Rattle.trace.proofs.Cases.{split}
+use Rattle.trace.proofs.Framing.{Opens, Stands, head, stands, opened, accepted}
 use Rattle.trace.proofs.SizesLaws.{Limits, limits}
 use Rattle.trace.proofs.Widths.{get-bytes}
 use Rattle.trace.proofs.WritingLaws.{length-record, length-head}
@@ -100,3 +102,35 @@ module _ (s : List ℕ) (at : ℕ) (h : 0 < at) where
   pub refuses : (at ≡ length s → ⊥) → (stepRefusal s at ≡ 0 → ⊥) → nextRead s at ≡ refusedRead (stepRefusal s at) at
   unfolding nextRead steppedRead
   refuses e r = rw (ne-eqb at 0 (λ z. omega arith), ne-eqb at (length s) e, ne-eqb (stepRefusal s at) 0 r)
+
+code-same : (code number : ℕ) → Refused code number ≡ Refused 0 0 → code ≡ 0
+code-same code number e = cc
+
+never : Ended ≡ Refused 0 0 → ⊥
+never e = let z : _≡_ {A = ℕ} 0 1 = cc in omega arith
+
+-- reads that are not refused go on by a byte at least, so where there are more reads than bytes left, they end or are refused by a number
+later-stop : (n : ℕ) (s : List ℕ) (at : ℕ) → 0 < at → at ≤ length s → length s < at + n → readFrom n s at .stop ≡ Refused 0 0 → ⊥
+unfolding readFrom
+later-stop zero s at h l g e = omega arith
+later-stop (suc n) s at h l g e =
+    split (eqb at (length s))
+    (λ t. let q = rw (ends s at h (eqb-true at (length s) t)) at e in never q)
+    (λ f.
+    let before : at ≡ length s → ⊥ = eqb-false at (length s) f in
+    split (eqb (stepRefusal s at) 0)
+    (λ t.
+    let r : stepRefusal s at ≡ 0 = eqb-true (stepRefusal s at) 0 t in
+    later-stop n s (at + 13) (omega arith) (stands s at r .within) (omega arith) (rw (steps-on s at h before r) at e))
+    (λ g′.
+    let no : stepRefusal s at ≡ 0 → ⊥ = eqb-false (stepRefusal s at) 0 g′ in
+    no (code-same (stepRefusal s at) (numberAt at) (rw (refuses s at h before no) at e))))
+
+pub comes-to-a-stop : (s : List ℕ) → readAll s .stop ≡ Refused 0 0 → ⊥
+unfolding readAll readFrom nextRead openedRead
+comes-to-a-stop s e =
+    split (eqb (headRefusal s) 0)
+    (λ t.
+    let within : 3 + getN 2 s 1 ≤ length s = head s (eqb-true (headRefusal s) 0 t) .opens .within in
+    later-stop (length s) s (3 + getN 2 s 1) (omega arith) within (omega arith) (rw t at e))
+    (λ f. eqb-false (headRefusal s) 0 f (code-same (headRefusal s) 0 (rw f at e)))
