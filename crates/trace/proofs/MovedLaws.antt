@@ -8,9 +8,9 @@ use lib.ListN.{length}
 use denote.Ref.{now}
 use borrow.Author.Tests.{eqb-true}
 use Rattle.kernel.proofs.Cases.{split}
-use Rattle.trace.specs.declared.reading.Reader.{Reader}
-use Rattle.trace.specs.Reader.{foundCode, headRefusal, stepRefusal, openedRead, steppedRead, nextRead}
-use Rattle.trace.specs.Reading.{moved}
+use Rattle.trace.specs.declared.cursor.Reader.{Reader}
+use Rattle.trace.specs.Decoding.{foundCode, headRefusal, stepRefusal, openedRead, steppedRead, nextRead}
+use Rattle.trace.specs.Cursor.{moved}
 
 -- the place after a refused read is its place
 refused-stays : (s : List ℕ) (at : ℕ) → foundCode (nextRead s at .found) ≢ 0 → nextRead s at .next ≡ at
