@@ -15,8 +15,16 @@ pub mod Refusals
 pub mod Accepted
 pub mod AcceptedBoxes
 pub mod Only
-pub mod Broken
 pub mod Moves
 pub mod Calls
 pub mod Rows
 pub mod Step
+pub mod Time
+pub mod Sizes
+pub mod Fresh
+pub mod Said
+pub mod Reader
+pub mod Writer
+pub mod Encoding
+pub mod Boundary
+pub mod Together

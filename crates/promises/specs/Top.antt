@@ -3,3 +3,4 @@ pub mod Demands
 pub mod Facts
 pub mod Shown
 pub mod ShownArms
+pub mod ShownRest

@@ -39,7 +39,7 @@ use Rattle.library.specs.Acting.{messageOf, kernelWaits, acted}
 use Rattle.rules.specs.PlaceRules.{inUse}
 use Rattle.steps.specs.Refusal.{isSpan, refusalOf}
 use Rattle.promises.specs.Together.Tests.{either-means}
-use Rattle.promises.specs.Together.Good.{HangTogether}
+use Rattle.promises.specs.Together.Good.{RulesHold}
 use Rattle.promises.specs.Together.Hanging.{test-hangs}
 use Rattle.promises.specs.Kept.Tallies.{Tallies}
 use Rattle.promises.specs.Kept.CounterRule.{counters-tally, semaphore-place, queue-place}
@@ -146,7 +146,7 @@ module _ (p : Plant) (c : Clock) (s : Step) (z : Sized (p .kernel)) (e : refusal
   a = refusal-none p c s e
 
   -- its tables hang together
-  pub whole : HangTogether p c
+  pub whole : RulesHold p c
   whole = test-hangs p c (a .hangs)
 
   -- with at most 16 threads

@@ -47,12 +47,8 @@ use Rattle.promises.specs.Meant.Queues.{rule-below, rule-high}
 use Rattle.promises.specs.Meant.Semaphores.{not-most, signal-finds}
 use Rattle.promises.specs.Meant.Mailboxes.{BoxThere, good-box, full-waits, room-done, empty-waits, message-done}
 use Rattle.promises.specs.Meant.Pools.{counter-stocked}
-use Rattle.promises.specs.Paper.Step.{
-  World,
-  boxTo,
-  poolTo,
-  madeReady,
-  ended,
+use Rattle.promises.specs.Paper.World.{World, boxTo, poolTo, madeReady, ended}
+use Rattle.promises.specs.Paper.Rows.{
   tookFlags as tookOf,
   flagged as flaggedOf,
   written,

@@ -53,7 +53,7 @@ use Rattle.library.specs.declared.tables.Mailbox.{Mailbox}
 use Rattle.library.specs.declared.tables.Pool.{Pool}
 use Rattle.library.specs.Tables.{blankMailbox, blankPool, opened, mailboxAt, poolAt, withKernel, withMailbox, withPool}
 use Rattle.promises.specs.Together.Hanging.{all-blank}
-use Rattle.promises.specs.Paper.Step.{
+use Rattle.promises.specs.Paper.World.{
   World,
   noThread,
   noBox,

@@ -37,7 +37,7 @@ use Rattle.steps.proofs.StepLaws.{step-code, step-refused}
 use Rattle.promises.specs.Runs.Run.{ran}
 use Rattle.promises.specs.Runs.Answers.{step-done}
 use Rattle.promises.specs.Runs.Refusals.{isAccepted}
-use Rattle.promises.specs.Together.Good.{HangTogether}
+use Rattle.promises.specs.Together.Good.{RulesHold}
 use Rattle.promises.specs.Together.Hanging.{test-hangs, all-blank, made-hangs}
 use Rattle.promises.specs.Kept.Accepting.{Accepted, refusal-none}
 use Rattle.promises.specs.Kept.Story.{
@@ -65,7 +65,7 @@ use Rattle.promises.specs.Runs.Flags.{isEnded, isEndStep, someIn, chain-
 
 -- tables of a host that hang together
 pub record Hangs (t : Tables) (c : Clock) : Type 0 where
-  pub together : HangTogether (opened t) c
+  pub together : RulesHold (opened t) c
   pub sized : PlantSized (opened t)
 
 -- what an accepted step does that finds the tables t and leaves the result r
