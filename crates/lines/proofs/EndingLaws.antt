@@ -3,8 +3,8 @@ use Prim.Native.Nat.{ℕ, zero, suc, _-_, _<_}
 use native.Mathlib.Omega.{arith}
 use mathlib.Core.Path.{_≡_, refl, sym, ap, _∙_}
 use mathlib.Core.List.{List}
-use Rattle.trace.specs.declared.reader.Read.{Read}
-use Rattle.trace.specs.Reader.{nextRead}
+use Rattle.trace.specs.declared.decoding.Read.{Read}
+use Rattle.trace.specs.Decoding.{nextRead}
 use Rattle.lines.specs.Ending.{placeAfter}
 
 -- a read that moves nothing is the last: reading on stays there

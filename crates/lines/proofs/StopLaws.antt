@@ -9,10 +9,10 @@ use lib.Dec.{eqb}
 use lib.ListN.{length, getD}
 use borrow.Author.Tests.{eqb-true, eqb-false}
 use Rattle.kernel.proofs.Cases.{split}
-use Rattle.trace.specs.declared.reader.Found.the-variants.{Ended}
-use Rattle.trace.specs.declared.reader.Read.{Read}
+use Rattle.trace.specs.declared.decoding.Found.the-variants.{Ended}
+use Rattle.trace.specs.declared.decoding.Read.{Read}
 use Rattle.trace.specs.Ordered.{getN}
-use Rattle.trace.specs.Reader.{foundCode, headRefusal, stepRefusal, openedRead, nextRead}
+use Rattle.trace.specs.Decoding.{foundCode, headRefusal, stepRefusal, openedRead, nextRead}
 use Rattle.trace.proofs.Framing.{Head, head, stands}
 use Rattle.trace.proofs.ReadingLaws.{ends, steps-on, refuses}
 use Rattle.lines.specs.Ending.{placeAfter}

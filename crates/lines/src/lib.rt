@@ -22,9 +22,9 @@ use library::tables::Tables;
 use steps::stepping::Outcome;
 use steps::stepping::Stepped;
 use steps::stepping::step;
-use trace::reader::Found;
-use trace::reader::number_at;
-use trace::reading::read_at;
+use trace::cursor::read_at;
+use trace::decoding::Found;
+use trace::decoding::number_at;
 ghost use mathlib.Core.Path.{_≡_};
 ghost use Rattle.lines.specs.Ending.{placeAfter};
 

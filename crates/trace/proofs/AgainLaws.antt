@@ -7,10 +7,10 @@ use lib.Dec.{eqb, ltb}
 use lib.ListN.{length, getD, take, drop, length-drop, take-append-drop, List·getD-eq-default}
 use lib.Seq.{drop-length, drop-drop, take-add, length-take-le, getD-take, getD-drop}
 use borrow.Author.Tests.{eqb-true, eqb-false, ltb-true, ltb-false}
-use Rattle.trace.specs.declared.reader.Found.the-variants.{Ended, Refused}
+use Rattle.trace.specs.declared.decoding.Found.the-variants.{Ended, Refused}
 use Rattle.trace.specs.Ordered.{bytesN, getN}
 use Rattle.trace.specs.TraceBytes.{sizesBody, headOf, stepBody, recordOf, recordsOf, traceOf}
-use Rattle.trace.specs.Reader.{numberAt, headRefusal, stepRefusal, decodedSizes, decodedStep, headSizes, openedRead, nextRead}
+use Rattle.trace.specs.Decoding.{numberAt, headRefusal, stepRefusal, decodedSizes, decodedStep, headSizes, openedRead, nextRead}
 use Rattle.trace.specs.Traces.{readFrom, readAll, Tabled, Bytes}
 use Rattle.trace.proofs.BodyLaws.{step-encoded, sizes-encoded, sizes-tabled, take-short}
 use Rattle.trace.proofs.Cases.{split}

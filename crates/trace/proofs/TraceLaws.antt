@@ -10,11 +10,11 @@ use lib.Seq.{take-append-seam}
 use borrow.Author.Tests.{eqb-true, ne-eqb, le-ltb}
 use Rattle.library.specs.declared.calls.Step.{Step}
 use Rattle.library.specs.declared.sizes.Sizes.{Sizes}
-use Rattle.trace.specs.declared.reader.Found.the-variants.{Ended}
+use Rattle.trace.specs.declared.decoding.Found.the-variants.{Ended}
 use Rattle.trace.specs.declared.writer.Written.the-variants.{Upto}
 use Rattle.library.specs.Sizes.{sizesFit}
 use Rattle.trace.specs.TraceBytes.{longest, headOf, recordOf, recordsOf, traceOf}
-use Rattle.trace.specs.Reader.{foundCode, numberAt, headRefusal, stepRefusal, refusedRead, refusalAt, openedRead, steppedRead, nextRead}
+use Rattle.trace.specs.Decoding.{foundCode, numberAt, headRefusal, stepRefusal, refusedRead, refusalAt, openedRead, steppedRead, nextRead}
 use Rattle.trace.specs.Writer.{writtenCode, answerOf, roomRefusal, sizesRefusal, sizesWritten, stepWritten}
 use Rattle.trace.specs.Traces.{readAll, writtenAll, AllEncode, Tabled, Bytes}
 use Rattle.trace.proofs.AgainLaws.{Accepted, read-whole, trace-again, head-tabled}

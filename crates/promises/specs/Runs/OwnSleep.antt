@@ -151,5 +151,5 @@ module _ (t : Tables) (c : Clock) (s : Step) (host : Host t c s) (e : stepped t 
       let someone : s .caller ≢ 255 = λ z. absurd (omega (arith, z, l, few t c s host e)) in
       let i = s .caller in
       let o = rows-after t c s host e i (λ b. b .call .kind ≢ 0 → OwnCall t (c .time) s i someone b) (owned-keeps t (c .time) s i someone)
-              (row-owned t (c .time) s i someone refl refl (act t c s host e)) k in
+      (row-owned t (c .time) s i someone refl refl (act t c s host e)) k in
       record { kind = o .kind; timeout = o .timeout; ticks = o .ticks n }
