@@ -3,6 +3,7 @@ pub mod World
 pub mod Rows
 pub mod Settling
 pub mod Together
+pub mod Host
 pub mod Refusals
 pub mod Step
 pub mod Time

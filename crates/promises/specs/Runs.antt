@@ -10,3 +10,5 @@ pub mod Keeping
 pub mod Sleepers
 pub mod OneStep
 pub mod Waiters
+pub mod OwnSleep
+pub mod Moments

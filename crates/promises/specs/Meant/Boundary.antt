@@ -30,7 +30,8 @@ use Rattle.host.specs.Reads.{requestIn, foundNumber, readAt}
 use Rattle.host.specs.Writes.{placeAfter}
 use Rattle.promises.specs.Paper.Answers.{Said, foundSaid, writtenSaid}
 use Rattle.promises.specs.Paper.Boundary.{asked, StepCall, FreshCall, StepGiven, ReadCall, PlaceKept, SizesCall, RecordCall}
-use Rattle.promises.specs.Meant.Step.{Host, demand-two}
+use Rattle.promises.specs.Meant.Step.{demand-two}
+use Rattle.promises.specs.Paper.Host.{Host}
 use Rattle.promises.specs.Meant.Only.{step-only}
 use Rattle.promises.specs.Meant.Fresh.{made-is, made-one}
 use Rattle.promises.specs.Meant.Reader.{number-is, number-one, read-is, read-one}

@@ -45,6 +45,7 @@ use Rattle.promises.specs.Meant.Settling.{running-first, post-again, fet
 use Rattle.promises.specs.Meant.Refusals.{first-broken}
 use Rattle.promises.specs.Paper.World.{World, Left, ended, First, Running}
 use Rattle.promises.specs.Paper.Rows.{Post, Fetch}
+use Rattle.promises.specs.Paper.Host.{HostTables, Host}
 use Rattle.promises.specs.Paper.Settling.{Continued, Settles}
 use Rattle.promises.specs.Paper.Refusals.{RefusedWith}
 use Rattle.promises.specs.Paper.Step.{ClockAfter, ResultOf, StepOf}
@@ -53,12 +54,29 @@ use Rattle.promises.specs.Meant.Calls.{sized, few, good, post-is, fetch-
 use Rattle.promises.specs.Meant.Rows.{act-is}
 use Rattle.promises.specs.Meant.Only.{first-only, step-only}
 
--- what the types of a host fix: the lengths of its arrays, and the widths of a step's fields and of the time
-pub record Host (t : Tables) (c : Clock) (s : Step) : Type 0 where
-  pub lengths : PlantSized (opened t)
-  pub object : s .object < 256
-  pub operand : s .a < 4294967296
-  pub time : c .time .0 < 4294967296
+-- the lengths of a host's arrays, as the tables at work have them
+pub host-sized : (t : Tables) → HostTables t → PlantSized (opened t)
+host-sized t h =
+    record {
+      kernel = record { threads = h .threads; counters = h .counters; references = h .references; woken = refl; finished = refl };
+      mailboxes = h .mailboxes;
+      messages = h .messages;
+      pools = h .pools;
+      pool = λ q l. record { list = h .lists q l; marks = h .marks q l };
+    }
+
+pub sized-host : (t : Tables) → PlantSized (opened t) → HostTables t
+sized-host t h =
+    record {
+      threads = h .kernel .threads;
+      counters = h .kernel .counters;
+      references = h .kernel .references;
+      mailboxes = h .mailboxes;
+      messages = h .messages;
+      pools = h .pools;
+      lists = λ q l. h .pool q l .list;
+      marks = λ q l. h .pool q l .marks;
+    }
 
 -- ---- who runs
 
@@ -276,10 +294,10 @@ module _ (t : Tables) (c : Clock) (s : Step) (host : Host t c s) where
 
   module _ (e : n ≡ 0) where
     pub hangs : Hangs t c
-    hangs = record { together = test-hangs p c (refusal-none p c s e .hangs); sized = host .lengths }
+    hangs = record { together = test-hangs p c (refusal-none p c s e .hangs); sized = host-sized t (host .tables) }
 
     pub begun-whole : Whole (t .sizes) p
-    begun-whole = good-whole p (hangs .together .good) (host .lengths)
+    begun-whole = good-whole p (hangs .together .good) (host-sized t (host .tables))
 
     pub acted-whole : Whole (t .sizes) (acted p (c .time) s)
     acted-whole = step-acts p c s (refusal-none p c s e) begun-whole .done .whole
@@ -296,15 +314,15 @@ module _ (t : Tables) (c : Clock) (s : Step) (host : Host t c s) where
     accepted-is : StepOf t c s (doneWith h c s)
     unfolding doneWith
     accepted-is =
-        StepOf.accepted (first-broken t c s (host .lengths .kernel .threads) (host .object) .none e) (worldOf (acted p (c .time) s)) (worldOf h)
-        (act-is t c s begun-whole (host .operand) e)
+        StepOf.accepted (first-broken t c s (host .tables .threads) (host .step .object) .none e) (worldOf (acted p (c .time) s)) (worldOf h)
+        (act-is t c s begun-whole (host .step .operand) e)
         (settles-is (budgetOf (t .sizes .threads)) (acted p (c .time) s) (own acted-whole) (settles t c s hangs code .ended))
         (left-is h settled-whole) (clock-is c (host .time) (s .kind)) (result-is h (settled-whole .sizes .threads .1) (s .caller))
 
   -- EVERY STEP IS AS DOCUMENT 01 TELLS IT
   pub step-is : StepOf t c s (stepped t c s)
   step-is =
-      let first = first-broken t c s (host .lengths .kernel .threads) (host .object) in
+      let first = first-broken t c s (host .tables .threads) (host .step .object) in
       same-or n 0
       (λ e. subst (StepOf t c s) (sym (step-done t c s (step-code t c s ∙ e))) (accepted-is e))
       (λ d.

@@ -26,9 +26,9 @@ abbrev pub isAccepted : Moment → Bool
 isAccepted m = eqb (m .result .code) 0
 
 -- how many moments pass a test
-abbrev pub momentsOf : (Moment → Bool) → List Moment → ℕ
-momentsOf f [] = 0
-momentsOf f (m ∷ ms) = cond (f m) 1 0 + momentsOf f ms
+abbrev pub howMany : (Moment → Bool) → List Moment → ℕ
+howMany f [] = 0
+howMany f (m ∷ ms) = cond (f m) 1 0 + howMany f ms
 
 -- whether any does
 abbrev pub anyOf : (Moment → Bool) → List Moment → Bool
@@ -40,7 +40,7 @@ abbrev pub isTick : Moment → Bool
 isTick m = isAccepted m && eqb (m .step .kind) 1
 
 abbrev pub ticksIn : List Moment → ℕ
-ticksIn ms = momentsOf isTick ms
+ticksIn ms = howMany isTick ms
 
 -- a signal at the place p (a semaphore's number, 16 and more for a pool): 3; 5, which acts "if the counter is below 1"; 21 and 22, which
 -- "put the object on top and signal"
@@ -51,7 +51,7 @@ signalsAt p t s =
     || ((eqb (s .kind) 21 || eqb (s .kind) 22) && eqb (16 + s .object) p))
 
 abbrev pub signalsIn : ℕ → List Moment → ℕ
-signalsIn p ms = momentsOf (λ m. isAccepted m && signalsAt p (m .before) (m .step)) ms
+signalsIn p ms = howMany (λ m. isAccepted m && signalsAt p (m .before) (m .step)) ms
 
 -- a thread of higher priority than i that begins to wait at p: 2 and 20, where the timeout is not 0
 abbrev pub joinsAt : ℕ → ℕ → Step → Bool

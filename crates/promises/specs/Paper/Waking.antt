@@ -6,6 +6,7 @@ use mathlib.Core.Bool.{Bool, true, false, cond, _&&_}
 use lib.Dec.{eqb}
 use lib.Bits.{bitAnd, bitOr}
 use lib.IntN.{ℤ, pos, negsuc}
+use Rattle.kernel.specs.declared.time.SystemTime.{SystemTime}
 use Rattle.kernel.specs.declared.records.Answer.{Answer}
 use Rattle.kernel.specs.declared.records.Thread.{Thread}
 use Rattle.library.specs.declared.calls.Step.{Step}
@@ -167,3 +168,13 @@ pub data WakerAfter (t : Tables) (s : Step) (i : ℕ) (b : Thread) (woken : Bool
       → WakerAfter t s i b woken
   tried-again : IsMailing (rowOf t i .call .kind) → rowOf t i .message ≡ pos 0 → (b .state ≡ 3 → b .place < 20 → ⊥)
       → WakerAfter t s i b woken
+
+-- the timeout of the step's own call: the step's, and "12's full timeout is the interval slept", "a minus system time, wrapped"
+abbrev pub spanOf : SystemTime → Step → ℕ
+spanOf now s = cond (eqb (s .kind) 12) ((s .a + (4294967296 - now .0)) % 4294967296) (s .timeout)
+
+-- thread i sleeps in the step's own call, with all its ticks to come
+pub record FellAsleep (now : SystemTime) (s : Step) (b : Thread) : Type 0 where
+  pub kind : b .call .kind ≡ s .kind
+  pub timeout : b .call .timeout ≡ spanOf now s
+  pub ticks : b .remaining ≡ cond (eqb (spanOf now s) 4294967295) 0 (spanOf now s)

@@ -21,6 +21,7 @@ use Rattle.steps.specs.Refusal.{refusalOf}
 use Rattle.steps.specs.Stepping.{budgetOf, outcomeOf, doneWith, stepped}
 use Rattle.steps.proofs.StepLaws.{step-code}
 use Rattle.promises.specs.Paper.World.{World, found, First}
+use Rattle.promises.specs.Paper.Host.{Host}
 use Rattle.promises.specs.Paper.Rows.{topIn, Act}
 use Rattle.promises.specs.Paper.Settling.{Continued}
 use Rattle.promises.specs.Paper.Together.{TicksFit, ThreadFits}
@@ -36,7 +37,7 @@ use Rattle.promises.specs.Meant.Refusals.{first-broken}
 use Rattle.promises.specs.Meant.Moves.{worldOf}
 use Rattle.promises.specs.Meant.Calls.{good}
 use Rattle.promises.specs.Meant.Rows.{act-is}
-use Rattle.promises.specs.Meant.Step.{Host, settled-keeps, result-is, h, hangs, begun-whole, acted-whole, settled-whole, own}
+use Rattle.promises.specs.Meant.Step.{settled-keeps, result-is, h, hangs, begun-whole, acted-whole, settled-whole, own}
 
 -- a bit of a mask is its test
 bit-in : (mask : ℕ) (i : ℕ) (b : Bool) → mask / 2 ^ i % 2 ≡ cond b 1 0 → inMask i mask ≡ b
@@ -63,7 +64,7 @@ module _ (t : Tables) (c : Clock) (s : Step) (host : Host t c s) (e : stepped t 
   accepted = sym (step-code t c s) ∙ e
 
   pub unbroken : (m : ℕ) → Broken t c s m → ⊥
-  unbroken = first-broken t c s (host .lengths .kernel .threads) (host .object) .none accepted
+  unbroken = first-broken t c s (host .tables .threads) (host .step .object) .none accepted
 
   -- whom a reference holds is suspended on it
   held : (i : ℕ) → s .kind ≡ 10 → found t .holder (s .object) ≡ i → i ≢ 255
@@ -86,7 +87,7 @@ module _ (t : Tables) (c : Clock) (s : Step) (host : Host t c s) (e : stepped t 
   x₀ = worldOf (acted (opened t) (c .time) s)
 
   pub act : Act t (c .time) s x₀ (s .kind)
-  act = act-is t c s (begun-whole t c s host accepted) (host .operand) accepted
+  act = act-is t c s (begun-whole t c s host accepted) (host .step .operand) accepted
 
   kept-act : Kept t s x₀
   kept-act = act-keeps t s (Kept t s) (kept-keeps t s) (c .time) held refl act
@@ -109,6 +110,18 @@ module _ (t : Tables) (c : Clock) (s : Step) (host : Host t c s) (e : stepped t 
 
   step-keeps : (P : World → Type 0) → Keeps t s P → P (worldOf (h t c s host))
   step-keeps P k = settle-keeps P (k .moves) (act-keeps t s P k (c .time) held refl act)
+
+  -- the sizes stay
+  pub sizes-after : stepped t c s .tables .sizes ≡ t .sizes
+  unfolding doneWith
+  sizes-after =
+      subst (λ (q : Stepped). q .tables .sizes ≡ t .sizes) (sym (step-done t c s e)) (step-keeps (Kept t s) (kept-keeps t s) .sizes)
+
+  -- what holds of a record after the step's own act, and is kept, holds of it in the tables after the step
+  pub rows-after : (i : ℕ) (P : Thread → Type 0) → KeepsOn t s (λ w. P (w .thread i)) → P (x₀ .thread i) → P (rowOf (stepped t c s .tables) i)
+  unfolding doneWith
+  rows-after i P k q =
+      subst (λ (r : Stepped). P (rowOf (r .tables) i)) (sym (step-done t c s e)) (settle-keeps (λ w. P (w .thread i)) k q)
 
   -- who was woken by the step's own act is in the mask
   pub woken-seen : (j : ℕ) → x₀ .woken j ≡ true → inMask j (stepped t c s .outcome .woken) ≡ true

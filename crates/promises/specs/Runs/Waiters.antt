@@ -16,6 +16,7 @@ use Rattle.library.specs.declared.calls.Step.{Step}
 use Rattle.library.specs.declared.tables.Tables.{Tables}
 use Rattle.steps.specs.Stepping.{stepped}
 use Rattle.promises.specs.Paper.World.{World, found, madeReady, ended, Highest}
+use Rattle.promises.specs.Paper.Host.{Host}
 use Rattle.promises.specs.Paper.Rows.{Signal, BinarySignal, Act}
 use Rattle.promises.specs.Paper.Together.{WaitFits, number, isQueued, SemaphoreFits, HangTogether}
 use Rattle.promises.specs.Paper.Refusals.{Broken}
@@ -23,7 +24,7 @@ use Rattle.promises.specs.Paper.Waking.{rowOf, inMask, IsMailing, Called
 use Rattle.promises.specs.Paper.Run.{signalsAt, joinsAt, higher, TurnOf}
 use Rattle.promises.specs.Together.Tests.{either-means}
 use Rattle.promises.specs.Meant.Together.{rules-together}
-use Rattle.promises.specs.Meant.Step.{Host, hangs}
+use Rattle.promises.specs.Meant.Step.{hangs}
 use Rattle.promises.specs.Runs.Keeping.{put-same}
 use Rattle.promises.specs.Runs.OneStep.{accepted, unbroken, few, fits, x₀, act, woken-seen, sleeper-after, waker-after}
 
@@ -270,7 +271,7 @@ module _ (t : Tables) (c : Clock) (s : Step) (host : Host t c s) (e : stepped t 
             by (SleeperAfter.again g b x v f) w = contrary v w
 
     -- what wakes a waiter at p
-    turn-of : (i : ℕ) {a : Thread} → a .state ≡ 3 → a .place ≡ p → {m : ℤ} → WokenBy t s i a m → TurnOf p a s m
+    pub turn-of : (i : ℕ) {a : Thread} → a .state ≡ 3 → a .place ≡ p → {m : ℤ} → WokenBy t s i a m → TurnOf p a s m
     turn-of i q x (WokenBy.last-tick k r) = TurnOf.last-tick k r
     turn-of i q x (WokenBy.events k o st f) = absurd (omega (arith, q, st))
     turn-of i q x (WokenBy.call (CalledOut.signal k st pl)) = TurnOf.signal k (sym pl ∙ x)

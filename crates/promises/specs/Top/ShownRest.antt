@@ -42,7 +42,7 @@ use Rattle.promises.specs.Paper.Writer.{AnyStep, Present}
 use Rattle.promises.specs.Meant.Sizes.{fit-limits}
 use Rattle.promises.specs.Meant.Reader.{read-is, reached-number}
 use Rattle.promises.specs.Meant.Writer.{step-write-is, sizes-write-is, record-stands, head-stands}
-use Rattle.promises.specs.Meant.Step.{Host}
+use Rattle.promises.specs.Paper.Host.{Host}
 use Rattle.promises.specs.Meant.Encoding.{step-read-back, sizes-read-back, round-trip-any}
 
 -- ---- time
@@ -297,16 +297,18 @@ pub host-shown : Host (made two Standard .tables) (made two Standard .clock) (st
 unfolding allFrom sizesFit made
 host-shown =
     record {
-      lengths = record {
-        kernel = record { threads = refl; counters = refl; references = refl; woken = refl; finished = refl };
+      tables = record {
+        threads = refl;
+        counters = refl;
+        references = refl;
         mailboxes = refl;
         messages = four-boxes;
         pools = refl;
-        pool = λ q h. absurd (omega arith);
+        lists = λ q h. absurd (omega arith);
+        marks = λ q h. absurd (omega arith);
       };
-      object = omega arith;
-      operand = omega arith;
       time = omega arith;
+      step = record { object = omega arith; operand = omega arith };
     }
 
 -- set-up: a size, the frequency, and fresh tables; the time that stood there is kept at a refusal

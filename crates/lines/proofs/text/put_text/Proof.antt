@@ -4,8 +4,8 @@ use native.Mathlib.Omega.{arith}
 use mathlib.Core.Path.{_≡_, refl, sym, _∙_}
 use lib.ListN.{length}
 use borrow.Author.Needs.{needs}
-use Rattle.lines.proofs.put_text.Statement.{statement}
-use Rattle.lines.proofs.put_text.Tie as tie
+use Rattle.lines.proofs.text.put_text.Statement.{statement}
+use Rattle.lines.proofs.text.put_text.Tie as tie
 
 abbrev Inv-loop : tie.InvT-loop
 Inv-loop out₀ at text end₀ i₀ out end i = (i ≤ length text) × (length out ≡ length out₀)
