@@ -121,3 +121,14 @@ listed-few Reads.none = omega arith
 listed-few {s} (Reads.more {n = n} d rest) =
     let on = head-moved s d in
     omega (arith, on .0, on .1 .1, later-room (omega (arith, on .0)) (on .1 .0) rest)
+
+-- ---- there is one place where the reader stops
+
+one-stop : {s : List ℕ} {from m n a b : ℕ} → Reads s from m a → Stops s a → Reads s from n b → Stops s b → a ≡ b
+one-stop Reads.none h Reads.none g = refl
+one-stop Reads.none h (Reads.more d rest) g = absurd (d (h .unmoved))
+one-stop (Reads.more d rest) h Reads.none g = absurd (d (g .unmoved))
+one-stop (Reads.more d rest) h (Reads.more e others) g = one-stop rest h others g
+
+pub listed-one : {s : List ℕ} {from a b : ℕ} → Listed s from a → Listed s from b → a ≡ b
+listed-one x y = one-stop (x .reads) (x .stops) (y .reads) (y .stops)
