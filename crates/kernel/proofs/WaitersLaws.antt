@@ -12,7 +12,7 @@ use Rattle.kernel.specs.Walk.{countOf}
 use Rattle.kernel.specs.Tables.{usedRows, threadAt}
 use Rattle.kernel.specs.Waiters.{isReady, queuedAt, firstReady, firstWaiter}
 use Rattle.kernel.proofs.Cases.{both-means}
-use Rattle.kernel.proofs.WalkLaws.{First, None, first-cases, counted-first}
+use Rattle.kernel.proofs.WalkLaws.{Least, None, first-cases, counted-first}
 use Rattle.kernel.proofs.TablesLaws.{used-all}
 
 -- thread i waits at the place p
@@ -30,19 +30,19 @@ queued-place p q t e =
     rw (both .0, eqb-true (t .place) p (both .1))
 
 -- "the running thread is the first ready one, or idle"
-pub first-ready-cases : (k : Kernel) (n : ℕ) → First (λ i. isReady (threadAt k i)) (usedRows n) (firstReady k n)
+pub first-ready-cases : (k : Kernel) (n : ℕ) → Least (λ i. isReady (threadAt k i)) (usedRows n) (firstReady k n)
     ⊎ ((firstReady k n ≡ nobody) × None (λ i. isReady (threadAt k i)) (usedRows n))
 unfolding firstReady
 first-ready-cases k n = first-cases (λ i. isReady (threadAt k i)) (usedRows n)
 
 module _ (k : Kernel) (n p : ℕ) where
   -- the first waiter is the one with the least index; or it is nobody, and none waits
-  pub first-waiter-cases : First (waits k p) (usedRows n) (firstWaiter k n p)
+  pub first-waiter-cases : Least (waits k p) (usedRows n) (firstWaiter k n p)
       ⊎ ((firstWaiter k n p ≡ nobody) × None (waits k p) (usedRows n))
   unfolding firstWaiter
   first-waiter-cases = first-cases (waits k p) (usedRows n)
 
   -- where any is counted there is a first
-  pub first-waiter-counted : n ≤ 16 → 1 ≤ waiters k n p → First (waits k p) n (firstWaiter k n p)
+  pub first-waiter-counted : n ≤ 16 → 1 ≤ waiters k n p → Least (waits k p) n (firstWaiter k n p)
   unfolding firstWaiter
   first-waiter-counted l h = rw (used-all n l) (counted-first (waits k p) n h)

@@ -10,7 +10,7 @@ use Rattle.kernel.specs.Walk.{each, firstFrom, bit, countOf}
 use Rattle.kernel.proofs.Cases.{split, same-or}
 
 -- r is the least of the indexes below n that pass
-pub record First (f : ℕ → Bool) (n r : ℕ) : Type 0 where
+pub record Least (f : ℕ → Bool) (n r : ℕ) : Type 0 where
   pub below : r < n
   pub passes : f r ≡ true
   pub least : (i : ℕ) → i < r → f i ≡ false
@@ -38,7 +38,7 @@ found f i (suc n) =
 
 module _ (f : ℕ → Bool) (n : ℕ) where
   -- the first of n is the least that passes; or it is nobody, and none passes
-  pub first-cases : First f n (firstFrom f 0 n) ⊎ ((firstFrom f 0 n ≡ nobody) × None f n)
+  pub first-cases : Least f n (firstFrom f 0 n) ⊎ ((firstFrom f 0 n ≡ nobody) × None f n)
   first-cases =
       elim (found f 0 n) [
         | inl h ↦ inl (record { below = omega arith; passes = h .2; least = λ i l. h .3 i (omega arith) l })
@@ -86,7 +86,7 @@ count-none f zero e = refl
 count-none f (suc n) e = rw (e n (omega arith), count-none f n (λ i l. e i (omega arith)))
 
 -- where any is counted there is a first
-pub counted-first : (f : ℕ → Bool) (n : ℕ) → 1 ≤ countOf f n → First f n (firstFrom f 0 n)
+pub counted-first : (f : ℕ → Bool) (n : ℕ) → 1 ≤ countOf f n → Least f n (firstFrom f 0 n)
 counted-first f n h = elim (first-cases f n) [ inl c ↦ c | inr c ↦ absurd (omega (arith, count-none f n (c .1))) ]
 
 -- what the body keeps, the walk keeps

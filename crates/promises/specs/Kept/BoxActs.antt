@@ -51,7 +51,7 @@ use Rattle.promises.specs.Kept.PoolKept.{
   put-back-kept,
   put-back-pushed,
 }
-use Rattle.promises.specs.Kept.Story.{Event, signalAt, takeAt, sleepIn, endWith, countIn, CallFits, Again}
+use Rattle.promises.specs.Kept.Story.{Event, signalAt, takeAt, sleepIn, endWith, countIn, CallSound, Again}
 use Rattle.promises.specs.Kept.Chain.{Chain, Sleeper, Sound, hands, stop, queued-unready}
 use Rattle.promises.specs.Kept.Owed.{isSignal, isTake}
 use Rattle.promises.specs.Kept.Moving.{
@@ -84,7 +84,7 @@ pub record Tries (z : Sizes) (p h : Plant) : Type 0 where
 -- who tries a call: its call may finish with any answer, and may sleep if it has a timeout
 pub record Tryer (z : Sizes) (k : Kernel) (i : ℕ) (c : Call) : Type 0 where
   pub asks : Caller z k i
-  pub sleeps : c .timeout ≢ 0 → (i < z .threads) × (Free (threadAt k i) × (CallFits z c × Again (threadAt k i) c))
+  pub sleeps : c .timeout ≢ 0 → (i < z .threads) × (Free (threadAt k i) × (CallSound z c × Again (threadAt k i) c))
 
 module _ (z : Sizes) (g : GoodSizes z) (k : Kernel) (s : Sound z k) where
   abbrev n : ℕ

@@ -28,7 +28,7 @@ use Rattle.kernel.specs.Semaphore.{taken}
 use Rattle.kernel.specs.Event.{withPending}
 use Rattle.kernel.specs.Ticking.{ticked}
 use Rattle.kernel.proofs.Cases.{split, same-or, contrary, both-means}
-use Rattle.kernel.proofs.WalkLaws.{First, None, count-none}
+use Rattle.kernel.proofs.WalkLaws.{Least, None, count-none}
 use Rattle.kernel.proofs.CountersLaws.{debt, debt-none, raised-none, lowered-none}
 use Rattle.kernel.proofs.TablesLaws.{
   Sized,
@@ -96,7 +96,7 @@ use Rattle.promises.specs.Kept.Story.{
   takeAt,
   endStep,
   isOf,
-  CallFits,
+  CallSound,
   Follows,
   Again,
   Because,
@@ -133,7 +133,7 @@ pub record Waken (z : Sizes) (k : Kernel) (i : ℕ) (m : ℤ) : Type 0 where
 pub record Sleeper (z : Sizes) (k : Kernel) (i : ℕ) (c : Call) : Type 0 where
   pub within : i < z .threads
   pub is-ready : threadAt k i .state ≡ ready
-  pub fits : CallFits z c
+  pub fits : CallSound z c
   pub counter : waitState (c .kind) ≡ queued → ltZ (pos 0) (counterAt k (waitPlace (c .kind) (c .object))) ≡ false
   pub holder : waitState (c .kind) ≡ suspended → holderAt k (waitPlace (c .kind) (c .object)) ≡ nobody
   pub flags : waitState (c .kind) ≡ awaiting → bitAnd (threadAt k i .pending) (awaitedBy c) ≡ 0
@@ -173,7 +173,7 @@ pub data Chain (z : Sizes) (h : Kernel) : Kernel → List Event → Type 0 where
   stop : Chain z h h []
   wakes : {k : Kernel} {es : List Event} (i : ℕ) (m : ℤ) → Waken z k i m → Chain z h (woken k i m) es → Chain z h k (woke i m ∷ es)
   -- a signal with waiters wakes the first
-  passes : {k : Kernel} {es : List Event} (p i : ℕ) → p < 20 → First (waits k p) (z .threads) i → Chain z h (woken k i ok) es
+  passes : {k : Kernel} {es : List Event} (p i : ℕ) → p < 20 → Least (waits k p) (z .threads) i → Chain z h (woken k i ok) es
       → Chain z h k (signalAt p ∷ (woke i ok ∷ es))
   -- and without waiters raises the counter
   raises : {k : Kernel} {es : List Event} (p : ℕ) → p < 20 → ltZ (counterAt k p) (pos 0) ≡ false

@@ -58,7 +58,7 @@ use Rattle.promises.specs.Kept.Story.{
   countIn,
   isSlept,
   Idle,
-  CallFits,
+  CallSound,
 }
 use Rattle.promises.specs.Kept.Chain.{Sleeper}
 use Rattle.promises.specs.Kept.Owed.{isSignal, isTake}
@@ -323,7 +323,7 @@ module _ (p : Plant) (c : Clock) (s : Step) (a : Accepted p c s) (w : Whole (p .
   waiting h i call false x e = record { marks = sleepIn i call ∷ []; chained = x; takes = λ q. refl; signals = λ q. refl }
 
   -- the call that a step keeps fits
-  pub kept-fits : CallKind (s .kind) → objectOf s < callLimit z (s .kind) → s .timeout ≢ 0 → CallFits z (callOf s)
+  pub kept-fits : CallKind (s .kind) → objectOf s < callLimit z (s .kind) → s .timeout ≢ 0 → CallSound z (callOf s)
   kept-fits f o t = record { kind = f; object = o; timeout = some (s .timeout) t; operand = λ e. rw e }
     where
       some : (t : ℕ) → t ≢ 0 → 1 ≤ t
@@ -340,7 +340,7 @@ module _ (p : Plant) (c : Clock) (s : Step) (a : Accepted p c s) (w : Whole (p .
     asks = stepper-caller z k (s .caller) stepper
 
     -- what it takes to sleep, in each state
-    sleeper-in : (call : Call) → CallFits z call
+    sleeper-in : (call : Call) → CallSound z call
         → (waitState (call .kind) ≡ queued → ltZ (pos 0) (counterAt k (waitPlace (call .kind) (call .object))) ≡ false)
         → (waitState (call .kind) ≡ suspended → holderAt k (waitPlace (call .kind) (call .object)) ≡ nobody)
         → (waitState (call .kind) ≡ awaiting → bitAnd (threadAt k (s .caller) .pending) (awaitedBy call) ≡ 0)
@@ -405,7 +405,7 @@ module _ (p : Plant) (c : Clock) (s : Step) (a : Accepted p c s) (w : Whole (p .
     span : (t : ℕ) → isSpan t ≡ true → 1 ≤ t
     span t e = leb-true 1 t (both-means (leb 1 t) (ltb t infinite) e .0)
 
-    nap-acts : (call : Call) → CallFits z call → waitState (call .kind) ≡ sleeping → waitPlace (call .kind) (call .object) ≡ nowhere
+    nap-acts : (call : Call) → CallSound z call → waitState (call .kind) ≡ sleeping → waitPlace (call .kind) (call .object) ≡ nowhere
         → [] ≡ calledFor p s
         → KernelActs z p s (slept k (s .caller) sleeping nowhere call)
     nap-acts call f st pl e =

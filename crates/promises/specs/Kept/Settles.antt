@@ -40,7 +40,7 @@ use Rattle.rules.specs.PoolRules.{isPromised}
 use Rattle.steps.specs.Stepping.{budgetOf}
 use Rattle.promises.specs.Together.Good.{GoodThread}
 use Rattle.promises.specs.Together.Tests.{same-means}
-use Rattle.promises.specs.Kept.Story.{endWith, countIn, CallFits}
+use Rattle.promises.specs.Kept.Story.{endWith, countIn, CallSound}
 use Rattle.promises.specs.Kept.Chain.{finishes, stop}
 use Rattle.promises.specs.Kept.Moving.{Free, after, rested}
 use Rattle.promises.specs.Kept.Whole.{Whole, kernel-done}
@@ -106,7 +106,7 @@ module _ (p : Plant) (w : Whole (p .sizes) p) (i : ℕ) (d : Due (p .sizes) (p .
     woken-ok = split (same (t .message) ok) (λ b. b) (λ b. contrary (rw (box, b)) e)
 
     -- it keeps what it slept with: "it may sleep again with its FULL timeout"
-    fits : CallFits z (t .call)
+    fits : CallSound z (t .call)
     fits =
         record {
           kind = row .kind (d .unfinished);

@@ -71,7 +71,7 @@ countIn f [] = 0
 countIn f (e ∷ es) = bit (f e) + countIn f es
 
 -- a call with which a thread may sleep: "An unfinished call is of kind 2, 6, 9, 11, 12, 14 to 17 or 20, its timeout above 0"
-pub record CallFits (z : Sizes) (c : Call) : Type 0 where
+pub record CallSound (z : Sizes) (c : Call) : Type 0 where
   pub kind : CallKind (c .kind)
   pub object : c .object < callLimit z (c .kind)
   pub timeout : 1 ≤ c .timeout
@@ -102,7 +102,7 @@ pub data Story (z : Sizes) (i : ℕ) (u : Thread) : Thread → List Event → Ty
   apart : {t : Thread} {es : List Event} (e : Event) → isOf i e ≡ false → Story z i u t es → Story z i u t (e ∷ es)
   rouses : {t : Thread} {es : List Event} (m : ℤ) → t .state ≢ ready → Because t m → Story z i u (readied t m) es
       → Story z i u t (woke i m ∷ es)
-  dozes : {t : Thread} {es : List Event} (c : Call) → t .state ≡ ready → CallFits z c
+  dozes : {t : Thread} {es : List Event} (c : Call) → t .state ≡ ready → CallSound z c
       → (waitState (c .kind) ≡ awaiting → bitAnd (t .pending) (awaitedBy c) ≡ 0) → Again t c
       → Story z i u (asleepIn t c) es → Story z i u t (sleepIn i c ∷ es)
   closes : {t : Thread} {es : List Event} (m : ℤ) (d : ℕ) → t .state ≡ ready → Follows t m d
@@ -182,7 +182,7 @@ ticks-timed t n = rw (ne-eqb t infinite n)
 ticks-infinite : (t : ℕ) → t ≡ infinite → ticksOf t ≡ 0
 ticks-infinite t e = rw (eq-eqb t infinite e)
 
-asleep-good : (z : Sizes) (t : Thread) (c : Call) → CallFits z c
+asleep-good : (z : Sizes) (t : Thread) (c : Call) → CallSound z c
     → (waitState (c .kind) ≡ awaiting → bitAnd (t .pending) (awaitedBy c) ≡ 0)
     → GoodThread z (asleepIn t c)
 asleep-good z t c f p =

@@ -18,7 +18,7 @@ use Rattle.promises.specs.Together.Tests.{either-means}
 use Rattle.promises.specs.Together.Good.{RulesHold}
 use Rattle.promises.specs.Together.Hanging.{test-hangs}
 use Rattle.promises.specs.Kept.Accepting.{Accepted, refusal-none}
-use Rattle.promises.specs.Meant.Settling.{FirstReady, Idle, running-first}
+use Rattle.promises.specs.Meant.Settling.{FirstReady, NobodyReady, running-first}
 
 module _ (p : Plant) (c : Clock) (s : Step) (z : Sized (p .kernel)) (e : refusalOf p c s ≡ 0) where
   abbrev k : Kernel
@@ -49,6 +49,6 @@ module _ (p : Plant) (c : Clock) (s : Step) (z : Sized (p .kernel)) (e : refusal
         | inr b ↦ of-running (eqb-true i (firstReady k n) b) (running-first k n few)
       ]
     where
-      of-running : i ≡ firstReady k n → FirstReady k n (firstReady k n) ⊎ Idle k n (firstReady k n) → (i ≡ nobody) ⊎ FirstReady k n i
+      of-running : i ≡ firstReady k n → FirstReady k n (firstReady k n) ⊎ NobodyReady k n (firstReady k n) → (i ≡ nobody) ⊎ FirstReady k n i
       of-running e (inl f) = inr (rw e f)
       of-running e (inr f) = inl (e ∙ f .nobody)

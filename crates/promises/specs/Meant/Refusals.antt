@@ -16,7 +16,7 @@ use Rattle.kernel.specs.Tables.{holderAt}
 use Rattle.kernel.specs.Waiters.{firstReady}
 use Rattle.kernel.specs.Walk.{firstFrom}
 use Rattle.kernel.proofs.Cases.{split, same-or, in-or-out, contrary, both-true, both-means, second-fails}
-use Rattle.kernel.proofs.WalkLaws.{First as WalkFirst, first-cases}
+use Rattle.kernel.proofs.WalkLaws.{Least, first-cases}
 use Rattle.library.specs.declared.calls.Step.{Step}
 use Rattle.library.specs.declared.sizes.Sizes.{Sizes}
 use Rattle.library.specs.declared.tables.Plant.{Plant}
@@ -328,7 +328,7 @@ module _ (t : Tables) (c : Clock) (s : Step) (rows : length (t .kernel .threads)
       some : {r : ℕ} → r ≡ 0 → passes t c s r ≡ false → ⊥
       some e h = contrary refl (rw e at h)
 
-      at-first : (r : ℕ) → WalkFirst (λ n. not (passes t c s n)) 8 r → FirstBroken t c s (cond (eqb r nobody) 0 r)
+      at-first : (r : ℕ) → Least (λ n. not (passes t c s n)) 8 r → FirstBroken t c s (cond (eqb r nobody) 0 r)
       at-first r f =
           let apart : r ≢ nobody = omega (arith, f .below) in
           let earlier : (m : ℕ) → m < r → passes t c s m ≡ true = λ m l. not-false (passes t c s m) (f .least m l) in

@@ -28,7 +28,7 @@ pub record FirstReady (k : Kernel) (n r : ℕ) : Type 0 where
   pub first : (j : ℕ) → j < r → threadAt k j .state ≢ ready
 
 -- none of n threads is ready, and r is 255: "idle is shown as 255"
-pub record Idle (k : Kernel) (n r : ℕ) : Type 0 where
+pub record NobodyReady (k : Kernel) (n r : ℕ) : Type 0 where
   pub nobody : r ≡ 255
   pub none : (j : ℕ) → j < n → threadAt k j .state ≢ ready
 
@@ -36,7 +36,7 @@ unready : (t : Thread) → isReady t ≡ false → t .state ≢ ready
 unready t e s = contrary (eq-eqb (t .state) ready s) e
 
 -- "the running thread is the first ready one, or idle"
-pub running-first : (k : Kernel) (n : ℕ) → n ≤ 16 → FirstReady k n (firstReady k n) ⊎ Idle k n (firstReady k n)
+pub running-first : (k : Kernel) (n : ℕ) → n ≤ 16 → FirstReady k n (firstReady k n) ⊎ NobodyReady k n (firstReady k n)
 running-first k n few =
     elim (first-ready-cases k n) [
       | inl c ↦ inl (record {
@@ -83,5 +83,5 @@ module _ (p : Plant) where
   settle-on n d = rw (ne-eqb (threadAt (p .kernel) (runningIn p) .call .kind) 0 d, settled)
 
   -- "Settling ends when the running thread has no unfinished call"
-  pub settle-ends : (n : ℕ) → threadAt (p .kernel) (runningIn p) .call .kind ≡ 0 → settled n p ≡ p
-  settle-ends n e = sym (settled-quiet p (runningIn p) (threadAt (p .kernel) (runningIn p)) refl refl n e)
+  pub settle-stops : (n : ℕ) → threadAt (p .kernel) (runningIn p) .call .kind ≡ 0 → settled n p ≡ p
+  settle-stops n e = sym (settled-quiet p (runningIn p) (threadAt (p .kernel) (runningIn p)) refl refl n e)
