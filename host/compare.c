@@ -238,5 +238,5 @@ int main(int argc, char **argv)
     report_tables();
     print_met("traces read", read_codes);
     print_met("fresh tables asked for", fresh_codes);
-    return 0;
+    return fflush(stdout) == 0 ? 0 : 1;
 }

@@ -105,5 +105,5 @@ int main(void)
     check_tables();
     check_traces();
     printf("check: %u tests, %u failed\n", tests, failures);
-    return failures == 0 ? 0 : 1;
+    return failures == 0 && fflush(stdout) == 0 ? 0 : 1;
 }

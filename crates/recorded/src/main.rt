@@ -1,6 +1,7 @@
 // Recorded traces, each named for what it shows: a damaged one for each refusal of the reader, and those of a plant. `steps/` has
 // them in words, `data/` as they were recorded. `stdout` holds the second program's listings of them,
 // and for the writer what document 01's words give.
+use kernel::kinds::TICK;
 use libc::STDOUT_FILENO;
 use library::calls::Step;
 use library::sizes::Sizes;
@@ -91,7 +92,7 @@ fn sizes_into_10(threads: u16) {
 
 fn tick() -> Step {
     Step {
-        kind: 1,
+        kind: TICK,
         caller: 255,
         object: 0,
         a: 0,

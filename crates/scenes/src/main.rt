@@ -2,6 +2,8 @@
 // A line for each step: its number, code, running thread, woken mask, finished mask, message and datum.
 // `stdout` holds what document 01's words give.
 use kernel::clock::Clock;
+use kernel::numbers::INFINITE;
+use kernel::numbers::NOBODY;
 use kernel::units::Rate;
 use libc::STDOUT_FILENO;
 use library::calls::Step;
@@ -11,6 +13,55 @@ use library::sizes::Sizes;
 use library::tables::Tables;
 use steps::stepping::Outcome;
 use steps::stepping::step;
+
+// A scene's rows are of 32-bit numbers: the kinds in them, and the two numbers that mean more than themselves.
+const TICK: u32 = kernel::kinds::TICK as u32;
+
+const SEMAPHORE_WAIT: u32 = kernel::kinds::SEMAPHORE_WAIT as u32;
+
+const SIGNAL: u32 = kernel::kinds::SIGNAL as u32;
+
+const SEMAPHORE_RESET: u32 = kernel::kinds::SEMAPHORE_RESET as u32;
+
+const BINARY_SIGNAL: u32 = kernel::kinds::BINARY_SIGNAL as u32;
+
+const QUEUE_WAIT: u32 = kernel::kinds::QUEUE_WAIT as u32;
+
+const RELEASE_FIRST: u32 = kernel::kinds::RELEASE_FIRST as u32;
+
+const RELEASE_ALL: u32 = kernel::kinds::RELEASE_ALL as u32;
+
+const SUSPEND: u32 = kernel::kinds::SUSPEND as u32;
+
+const RESUME: u32 = kernel::kinds::RESUME as u32;
+
+const SLEEP_FOR: u32 = kernel::kinds::SLEEP_FOR as u32;
+
+const SLEEP_UNTIL: u32 = kernel::kinds::SLEEP_UNTIL as u32;
+
+const EVENT_SIGNAL: u32 = kernel::kinds::EVENT_SIGNAL as u32;
+
+const EVENT_WAIT: u32 = kernel::kinds::EVENT_WAIT as u32;
+
+const POST: u32 = kernel::kinds::POST as u32;
+
+const POST_AHEAD: u32 = kernel::kinds::POST_AHEAD as u32;
+
+const FETCH: u32 = kernel::kinds::FETCH as u32;
+
+const MAILBOX_RESET: u32 = kernel::kinds::MAILBOX_RESET as u32;
+
+const MAILBOX_RESUME: u32 = kernel::kinds::MAILBOX_RESUME as u32;
+
+const ALLOC: u32 = kernel::kinds::ALLOC as u32;
+
+const FREE: u32 = kernel::kinds::FREE as u32;
+
+const ADD: u32 = kernel::kinds::ADD as u32;
+
+const INTERRUPT: u32 = NOBODY as u32;
+
+const EVER: u32 = INFINITE;
 
 // A scene under way: the tables, the clock, and the number of the last step, which stays far below its limit.
 struct Scene {
@@ -115,12 +166,12 @@ fn run(name: &[u8], sizes: [u16; 7], steps: &[[u32; 5]]) {
 fn six_lines() {
     let sizes = [2, 1, 0, 0, 0, 0, 0];
     let steps = [
-        [2, 0, 0, 0, 3],
-        [3, 1, 0, 0, 0],
-        [2, 0, 0, 0, 2],
-        [1, 255, 0, 0, 0],
-        [1, 255, 0, 0, 0],
-        [3, 1, 0, 0, 0],
+        [SEMAPHORE_WAIT, 0, 0, 0, 3],
+        [SIGNAL, 1, 0, 0, 0],
+        [SEMAPHORE_WAIT, 0, 0, 0, 2],
+        [TICK, INTERRUPT, 0, 0, 0],
+        [TICK, INTERRUPT, 0, 0, 0],
+        [SIGNAL, 1, 0, 0, 0],
     ];
     run(b"six lines\n", sizes, &steps);
 }
@@ -129,13 +180,13 @@ fn six_lines() {
 fn highest_not_longest() {
     let sizes = [3, 1, 0, 0, 0, 0, 0];
     let steps = [
-        [11, 0, 0, 0, 2],
-        [11, 1, 0, 0, 1],
-        [2, 2, 0, 0, 4294967295],
-        [1, 255, 0, 0, 0],
-        [2, 1, 0, 0, 4294967295],
-        [3, 255, 0, 0, 0],
-        [3, 1, 0, 0, 0],
+        [SLEEP_FOR, 0, 0, 0, 2],
+        [SLEEP_FOR, 1, 0, 0, 1],
+        [SEMAPHORE_WAIT, 2, 0, 0, EVER],
+        [TICK, INTERRUPT, 0, 0, 0],
+        [SEMAPHORE_WAIT, 1, 0, 0, EVER],
+        [SIGNAL, INTERRUPT, 0, 0, 0],
+        [SIGNAL, 1, 0, 0, 0],
     ];
     run(b"highest, not longest\n", sizes, &steps);
 }
@@ -144,11 +195,11 @@ fn highest_not_longest() {
 fn a_timeout_gives_its_place_back() {
     let sizes = [1, 1, 0, 0, 0, 0, 0];
     let steps = [
-        [2, 0, 0, 0, 1],
-        [1, 255, 0, 0, 0],
-        [3, 0, 0, 0, 0],
-        [2, 0, 0, 0, 0],
-        [2, 0, 0, 0, 0],
+        [SEMAPHORE_WAIT, 0, 0, 0, 1],
+        [TICK, INTERRUPT, 0, 0, 0],
+        [SIGNAL, 0, 0, 0, 0],
+        [SEMAPHORE_WAIT, 0, 0, 0, 0],
+        [SEMAPHORE_WAIT, 0, 0, 0, 0],
     ];
     run(b"a timeout gives its place back\n", sizes, &steps);
 }
@@ -157,17 +208,17 @@ fn a_timeout_gives_its_place_back() {
 fn a_retry_sleeps_its_full_timeout() {
     let sizes = [2, 1, 0, 0, 1, 0, 1];
     let steps = [
-        [2, 0, 0, 0, 4294967295],
-        [17, 1, 0, 0, 3],
-        [1, 255, 0, 0, 0],
-        [1, 255, 0, 0, 0],
-        [3, 255, 0, 0, 0],
-        [15, 255, 0, 7, 0],
-        [17, 0, 0, 0, 0],
-        [2, 0, 0, 0, 4294967295],
-        [1, 255, 0, 0, 0],
-        [1, 255, 0, 0, 0],
-        [1, 255, 0, 0, 0],
+        [SEMAPHORE_WAIT, 0, 0, 0, EVER],
+        [FETCH, 1, 0, 0, 3],
+        [TICK, INTERRUPT, 0, 0, 0],
+        [TICK, INTERRUPT, 0, 0, 0],
+        [SIGNAL, INTERRUPT, 0, 0, 0],
+        [POST, INTERRUPT, 0, 7, 0],
+        [FETCH, 0, 0, 0, 0],
+        [SEMAPHORE_WAIT, 0, 0, 0, EVER],
+        [TICK, INTERRUPT, 0, 0, 0],
+        [TICK, INTERRUPT, 0, 0, 0],
+        [TICK, INTERRUPT, 0, 0, 0],
     ];
     run(b"a retry sleeps its full timeout\n", sizes, &steps);
 }
@@ -176,15 +227,15 @@ fn a_retry_sleeps_its_full_timeout() {
 fn a_promised_object_is_not_given_away() {
     let sizes = [2, 1, 0, 0, 0, 1, 0];
     let steps = [
-        [22, 0, 0, 9, 0],
-        [20, 0, 0, 0, 0],
-        [2, 0, 0, 0, 4294967295],
-        [20, 1, 0, 0, 4294967295],
-        [3, 255, 0, 0, 0],
-        [21, 0, 0, 9, 0],
-        [20, 0, 0, 0, 0],
-        [20, 255, 0, 0, 0],
-        [2, 0, 0, 0, 4294967295],
+        [ADD, 0, 0, 9, 0],
+        [ALLOC, 0, 0, 0, 0],
+        [SEMAPHORE_WAIT, 0, 0, 0, EVER],
+        [ALLOC, 1, 0, 0, EVER],
+        [SIGNAL, INTERRUPT, 0, 0, 0],
+        [FREE, 0, 0, 9, 0],
+        [ALLOC, 0, 0, 0, 0],
+        [ALLOC, INTERRUPT, 0, 0, 0],
+        [SEMAPHORE_WAIT, 0, 0, 0, EVER],
     ];
     run(b"a promised object is not given away\n", sizes, &steps);
 }
@@ -193,13 +244,13 @@ fn a_promised_object_is_not_given_away() {
 fn continuing_one_call_wakes_another() {
     let sizes = [2, 1, 0, 0, 1, 0, 1];
     let steps = [
-        [15, 0, 0, 5, 0],
-        [2, 0, 0, 0, 4294967295],
-        [15, 1, 0, 6, 4294967295],
-        [3, 255, 0, 0, 0],
-        [17, 0, 0, 0, 4294967295],
-        [17, 0, 0, 0, 4294967295],
-        [17, 0, 0, 0, 0],
+        [POST, 0, 0, 5, 0],
+        [SEMAPHORE_WAIT, 0, 0, 0, EVER],
+        [POST, 1, 0, 6, EVER],
+        [SIGNAL, INTERRUPT, 0, 0, 0],
+        [FETCH, 0, 0, 0, EVER],
+        [FETCH, 0, 0, 0, EVER],
+        [FETCH, 0, 0, 0, 0],
     ];
     run(b"continuing one call wakes another\n", sizes, &steps);
 }
@@ -208,11 +259,11 @@ fn continuing_one_call_wakes_another() {
 fn flags_are_taken_at_the_waking() {
     let sizes = [2, 0, 0, 0, 0, 0, 0];
     let steps = [
-        [14, 0, 0, 3, 4294967295],
-        [13, 1, 0, 4, 0],
-        [13, 1, 0, 5, 0],
-        [14, 0, 0, 4, 0],
-        [14, 0, 0, 4, 0],
+        [EVENT_WAIT, 0, 0, 3, EVER],
+        [EVENT_SIGNAL, 1, 0, 4, 0],
+        [EVENT_SIGNAL, 1, 0, 5, 0],
+        [EVENT_WAIT, 0, 0, 4, 0],
+        [EVENT_WAIT, 0, 0, 4, 0],
     ];
     run(b"flags are taken at the waking\n", sizes, &steps);
 }
@@ -221,12 +272,12 @@ fn flags_are_taken_at_the_waking() {
 fn reset_of_a_semaphore() {
     let sizes = [3, 1, 0, 0, 0, 0, 0];
     let steps = [
-        [2, 0, 0, 0, 4294967295],
-        [2, 1, 0, 0, 5],
-        [4, 2, 0, 2, 0],
-        [2, 0, 0, 0, 0],
-        [2, 0, 0, 0, 0],
-        [2, 0, 0, 0, 0],
+        [SEMAPHORE_WAIT, 0, 0, 0, EVER],
+        [SEMAPHORE_WAIT, 1, 0, 0, 5],
+        [SEMAPHORE_RESET, 2, 0, 2, 0],
+        [SEMAPHORE_WAIT, 0, 0, 0, 0],
+        [SEMAPHORE_WAIT, 0, 0, 0, 0],
+        [SEMAPHORE_WAIT, 0, 0, 0, 0],
     ];
     run(b"reset of a semaphore\n", sizes, &steps);
 }
@@ -236,19 +287,19 @@ fn refusals_in_order() {
     let sizes = [2, 1, 0, 1, 0, 1, 0];
     let steps = [
         [30, 7, 9, 0, 0],
-        [0, 255, 0, 0, 0],
-        [3, 1, 9, 0, 0],
-        [1, 0, 0, 0, 0],
-        [2, 255, 9, 0, 0],
-        [2, 0, 1, 0, 0],
-        [21, 0, 1, 99, 0],
-        [21, 0, 0, 99, 0],
-        [21, 0, 0, 9, 0],
-        [4, 0, 0, 2147483648, 0],
-        [14, 0, 0, 0, 0],
-        [11, 0, 0, 0, 0],
-        [11, 0, 0, 0, 4294967295],
-        [12, 0, 0, 0, 0],
+        [0, INTERRUPT, 0, 0, 0],
+        [SIGNAL, 1, 9, 0, 0],
+        [TICK, 0, 0, 0, 0],
+        [SEMAPHORE_WAIT, INTERRUPT, 9, 0, 0],
+        [SEMAPHORE_WAIT, 0, 1, 0, 0],
+        [FREE, 0, 1, 99, 0],
+        [FREE, 0, 0, 99, 0],
+        [FREE, 0, 0, 9, 0],
+        [SEMAPHORE_RESET, 0, 0, 2147483648, 0],
+        [EVENT_WAIT, 0, 0, 0, 0],
+        [SLEEP_FOR, 0, 0, 0, 0],
+        [SLEEP_FOR, 0, 0, 0, EVER],
+        [SLEEP_UNTIL, 0, 0, 0, 0],
     ];
     run(b"refusals in order\n", sizes, &steps);
 }
@@ -257,14 +308,14 @@ fn refusals_in_order() {
 fn suspend_and_resume() {
     let sizes = [3, 0, 0, 1, 0, 0, 0];
     let steps = [
-        [10, 0, 0, 5, 0],
-        [9, 0, 0, 0, 0],
-        [9, 0, 0, 0, 4294967295],
-        [9, 1, 0, 0, 4294967295],
-        [10, 1, 0, 4294967291, 0],
-        [9, 0, 0, 0, 1],
-        [1, 255, 0, 0, 0],
-        [10, 255, 0, 1, 0],
+        [RESUME, 0, 0, 5, 0],
+        [SUSPEND, 0, 0, 0, 0],
+        [SUSPEND, 0, 0, 0, EVER],
+        [SUSPEND, 1, 0, 0, EVER],
+        [RESUME, 1, 0, 4294967291, 0],
+        [SUSPEND, 0, 0, 0, 1],
+        [TICK, INTERRUPT, 0, 0, 0],
+        [RESUME, INTERRUPT, 0, 1, 0],
     ];
     run(b"suspend and resume\n", sizes, &steps);
 }
@@ -273,14 +324,14 @@ fn suspend_and_resume() {
 fn sleep_until() {
     let sizes = [2, 0, 0, 0, 0, 0, 0];
     let steps = [
-        [12, 0, 0, 2, 0],
-        [1, 255, 0, 0, 0],
-        [1, 255, 0, 0, 0],
-        [12, 0, 0, 2, 0],
-        [12, 0, 0, 1, 0],
-        [12, 0, 0, 4, 0],
-        [1, 255, 0, 0, 0],
-        [1, 255, 0, 0, 0],
+        [SLEEP_UNTIL, 0, 0, 2, 0],
+        [TICK, INTERRUPT, 0, 0, 0],
+        [TICK, INTERRUPT, 0, 0, 0],
+        [SLEEP_UNTIL, 0, 0, 2, 0],
+        [SLEEP_UNTIL, 0, 0, 1, 0],
+        [SLEEP_UNTIL, 0, 0, 4, 0],
+        [TICK, INTERRUPT, 0, 0, 0],
+        [TICK, INTERRUPT, 0, 0, 0],
     ];
     run(b"sleep until\n", sizes, &steps);
 }
@@ -289,15 +340,15 @@ fn sleep_until() {
 fn mailbox_reset() {
     let sizes = [4, 0, 0, 0, 1, 0, 1];
     let steps = [
-        [17, 0, 0, 0, 4294967295],
-        [18, 1, 0, 0, 0],
-        [15, 0, 0, 1, 4294967295],
-        [17, 0, 0, 0, 0],
-        [19, 0, 0, 0, 0],
-        [15, 0, 0, 1, 4294967295],
-        [15, 0, 0, 2, 4294967295],
-        [18, 1, 0, 0, 0],
-        [17, 255, 0, 0, 0],
+        [FETCH, 0, 0, 0, EVER],
+        [MAILBOX_RESET, 1, 0, 0, 0],
+        [POST, 0, 0, 1, EVER],
+        [FETCH, 0, 0, 0, 0],
+        [MAILBOX_RESUME, 0, 0, 0, 0],
+        [POST, 0, 0, 1, EVER],
+        [POST, 0, 0, 2, EVER],
+        [MAILBOX_RESET, 1, 0, 0, 0],
+        [FETCH, INTERRUPT, 0, 0, 0],
     ];
     run(b"mailbox reset\n", sizes, &steps);
 }
@@ -306,14 +357,14 @@ fn mailbox_reset() {
 fn queues() {
     let sizes = [4, 0, 1, 0, 0, 0, 0];
     let steps = [
-        [6, 0, 0, 0, 0],
-        [6, 0, 0, 0, 4294967295],
-        [6, 1, 0, 0, 4294967295],
-        [6, 2, 0, 0, 2],
-        [7, 3, 0, 77, 0],
-        [8, 0, 0, 4294967286, 0],
-        [8, 0, 0, 3, 0],
-        [7, 255, 0, 3, 0],
+        [QUEUE_WAIT, 0, 0, 0, 0],
+        [QUEUE_WAIT, 0, 0, 0, EVER],
+        [QUEUE_WAIT, 1, 0, 0, EVER],
+        [QUEUE_WAIT, 2, 0, 0, 2],
+        [RELEASE_FIRST, 3, 0, 77, 0],
+        [RELEASE_ALL, 0, 0, 4294967286, 0],
+        [RELEASE_ALL, 0, 0, 3, 0],
+        [RELEASE_FIRST, INTERRUPT, 0, 3, 0],
     ];
     run(b"queues\n", sizes, &steps);
 }
@@ -322,14 +373,14 @@ fn queues() {
 fn post_ahead_and_order() {
     let sizes = [1, 0, 0, 0, 1, 0, 3];
     let steps = [
-        [15, 0, 0, 1, 0],
-        [15, 0, 0, 2, 0],
-        [16, 0, 0, 3, 0],
-        [15, 0, 0, 4, 0],
-        [17, 0, 0, 0, 0],
-        [17, 255, 0, 0, 0],
-        [17, 0, 0, 0, 0],
-        [17, 0, 0, 0, 0],
+        [POST, 0, 0, 1, 0],
+        [POST, 0, 0, 2, 0],
+        [POST_AHEAD, 0, 0, 3, 0],
+        [POST, 0, 0, 4, 0],
+        [FETCH, 0, 0, 0, 0],
+        [FETCH, INTERRUPT, 0, 0, 0],
+        [FETCH, 0, 0, 0, 0],
+        [FETCH, 0, 0, 0, 0],
     ];
     run(b"post ahead and order\n", sizes, &steps);
 }
@@ -338,12 +389,12 @@ fn post_ahead_and_order() {
 fn binary_signal() {
     let sizes = [2, 1, 0, 0, 0, 0, 0];
     let steps = [
-        [5, 0, 0, 0, 0],
-        [5, 0, 0, 0, 0],
-        [2, 0, 0, 0, 0],
-        [2, 0, 0, 0, 4294967295],
-        [5, 1, 0, 0, 0],
-        [2, 0, 0, 0, 0],
+        [BINARY_SIGNAL, 0, 0, 0, 0],
+        [BINARY_SIGNAL, 0, 0, 0, 0],
+        [SEMAPHORE_WAIT, 0, 0, 0, 0],
+        [SEMAPHORE_WAIT, 0, 0, 0, EVER],
+        [BINARY_SIGNAL, 1, 0, 0, 0],
+        [SEMAPHORE_WAIT, 0, 0, 0, 0],
     ];
     run(b"binary signal\n", sizes, &steps);
 }

@@ -15,11 +15,11 @@ use Rattle.library.specs.declared.fresh.Made.{Made}
 use Rattle.library.specs.Fresh.{made}
 use Rattle.steps.specs.declared.stepping.Stepped.{Stepped}
 use Rattle.steps.specs.Stepping.{stepped}
-use Rattle.trace.specs.declared.reader.Found.{Found}
-use Rattle.trace.specs.declared.reader.Found.the-variants as found
+use Rattle.trace.specs.declared.decoding.Found.{Found}
+use Rattle.trace.specs.declared.decoding.Found.the-variants as found
 use Rattle.trace.specs.declared.writer.Written.{Written}
 use Rattle.trace.specs.declared.writer.Written.the-variants as written
-use Rattle.trace.specs.Reader.{foundCode, nextRead}
+use Rattle.trace.specs.Decoding.{foundCode, nextRead}
 use Rattle.trace.specs.Writer.{writtenCode, sizesAnswer, sizesWritten, stepAnswer, stepWritten}
 use Rattle.host.specs.declared.request.Request.{Request}
 use Rattle.host.specs.declared.request.StepResult.{StepResult}

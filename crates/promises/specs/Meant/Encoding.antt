@@ -12,8 +12,8 @@ use borrow.Author.Tests.{lt-ltb, le-ltb}
 use Rattle.kernel.proofs.Cases.{in-or-out}
 use Rattle.library.specs.declared.calls.Step.{Step}
 use Rattle.library.specs.declared.sizes.Sizes.{Sizes}
-use Rattle.trace.specs.declared.reader.Found.the-variants.{Ended}
-use Rattle.trace.specs.declared.reader.Read.{Read}
+use Rattle.trace.specs.declared.decoding.Found.the-variants.{Ended}
+use Rattle.trace.specs.declared.decoding.Read.{Read}
 use Rattle.trace.specs.TraceBytes.{framed, sizesBody, headOf, recordsOf, traceOf}
 use Rattle.trace.specs.Traces.{readAll, writtenAll, AllEncode}
 use Rattle.trace.proofs.ReadingLaws.{all-read}

@@ -14,11 +14,11 @@ use borrow.Author.Tests.{ltb-true, ltb-false, eqb-true, eqb-false, ne-eqb}
 use Rattle.kernel.proofs.Cases.{split, same-or, in-or-out}
 use Rattle.library.specs.declared.sizes.Sizes.{Sizes}
 use Rattle.library.specs.Sizes.{sizesFit}
-use Rattle.trace.specs.declared.reader.Found.the-variants as found
-use Rattle.trace.specs.declared.reader.Read.{Read}
-use Rattle.trace.specs.declared.reading.Reader.{Reader}
+use Rattle.trace.specs.declared.decoding.Found.the-variants as found
+use Rattle.trace.specs.declared.decoding.Read.{Read}
+use Rattle.trace.specs.declared.cursor.Reader.{Reader}
 use Rattle.trace.specs.Ordered.{getN}
-use Rattle.trace.specs.Reader.{
+use Rattle.trace.specs.Decoding.{
   numberAt,
   endsInside,
   lengthRefusal,
@@ -31,7 +31,7 @@ use Rattle.trace.specs.Reader.{
   steppedRead,
   nextRead,
 }
-use Rattle.trace.specs.Reading.{moved}
+use Rattle.trace.specs.Cursor.{moved}
 use Rattle.trace.proofs.Widths.{get-two, get-four, get-same}
 use Rattle.trace.proofs.BodyLaws.{take-short}
 use Rattle.trace.proofs.Framing.{whole}

@@ -4,8 +4,8 @@ use native.Mathlib.Omega.{arith}
 use mathlib.Core.Path.{_≡_, refl, ap}
 use mathlib.Core.List.{[], _∷_}
 use Rattle.library.specs.declared.calls.Step.{Step}
-use Rattle.trace.specs.declared.reader.Found.{Found}
-use Rattle.trace.specs.declared.reader.Found.the-variants as found
+use Rattle.trace.specs.declared.decoding.Found.{Found}
+use Rattle.trace.specs.declared.decoding.Found.the-variants as found
 use Rattle.trace.specs.declared.writer.Written.{Written}
 use Rattle.trace.specs.declared.writer.Written.the-variants as written
 use Rattle.promises.specs.Paper.Answers.{Said, foundSaid, writtenSaid}

@@ -2,8 +2,8 @@
 -- promises use that definition." The definition is here, for both.
 use Prim.Native.Nat.{ℕ}
 use mathlib.Core.List.{List, [], _∷_}
-use Rattle.trace.specs.declared.reader.Found.{Found}
-use Rattle.trace.specs.declared.reader.Found.the-variants as found
+use Rattle.trace.specs.declared.decoding.Found.{Found}
+use Rattle.trace.specs.declared.decoding.Found.the-variants as found
 use Rattle.trace.specs.declared.writer.Written.{Written}
 use Rattle.trace.specs.declared.writer.Written.the-variants as written
 

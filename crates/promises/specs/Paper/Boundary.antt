@@ -11,7 +11,7 @@ use Rattle.library.specs.declared.sizes.Sizes.{Sizes}
 use Rattle.library.specs.declared.tables.Tables.{Tables}
 use Rattle.library.specs.declared.fresh.Made.{Made}
 use Rattle.steps.specs.declared.stepping.Stepped.{Stepped}
-use Rattle.trace.specs.declared.reader.Read.{Read}
+use Rattle.trace.specs.declared.decoding.Read.{Read}
 use Rattle.trace.specs.declared.writer.Written.{Written}
 use Rattle.host.specs.declared.request.Request.{Request}
 use Rattle.host.specs.declared.request.StepResult.{StepResult}

@@ -20,12 +20,12 @@ use Rattle.library.specs.declared.sizes.Sizes.{Sizes}
 use Rattle.library.specs.Sizes.{sizesFit}
 use Rattle.library.specs.Tables.{blankMailbox}
 use Rattle.library.specs.Fresh.{made}
-use Rattle.trace.specs.declared.reader.Found.the-variants.{Ended}
-use Rattle.trace.specs.declared.reader.Read.{Read}
+use Rattle.trace.specs.declared.decoding.Found.the-variants.{Ended}
+use Rattle.trace.specs.declared.decoding.Read.{Read}
 use Rattle.trace.specs.declared.writer.Written.{Written}
 use Rattle.trace.specs.Ordered.{getN}
 use Rattle.trace.specs.TraceBytes.{headOf, recordOf, traceOf}
-use Rattle.trace.specs.Reader.{endsInside, lengthRefusal, stepRefusal, decodedSizes, decodedStep, openedRead, steppedRead, nextRead}
+use Rattle.trace.specs.Decoding.{endsInside, lengthRefusal, stepRefusal, decodedSizes, decodedStep, openedRead, steppedRead, nextRead}
 use Rattle.trace.specs.Writer.{sizesAnswer, sizesWritten, stepAnswer, stepWritten}
 use Rattle.trace.specs.Traces.{readAll, writtenAll, none, more}
 use Rattle.host.specs.declared.request.Request.{Request}
