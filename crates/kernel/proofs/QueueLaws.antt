@@ -65,7 +65,6 @@ sleep-level k i s p c q l =
 -- ---- release of the first
 
 module _ (k : Kernel) (n p : ℕ) (m : ℤ) where
-
   -- nobody but the first waiter is touched
   pub release-first-others : (j : ℕ) → j ≢ firstWaiter k n p → threadAt (releasedFirst k n p m) j ≡ threadAt k j
   unfolding releasedFirst

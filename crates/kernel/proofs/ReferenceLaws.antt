@@ -26,7 +26,6 @@ module _ (k : Kernel) (i : ℕ) (m : ℤ) where
 -- ---- resume
 
 module _ (k : Kernel) (r : ℕ) (m : ℤ) where
-
   -- the tables keep their lengths
   pub resume-sizes : SameSizes k (resumed k r m)
   unfolding resumed

@@ -17,7 +17,6 @@ use Rattle.kernel.proofs.QueueLaws.{release-first-sizes, release-all-si
 -- ---- signal
 
 module _ (k : Kernel) (n p : ℕ) where
-
   -- the tables keep their lengths
   pub signal-sizes : SameSizes k (signalled k n p)
   unfolding signalled
@@ -28,7 +27,6 @@ module _ (k : Kernel) (n p : ℕ) where
 -- ---- reset
 
 module _ (k : Kernel) (n p : ℕ) (c : ℤ) where
-
   -- the tables keep their lengths
   pub reset-sizes : SameSizes k (resetTo k n p c)
   unfolding resetTo

@@ -67,7 +67,7 @@ module _ (p : Plant) (c : Clock) (s : Step) (a : Accepted p c s) (w : Whole (p .
 
   -- an operation that is no signal
   tried : (h : Plant) → Tries z p h → [] ≡ calledFor p s → Acts z p s h
-  tried h t e = record { marks = t .marks; done = t .done; }
+  tried h t e = record { marks = t .marks; done = t .done }
 
   -- one that finishes the caller's call at once
   at-once : (h : Plant) (ms : List Event) → Done z p h ms → callsOf ms ≡ calledFor p s → countIn (isSlept (s .caller)) ms ≡ 0

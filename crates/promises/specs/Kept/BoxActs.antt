@@ -184,7 +184,7 @@ module _ (p : Plant) (w : Whole (p .sizes) p) where
 
   boxes-tries : (h : Plant) → MailboxesKept p h → Quiet z k (h .kernel) → Tries z p h
   boxes-tries h m q =
-      record { marks = q .marks; done = boxes-done h (q .marks) m (q .chained) (q .takes) (q .signals); }
+      record { marks = q .marks; done = boxes-done h (q .marks) m (q .chained) (q .takes) (q .signals) }
 
   module _ (i : ℕ) (c : Call) (t : Tryer z k i c) (there : c .object < z .mailboxes) where
     post-quiet : queued ≡ waitState (c .kind) → writersPlace (c .object) ≡ waitPlace (c .kind) (c .object)

@@ -354,7 +354,7 @@ tries-then a b =
     }
 
 tries-none : {z : Sizes} {p : Plant} → Whole z p → Tries z p p
-tries-none w = record { marks = []; done = record { chained = rested; whole = w }; }
+tries-none w = record { marks = []; done = record { chained = rested; whole = w } }
 
 -- one call continued, of tables whose sizes are z
 continue-at : (z : Sizes) (p : Plant) → Whole z p → isSettled p ≡ false

@@ -20,6 +20,5 @@ few-free (pos m) h = lt-ltb m 2147483647 (omega arith)
 few-free (negsuc m) h = refl
 
 module _ (p : Plant) (c : Clock) (s : Step) (z : PlantSized p) (e : refusalOf p c s ≡ 0) where
-
   abbrev h : Plant
   h = acted p (c .time) s

@@ -119,8 +119,6 @@ module _ (p : Plant) (i : ℕ) (call : Call) where
 -- ---- 18: reset
 
 module _ (p : Plant) (b : ℕ) where
-
   module _ (z : Sized (p .kernel)) (few : p .sizes .threads ≤ 16) where
-
     apart : writersPlace b ≢ readersPlace b
     apart e = omega arith

@@ -20,7 +20,6 @@ use Rattle.promises.specs.Kept.PoolKept.{stocked, promised-stocked}
 
 -- such are those of tables that hang together; and a list has an object where the laws below ask for one
 module _ (p : Plant) (g : Good p) (n : ℕ) (there : n < p .sizes .pools) where
-
   -- a counter above 0 has an object that nobody was promised
   pub counter-stocked : ltZ (pos 0) (counterAt (p .kernel) (poolPlace n)) ≡ true → 0 < poolAt p n .length
   counter-stocked e = stocked (g .pools n there) e

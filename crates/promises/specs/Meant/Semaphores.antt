@@ -24,7 +24,6 @@ not-most (pos n) e = absurd (omega (arith, ltb-true n 0 e))
 not-most (negsuc n) e = refl
 
 module _ (k : Kernel) (z : Sized k) (n p : ℕ) where
-
   -- there is one: "with n > 0 threads queued has counter -n; with none, a semaphore is at least 0"
   pub signal-finds : n ≤ 16 → Tallies n p k → ltZ (counterAt k p) (pos 0) ≡ true → HighestWaiter k n p (firstWaiter k n p)
   signal-finds few g e =
