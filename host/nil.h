@@ -132,6 +132,10 @@ enum {
     NIL_STEP_RECORD = 13
 };
 
+/* Bytes of stack that are enough for any call, whatever the tables hold; what
+   a handler takes on the same stack is not counted. */
+enum { NIL_STACK = 53248 };
+
 /* What nil_read found. */
 enum { NIL_FOUND_NOTHING = 0, NIL_FOUND_SIZES = 1, NIL_FOUND_STEP = 2 };
 
