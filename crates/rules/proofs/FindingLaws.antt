@@ -151,7 +151,18 @@ reordered s f c r m q t a w v n u =
     let h6 = both-means m _ (h5 .1) in
     let h7 = both-means q u (h6 .1) in
     rw (
-      h1 .0, h2 .0, h4 .0, h5 .0, h6 .0, h7 .0, ticks .0, row .0, wait .0, flags .0, flags .1, h7 .1,
+      h1 .0,
+      h2 .0,
+      h4 .0,
+      h5 .0,
+      h6 .0,
+      h7 .0,
+      ticks .0,
+      row .0,
+      wait .0,
+      flags .0,
+      flags .1,
+      h7 .1,
     ))
 
 -- 0 is the number of the broken rule exactly where the tables hang together: those of a host, whose lists have their tables' lengths
