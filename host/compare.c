@@ -122,7 +122,7 @@ static void step_on_damaged(struct random *r, struct where at,
     uint32_t way = some_way(r);
 
     spoil(r, way, &damaged);
-    try_times(r, at);
+    try_times(at);
     table_codes[way][both_step(at, &damaged, s)]++;
 }
 

@@ -2,7 +2,8 @@
 //! pointers: what the C caller has to promise of its pointers, Rust's own rules see to, so that every function here is safe.
 //!
 //! The model keeps nothing between two calls, and every function answers for any values. A refusal is a number, as in `nil.h`.
-//! It needs nothing but `core`, from Rust 1.63 on.
+//! It needs nothing but `core`, from Rust 1.63 on, in any edition from 2018 on.
+#![allow(dead_code)] // a host uses what it needs of it
 
 /// How many rows each table has; a plant uses the first of them, as many as its sizes say.
 pub const THREADS: usize = 16;
@@ -231,7 +232,16 @@ struct RawRead {
     code: u32,
 }
 
-extern "C" {
+// From edition 2024 on the block has to be marked `unsafe`, which compilers before 1.82 do not take. An `expr` matches `const {}`
+// from edition 2024 on, and that chooses.
+macro_rules! declare {
+    ($edition:expr; $($functions:tt)*) => { unsafe extern "C" { $($functions)* } };
+    (const {}; $($functions:tt)*) => { extern "C" { $($functions)* } };
+}
+
+declare! {
+    const {};
+
     fn nil_fresh(tables: *mut Tables, clock: *mut Clock, sizes: *const Sizes, frequency: u32)
         -> u8;
     fn nil_step(

@@ -4,7 +4,6 @@
 //! It has C's `main`: what Rust does before its own reads /proc/self/maps, at which the kit's emulator ends.
 #![no_main]
 
-#[allow(dead_code)] // a host uses what it needs of the wrapper
 #[path = "nil.rs"]
 mod nil;
 

@@ -2,6 +2,7 @@
    here they are plain numbers, as a host has them. */
 #include "times.h"
 
+#include "random.h"
 #include "ticks.h"
 
 uint64_t conversions[2];
@@ -71,9 +72,10 @@ static void try_units(struct where at, uint32_t x, uint32_t frequency)
     }
 }
 
-void try_times(struct random *r, struct where at)
+void try_times(struct where at)
 {
-    uint32_t a = some_number(r), b = some_number(r), c = some_number(r);
+    struct random r = { at.seed * UINT64_C(1000003) + at.number };
+    uint32_t a = some_number(&r), b = some_number(&r), c = some_number(&r);
 
     try_sums(at, a, b, c);
     try_ticks(at, a, b);

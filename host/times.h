@@ -3,11 +3,10 @@
 #define TIMES_H
 
 #include "pair.h"
-#include "random.h"
 
-/* Each of the nine functions on random numbers and on numbers at their
-   limits. */
-void try_times(struct random *r, struct where at);
+/* Each of the nine functions on random numbers and on numbers at their limits,
+   which the place in the run determines. */
+void try_times(struct where at);
 
 /* How many conversions were accepted, and how many refused. */
 extern uint64_t conversions[2];
