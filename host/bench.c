@@ -249,5 +249,5 @@ int main(int argc, char **argv)
     for (size_t k = 0; k < sizeof LOADS / sizeof LOADS[0]; k++) {
         measure(&LOADS[k], seed, (uint32_t)rounds);
     }
-    return 0;
+    return fflush(stdout) == 0 ? 0 : 1;
 }

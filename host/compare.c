@@ -247,5 +247,5 @@ int main(int argc, char **argv)
     printf("  conversions: %llu made, %llu refused\n",
            (unsigned long long)conversions[0],
            (unsigned long long)conversions[1]);
-    return 0;
+    return fflush(stdout) == 0 ? 0 : 1;
 }

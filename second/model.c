@@ -1,17 +1,6 @@
 /* One step: its refusal or effect, settling, and its result. */
 #include "work.h"
 
-/* "The running thread is the first ready one, or idle." */
-uint32_t running_thread(const struct tables *t)
-{
-    for (uint32_t i = 0; i < t->sizes.threads && i < MAX_THREADS; i++) {
-        if (t->thread[i].state == READY) {
-            return i;
-        }
-    }
-    return IDLE;
-}
-
 /* "The falling number is the budget of twice the threads." */
 uint32_t settling_budget(const struct tables *t)
 {

@@ -187,6 +187,7 @@ bool sizes_in_limits(const struct sizes *sizes);
    for the frequency; the tables are then left alone. */
 uint32_t fresh_tables(struct tables *t, const struct sizes *sizes,
                       const uint32_t *frequency);
+uint32_t running_thread(const struct tables *t);
 
 /* hang.c: safe on tables of any values. */
 bool tables_hang_together(const struct tables *t);
@@ -195,7 +196,6 @@ bool tables_hang_together(const struct tables *t);
 uint32_t refusal_of(const struct tables *t, const struct step *s);
 
 /* model.c */
-uint32_t running_thread(const struct tables *t);
 uint32_t settling_budget(const struct tables *t);
 struct result do_step(struct tables *t, const struct step *s);
 

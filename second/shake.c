@@ -164,5 +164,5 @@ int main(int argc, char **argv)
            PRIu64 ", broken %" PRIu64 "; most continued %" PRIu32 "\n",
            seen.accepted, seen.refused, seen.kept, seen.broken,
            seen.most_continued);
-    return 0;
+    return fflush(stdout) == 0 ? 0 : 1;
 }

@@ -252,5 +252,5 @@ int main(int argc, char **argv)
         run_trace(seed + k, &trace);
     }
     print_seen();
-    return 0;
+    return fflush(stdout) == 0 ? 0 : 1;
 }

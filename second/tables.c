@@ -1,4 +1,4 @@
-/* Sizes and fresh tables. */
+/* Sizes, fresh tables, and which thread of the tables runs. */
 #include "model.h"
 
 #include <string.h>
@@ -45,4 +45,15 @@ uint32_t fresh_tables(struct tables *t, const struct sizes *sizes,
         t->reference[r] = NOBODY;
     }
     return ACCEPTED;
+}
+
+/* "The running thread is the first ready one, or idle." */
+uint32_t running_thread(const struct tables *t)
+{
+    for (uint32_t i = 0; i < t->sizes.threads && i < MAX_THREADS; i++) {
+        if (t->thread[i].state == READY) {
+            return i;
+        }
+    }
+    return IDLE;
 }

@@ -1,5 +1,6 @@
 -- What the walks of this crate share, and the laws that they cite.
 pub mod Told
+pub mod Fields
 pub mod RequestLaws
 pub mod SetupLaws
 pub mod Unique

@@ -2,9 +2,9 @@
 use Prim.Native.Nat.{ℕ}
 use mathlib.Core.List.{List}
 use Rattle.library.specs.declared.calls.Step.{Step}
-use Rattle.trace.specs.declared.reader.Found.{Found}
-use Rattle.trace.specs.declared.reader.Found.the-variants.{Opened, Stepped, Ended, Refused}
-use Rattle.trace.specs.Reader.{foundCode, numberAt, nextRead}
+use Rattle.trace.specs.declared.decoding.Found.{Found}
+use Rattle.trace.specs.declared.decoding.Found.the-variants.{Opened, Stepped, Ended, Refused}
+use Rattle.trace.specs.Decoding.{foundCode, numberAt, nextRead}
 use Rattle.host.specs.declared.request.Request.{Request}
 use Rattle.host.specs.declared.reads.ReadResult.{ReadResult}
 

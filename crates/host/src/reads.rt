@@ -2,11 +2,11 @@
 use crate::request::Request;
 use library::calls::Step;
 use library::sizes::Sizes;
-use trace::reader::Found;
-use trace::reader::number_at;
-use trace::reading::read_at;
+use trace::cursor::read_at;
+use trace::decoding::Found;
+use trace::decoding::number_at;
 ghost use mathlib.Core.Path.{_≡_};
-ghost use Rattle.trace.specs.Reader.{foundCode};
+ghost use Rattle.trace.specs.Decoding.{foundCode};
 ghost use Rattle.host.specs.Reads.{noRequest, requestOf, requestIn, foundNumber, readAt};
 
 // What a read found: no step and no sizes at a refusal and at the trace's end.

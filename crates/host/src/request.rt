@@ -1,6 +1,7 @@
 // One step on the tables and the clock that the host owns.
 use kernel::clock::Clock;
 use kernel::clock::tick;
+use kernel::kinds::TICK;
 use library::calls::Step;
 use library::logic::both;
 use library::tables::Tables;
@@ -75,7 +76,7 @@ fn answer(tables: Tables, clock: Clock, q: Request) -> Answered
     let outcome = done.outcome;
     let result = result_of(outcome);
     let accepted = outcome.code == 0;
-    let is_tick = q.kind == 1;
+    let is_tick = q.kind == TICK;
     Answered {
         tables: after,
         result: result,

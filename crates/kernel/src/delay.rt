@@ -1,8 +1,8 @@
 // Plain sleeps: for an interval, and until a time.
+use crate::kinds::KEPT_SLEEP_FOR;
+use crate::kinds::KEPT_SLEEP_UNTIL;
 use crate::moves::sleep;
 use crate::numbers::NOWHERE;
-use crate::numbers::SLEEP_FOR;
-use crate::numbers::SLEEP_UNTIL;
 use crate::numbers::SLEEPING;
 use crate::records::Call;
 use crate::records::Kernel;
@@ -17,7 +17,7 @@ pub fn sleep_for(k: Kernel, i: u8, d: Interval) -> Kernel
     ensures { λ r. ⌜ r ≡ sleptFor k i d ⌝ }
 {
     let call = Call {
-        kind: SLEEP_FOR,
+        kind: KEPT_SLEEP_FOR,
         object: 0,
         operand: 0,
         timeout: d.0,
@@ -31,7 +31,7 @@ pub fn sleep_until(k: Kernel, i: u8, now: SystemTime, until: SystemTime) -> Kern
 {
     let d = difference(now, until);
     let call = Call {
-        kind: SLEEP_UNTIL,
+        kind: KEPT_SLEEP_UNTIL,
         object: 0,
         operand: until.0,
         timeout: d.0,

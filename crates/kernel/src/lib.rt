@@ -5,6 +5,7 @@ pub mod clock;
 pub mod counters;
 pub mod delay;
 pub mod event;
+pub mod kinds;
 pub mod moves;
 pub mod numbers;
 pub mod places;

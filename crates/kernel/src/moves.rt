@@ -2,7 +2,7 @@
 // every operation finds a thread and makes one of these moves, so a wait begins and ends here and nowhere else.
 use crate::counters::count_down;
 use crate::counters::count_up;
-use crate::numbers::EVENT_WAIT;
+use crate::kinds::KEPT_EVENT_WAIT;
 use crate::numbers::IMMEDIATE;
 use crate::numbers::INFINITE;
 use crate::numbers::NOBODY;
@@ -52,7 +52,7 @@ fn ticks_of(timeout: u32) -> u32
 fn awaited_by(call: Call) -> u32
     ensures { λ r. ⌜ r ≡ awaitedBy call ⌝ }
 {
-    if call.kind == EVENT_WAIT {
+    if call.kind == KEPT_EVENT_WAIT {
         call.operand
     } else {
         0

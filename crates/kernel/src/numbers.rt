@@ -30,10 +30,3 @@ pub const WAS_RESET: i32 = -2;
 pub const IMMEDIATE: u32 = 0;
 
 pub const INFINITE: u32 = 4294967295;
-
-// The kinds of step whose calls the kernel part puts to sleep.
-pub const SLEEP_FOR: u16 = 11;
-
-pub const SLEEP_UNTIL: u16 = 12;
-
-pub const EVENT_WAIT: u16 = 14;

@@ -2,6 +2,7 @@
 // What a host owns has C's layout and no padding: every byte belongs to a field.
 ghost use mathlib.Core.Path.{_≡_};
 ghost use Rattle.kernel.specs.Records.{noCall, noAnswer, blank, freshRecords, begun, ended};
+use crate::kinds::KEPT_NONE;
 use crate::numbers::NOBODY;
 use crate::numbers::NOWHERE;
 use crate::numbers::READY;
@@ -57,7 +58,7 @@ pub fn no_call() -> Call
     ensures { λ r. ⌜ r ≡ noCall ⌝ }
 {
     Call {
-        kind: 0,
+        kind: KEPT_NONE,
         object: 0,
         operand: 0,
         timeout: 0,

@@ -16,6 +16,25 @@ use kernel::delay::sleep_for;
 use kernel::delay::sleep_until;
 use kernel::event::signal_events;
 use kernel::event::wait_events;
+use kernel::kinds::ALLOC;
+use kernel::kinds::BINARY_SIGNAL;
+use kernel::kinds::EVENT_WAIT;
+use kernel::kinds::FETCH;
+use kernel::kinds::MAILBOX_RESET;
+use kernel::kinds::MAILBOX_RESUME;
+use kernel::kinds::POST;
+use kernel::kinds::POST_AHEAD;
+use kernel::kinds::QUEUE_WAIT;
+use kernel::kinds::RELEASE_ALL;
+use kernel::kinds::RELEASE_FIRST;
+use kernel::kinds::RESUME;
+use kernel::kinds::SEMAPHORE_RESET;
+use kernel::kinds::SEMAPHORE_WAIT;
+use kernel::kinds::SIGNAL;
+use kernel::kinds::SLEEP_FOR;
+use kernel::kinds::SLEEP_UNTIL;
+use kernel::kinds::SUSPEND;
+use kernel::kinds::TICK;
 use kernel::moves::finish;
 use kernel::numbers::OK;
 use kernel::places::queue_place;
@@ -43,11 +62,11 @@ fn begin_wait(k: Kernel, now: SystemTime, s: Step) -> Kernel
     let object = s.object as u16;
     let call = call_of(s);
     match kind {
-        2 => wait(k, s.caller, semaphore_place(object), call),
-        6 => enqueue(k, s.caller, queue_place(object), call),
-        9 => suspend(k, s.caller, object, call),
-        11 => sleep_for(k, s.caller, Interval(s.timeout)),
-        12 => sleep_until(k, s.caller, now, SystemTime(s.a)),
+        SEMAPHORE_WAIT => wait(k, s.caller, semaphore_place(object), call),
+        QUEUE_WAIT => enqueue(k, s.caller, queue_place(object), call),
+        SUSPEND => suspend(k, s.caller, object, call),
+        SLEEP_FOR => sleep_for(k, s.caller, Interval(s.timeout)),
+        SLEEP_UNTIL => sleep_until(k, s.caller, now, SystemTime(s.a)),
         _ => wait_events(k, s.caller, call),
     }
 }
@@ -59,13 +78,13 @@ fn effect(k: Kernel, n: u16, s: Step) -> Kernel
     let kind = s.kind;
     let object = s.object as u16;
     match kind {
-        1 => tick(k, n),
-        3 => signal(k, n, semaphore_place(object)),
-        4 => reset(k, n, semaphore_place(object), as_signed(s.a)),
-        5 => binary_signal(k, n, semaphore_place(object)),
-        7 => release_first(k, n, queue_place(object), as_signed(s.a)),
-        8 => release_all(k, n, queue_place(object), as_signed(s.a)),
-        10 => resume(k, object, as_signed(s.a)),
+        TICK => tick(k, n),
+        SIGNAL => signal(k, n, semaphore_place(object)),
+        SEMAPHORE_RESET => reset(k, n, semaphore_place(object), as_signed(s.a)),
+        BINARY_SIGNAL => binary_signal(k, n, semaphore_place(object)),
+        RELEASE_FIRST => release_first(k, n, queue_place(object), as_signed(s.a)),
+        RELEASE_ALL => release_all(k, n, queue_place(object), as_signed(s.a)),
+        RESUME => resume(k, object, as_signed(s.a)),
         _ => signal_events(k, s.object, s.a),
     }
 }
@@ -74,8 +93,14 @@ fn effect(k: Kernel, n: u16, s: Step) -> Kernel
 pub fn is_kernel_wait(kind: u8) -> bool
     ensures { λ r. ⌜ r ≡ kernelWaits kind ⌝ }
 {
-    let late = either(kind == 11, either(kind == 12, kind == 14));
-    either(kind == 2, either(kind == 6, either(kind == 9, late)))
+    let late = either(
+        kind == SLEEP_FOR,
+        either(kind == SLEEP_UNTIL, kind == EVENT_WAIT),
+    );
+    either(
+        kind == SEMAPHORE_WAIT,
+        either(kind == QUEUE_WAIT, either(kind == SUSPEND, late)),
+    )
 }
 
 // Kinds 1 to 14.
@@ -96,8 +121,8 @@ fn effect_on_box(p: Plant, s: Step) -> Plant
     let kind = s.kind;
     let object = s.object as u16;
     match kind {
-        18 => reset_mailbox(p, object),
-        19 => resume_mailbox(p, object),
+        MAILBOX_RESET => reset_mailbox(p, object),
+        MAILBOX_RESUME => resume_mailbox(p, object),
         _ => put_back(p, object, (s.a % 256) as u8),
     }
 }
@@ -109,10 +134,10 @@ fn act_on_box(p: Plant, s: Step) -> Plant
     let kind = s.kind;
     let call = call_of(s);
     match kind {
-        15 => try_post(p, s.caller, call),
-        16 => try_post(p, s.caller, call),
-        17 => try_fetch(p, s.caller, call),
-        20 => try_alloc(p, s.caller, call),
+        POST => try_post(p, s.caller, call),
+        POST_AHEAD => try_post(p, s.caller, call),
+        FETCH => try_fetch(p, s.caller, call),
+        ALLOC => try_alloc(p, s.caller, call),
         _ => {
             let done = effect_on_box(p, s);
             set_kernel(done, finish(done.kernel, s.caller, OK, 0))
@@ -124,7 +149,7 @@ fn act_on_box(p: Plant, s: Step) -> Plant
 pub fn act(p: Plant, now: SystemTime, s: Step) -> Plant
     ensures { λ r. ⌜ r ≡ acted p now s ⌝ }
 {
-    if s.kind <= 14 {
+    if s.kind <= EVENT_WAIT {
         set_kernel(p, act_on_kernel(p.kernel, p.sizes.threads, now, s))
     } else {
         act_on_box(p, s)

@@ -1,9 +1,9 @@
 // A step, and the call that a sleeping thread keeps of it.
 use crate::logic::either;
-use crate::numbers::EVENT_WAIT;
-use crate::numbers::POST;
-use crate::numbers::POST_AHEAD;
-use crate::numbers::SLEEP_UNTIL;
+use kernel::kinds::KEPT_EVENT_WAIT;
+use kernel::kinds::KEPT_POST;
+use kernel::kinds::KEPT_POST_AHEAD;
+use kernel::kinds::KEPT_SLEEP_UNTIL;
 use kernel::records::Call;
 ghost use mathlib.Core.Path.{_≡_};
 ghost use mir.Syntax.{w32};
@@ -34,15 +34,18 @@ pub fn as_signed(a: u32) -> i32
 pub fn keeps_operand(kind: u16) -> bool
     ensures { λ r. ⌜ r ≡ keepsOperand kind ⌝ }
 {
-    let post = either(kind == POST, kind == POST_AHEAD);
-    either(kind == SLEEP_UNTIL, either(kind == EVENT_WAIT, post))
+    let post = either(kind == KEPT_POST, kind == KEPT_POST_AHEAD);
+    either(
+        kind == KEPT_SLEEP_UNTIL,
+        either(kind == KEPT_EVENT_WAIT, post),
+    )
 }
 
 // The object that a call keeps: none for an event wait.
 fn object_of(s: Step) -> u16
     ensures { λ r. ⌜ r ≡ objectOf s ⌝ }
 {
-    if s.kind as u16 == EVENT_WAIT {
+    if s.kind as u16 == KEPT_EVENT_WAIT {
         0
     } else {
         s.object as u16

@@ -1,7 +1,6 @@
 // The mailbox rule: reset state first, then room or a message, then a timeout of 0 or sleep.
 // A thread's own call and its continuation after a waking run the same function, so a retry sleeps with its full timeout.
 use crate::numbers::NO_SLOT;
-use crate::numbers::POST_AHEAD;
 use crate::ring::Placed;
 use crate::ring::Positions;
 use crate::sizes::slots_at;
@@ -10,6 +9,7 @@ use crate::tables::Plant;
 use crate::tables::mailbox_at;
 use crate::tables::set_kernel;
 use crate::tables::set_mailbox;
+use kernel::kinds::KEPT_POST_AHEAD;
 use kernel::moves::finish;
 use kernel::numbers::OK;
 use kernel::numbers::WAS_RESET;
@@ -76,7 +76,7 @@ fn place_for(b: Mailbox, kind: u16, slots: u16) -> Placed
     ensures { λ r. ⌜ r ≡ placedFor b kind slots ⌝ }
 {
     let q = b.positions;
-    if kind == POST_AHEAD {
+    if kind == KEPT_POST_AHEAD {
         q.post_ahead(slots)
     } else {
         q.post(slots)

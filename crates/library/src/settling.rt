@@ -9,6 +9,11 @@ use crate::pool::hand_over;
 use crate::signs::is_same;
 use crate::tables::Plant;
 use crate::tables::set_kernel;
+use kernel::kinds::KEPT_ALLOC;
+use kernel::kinds::KEPT_FETCH;
+use kernel::kinds::KEPT_NONE;
+use kernel::kinds::KEPT_POST;
+use kernel::kinds::KEPT_POST_AHEAD;
 use kernel::moves::finish;
 use kernel::records::Kernel;
 use kernel::records::Thread;
@@ -23,8 +28,11 @@ pub fn is_box_call(kind: u16) -> bool
     ensures { λ r. ⌜ r ≡ isBoxCall kind ⌝ }
 {
     either(
-        kind == 15,
-        either(kind == 16, either(kind == 17, kind == 20)),
+        kind == KEPT_POST,
+        either(
+            kind == KEPT_POST_AHEAD,
+            either(kind == KEPT_FETCH, kind == KEPT_ALLOC),
+        ),
     )
 }
 
@@ -58,8 +66,8 @@ fn go_on(p: Plant, i: u8) -> Plant
         return set_kernel(p, answer_woken(k, i, t));
     }
     match kind {
-        17 => try_fetch(p, i, call),
-        20 => hand_over(p, i, call.object),
+        KEPT_FETCH => try_fetch(p, i, call),
+        KEPT_ALLOC => hand_over(p, i, call.object),
         _ => try_post(p, i, call),
     }
 }
@@ -74,7 +82,7 @@ pub fn settle(p: Plant, budget: u16) -> Plant
     let k = p.kernel;
     let i = first_ready(k, p.sizes.threads);
     let t = thread_at(k, i);
-    if t.call.kind == 0 {
+    if t.call.kind == KEPT_NONE {
         return p;
     }
     continue_call(p, i, budget - 1)

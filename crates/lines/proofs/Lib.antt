@@ -1,3 +1,4 @@
 -- Laws that the proofs of this crate share.
-mod EndingLaws
+pub mod EndingLaws
+pub mod StopLaws
 pub mod Unique

@@ -101,6 +101,14 @@ fn complain(what: &[u8]) {
     os::fail(what);
 }
 
+// A write that failed has left its error.
+fn list_bytes(bytes: &[u8], whole: bool) {
+    list_trace(bytes, whole);
+    if os::errno() != 0 {
+        complain(b"standard output");
+    }
+}
+
 // The longest trace and a byte more, to see refusal 15. Nothing is printed before all is read.
 // errno is 0 here: `os::arg` has just set it, and an open that succeeds leaves it.
 fn list_from(fd: i32, what: &[u8], whole: bool) {
@@ -109,7 +117,7 @@ fn list_from(fd: i32, what: &[u8], whole: bool) {
     if os::errno() != 0 {
         complain(what);
     } else {
-        list_trace(&bytes[..n], whole);
+        list_bytes(&bytes[..n], whole);
     }
 }
 

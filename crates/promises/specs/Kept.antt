@@ -15,3 +15,4 @@ pub mod KernelActs
 pub mod BoxActs
 pub mod Acts
 pub mod Settles
+pub mod Steps

@@ -1,2 +1,16 @@
--- Document 01, as statements: one step, and what it is told in. No proof stands here.
+-- Document 01, as statements. No proof stands here, and no meaning that a contract cites.
+pub mod World
+pub mod Rows
+pub mod Settling
+pub mod Together
+pub mod Host
+pub mod Refusals
 pub mod Step
+pub mod Time
+pub mod Fresh
+pub mod Answers
+pub mod Reader
+pub mod Writer
+pub mod Boundary
+pub mod Waking
+pub mod Run

@@ -1,6 +1,7 @@
 // Recorded traces, each named for what it shows: a damaged one for each refusal of the reader, and those of a plant. `steps/` has
 // them in words, `data/` as they were recorded. `stdout` holds the second program's listings of them,
 // and for the writer what document 01's words give.
+use kernel::kinds::TICK;
 use libc::STDOUT_FILENO;
 use library::calls::Step;
 use library::sizes::Sizes;
@@ -9,10 +10,18 @@ use trace::writer::Written;
 use trace::writer::write_sizes;
 use trace::writer::write_step;
 
-// The trace in a file, under its name. A file that is not there shows as one more line on standard error, and as a missing listing.
-fn show(name: &[u8], path: &[u8], whole: bool) {
-    io::write_all(STDOUT_FILENO, name);
+// A file's name without its ending, `.trace`.
+fn print_title(path: &[u8]) {
+    if 6 <= path.len() {
+        let n = path.len() - 6;
+        io::write_all(STDOUT_FILENO, &path[..n]);
+    }
     io::write_all(STDOUT_FILENO, b"\n");
+}
+
+// The trace in a file, under its name. A file that is not there shows as one more line on standard error, and as a missing listing.
+fn show(path: &[u8], whole: bool) {
+    print_title(path);
     let fd = os::open_read(path);
     if fd < 0 {
         os::fail(path);
@@ -24,58 +33,19 @@ fn show(name: &[u8], path: &[u8], whole: bool) {
     libc::close(fd);
 }
 
-// Every refusal of the trace reader, on a damaged trace each.
-fn show_damaged() {
-    show(b"11-empty", b"11-empty.trace", false);
-    show(b"11-other-version", b"11-other-version.trace", false);
-    show(b"12-before-record-0", b"12-before-record-0.trace", false);
-    show(b"12-inside-a-body", b"12-inside-a-body.trace", false);
-    show(b"12-inside-a-length", b"12-inside-a-length.trace", false);
-    show(b"12-inside-record-0", b"12-inside-record-0.trace", false);
-    show(
-        b"12-though-its-length-is-wrong",
-        b"12-though-its-length-is-wrong.trace",
-        false,
-    );
-    show(b"13-record-0-below-6", b"13-record-0-below-6.trace", false);
-    show(
-        b"13-record-0-without-its-slots",
-        b"13-record-0-without-its-slots.trace",
-        false,
-    );
-    show(b"13-step-of-10-bytes", b"13-step-of-10-bytes.trace", false);
-    show(
-        b"14-mailbox-of-17-slots",
-        b"14-mailbox-of-17-slots.trace",
-        false,
-    );
-    show(b"14-nine-references", b"14-nine-references.trace", false);
-    show(b"14-no-thread", b"14-no-thread.trace", false);
-    show(
-        b"15-one-byte-more-than-60000",
-        b"15-one-byte-more-than-60000.trace",
-        false,
-    );
-}
-
-fn show_plants() {
-    show(b"batch-mailbox", b"batch-mailbox.trace", false);
-    show(b"event-valves", b"event-valves.trace", false);
-    show(b"filler-two-stations", b"filler-two-stations.trace", false);
-    show(b"label-queue", b"label-queue.trace", false);
-    show(
-        b"sixteen-on-one-semaphore",
-        b"sixteen-on-one-semaphore.trace",
-        false,
-    );
-    show(b"sleep-until", b"sleep-until.trace", false);
-    show(
-        b"timeout-against-signal",
-        b"timeout-against-signal.trace",
-        false,
-    );
-    show(b"tote-pool", b"tote-pool.trace", false);
-    show(b"whole-line", b"whole-line.trace", true);
+// Each of some files, whose names have a space after them.
+fn show_all(names: &[u8], whole: bool) {
+    let mut from: usize = 0;
+    let mut i: usize = 0;
+    while i < names.len() {
+        if names[i] == b' ' {
+            if from <= i {
+                show(&names[from..i], whole);
+            }
+            from = i + 1;
+        }
+        i += 1;
+    }
 }
 
 fn print_written(w: Written) {
@@ -122,7 +92,7 @@ fn sizes_into_10(threads: u16) {
 
 fn tick() -> Step {
     Step {
-        kind: 1,
+        kind: TICK,
         caller: 255,
         object: 0,
         a: 0,
@@ -159,8 +129,36 @@ fn write_all_cases() {
     step_into_60001(59988);
 }
 
+// Every refusal of the trace reader, on a damaged trace each; then the traces of a plant.
 fn main() {
-    show_damaged();
-    show_plants();
+    show_all(
+        b"11-empty.trace \
+        11-other-version.trace \
+        12-before-record-0.trace \
+        12-inside-a-body.trace \
+        12-inside-a-length.trace \
+        12-inside-record-0.trace \
+        12-though-its-length-is-wrong.trace \
+        13-record-0-below-6.trace \
+        13-record-0-without-its-slots.trace \
+        13-step-of-10-bytes.trace \
+        14-mailbox-of-17-slots.trace \
+        14-nine-references.trace \
+        14-no-thread.trace \
+        15-one-byte-more-than-60000.trace ",
+        false,
+    );
+    show_all(
+        b"batch-mailbox.trace \
+        event-valves.trace \
+        filler-two-stations.trace \
+        label-queue.trace \
+        sixteen-on-one-semaphore.trace \
+        sleep-until.trace \
+        timeout-against-signal.trace \
+        tote-pool.trace ",
+        false,
+    );
+    show(b"whole-line.trace", true);
     write_all_cases();
 }

@@ -6,6 +6,7 @@ use crate::pool_rules::pools_fit;
 use crate::reference_rules::references_fit;
 use crate::row_rules::rows_fit;
 use kernel::clock::Clock;
+use kernel::kinds::KEPT_NONE;
 use kernel::records::Kernel;
 use kernel::tables::thread_at;
 use kernel::units::frequency_fits;
@@ -21,7 +22,7 @@ pub fn running_free(k: Kernel, n: u16) -> bool
 {
     let t = thread_at(k, first_ready(k, n));
     let call = t.call;
-    call.kind == 0
+    call.kind == KEPT_NONE
 }
 
 pub fn hangs_together(p: Plant, clock: Clock) -> bool

@@ -2,13 +2,13 @@
 // One pass over the threads counts the promises of all pools, and one over a list the occurrences of all objects.
 use crate::limits::NO_ROW;
 use crate::limits::used_of;
+use kernel::kinds::KEPT_ALLOC;
 use kernel::numbers::OK;
 use kernel::numbers::READY;
 use kernel::places::pool_place;
 use kernel::records::Kernel;
 use kernel::records::Thread;
 use kernel::tables::used_rows;
-use library::numbers::ALLOC;
 use library::numbers::FREE_MARK;
 use library::numbers::OUT;
 use library::signs::is_same;
@@ -38,7 +38,7 @@ fn is_promised(t: Thread) -> bool
     ensures { λ r. ⌜ r ≡ isPromised t ⌝ }
 {
     let call = t.call;
-    t.state == READY && (call.kind == ALLOC && is_same(t.message, OK))
+    t.state == READY && (call.kind == KEPT_ALLOC && is_same(t.message, OK))
 }
 
 // The pool that has promised a thread an object; past all pools where none has.

@@ -1,4 +1,15 @@
 // Whether a thread's record hangs together by itself: its call, its wait, its ticks and its flags.
+use kernel::kinds::KEPT_ALLOC;
+use kernel::kinds::KEPT_EVENT_WAIT;
+use kernel::kinds::KEPT_FETCH;
+use kernel::kinds::KEPT_NONE;
+use kernel::kinds::KEPT_POST;
+use kernel::kinds::KEPT_POST_AHEAD;
+use kernel::kinds::KEPT_QUEUE_WAIT;
+use kernel::kinds::KEPT_SEMAPHORE_WAIT;
+use kernel::kinds::KEPT_SLEEP_FOR;
+use kernel::kinds::KEPT_SLEEP_UNTIL;
+use kernel::kinds::KEPT_SUSPEND;
 use kernel::numbers::AWAITING;
 use kernel::numbers::INFINITE;
 use kernel::numbers::NOWHERE;
@@ -16,16 +27,6 @@ use kernel::records::Kernel;
 use kernel::records::Thread;
 use kernel::tables::used_rows;
 use library::calls::keeps_operand;
-use library::numbers::ALLOC;
-use library::numbers::EVENT_WAIT;
-use library::numbers::FETCH;
-use library::numbers::POST;
-use library::numbers::POST_AHEAD;
-use library::numbers::QUEUE_WAIT;
-use library::numbers::SEMAPHORE_WAIT;
-use library::numbers::SLEEP_FOR;
-use library::numbers::SLEEP_UNTIL;
-use library::numbers::SUSPEND;
 use library::sizes::Sizes;
 ghost use mathlib.Core.Path.{_≡_};
 ghost use Rattle.rules.specs.RowRules.{
@@ -53,34 +54,35 @@ ghost use Rattle.rules.specs.RowRules.{
 fn is_sleep(kind: u16) -> bool
     ensures { λ r. ⌜ r ≡ isSleep kind ⌝ }
 {
-    kind == SLEEP_FOR || kind == SLEEP_UNTIL
+    kind == KEPT_SLEEP_FOR || kind == KEPT_SLEEP_UNTIL
 }
 
 fn is_post(kind: u16) -> bool
     ensures { λ r. ⌜ r ≡ isPost kind ⌝ }
 {
-    kind == POST || kind == POST_AHEAD
+    kind == KEPT_POST || kind == KEPT_POST_AHEAD
 }
 
 // A wait at a mailbox.
 fn is_mailing(kind: u16) -> bool
     ensures { λ r. ⌜ r ≡ isMailing kind ⌝ }
 {
-    is_post(kind) || kind == FETCH
+    is_post(kind) || kind == KEPT_FETCH
 }
 
 // A wait at a counter's place.
 fn is_queueing(kind: u16) -> bool
     ensures { λ r. ⌜ r ≡ isQueueing kind ⌝ }
 {
-    kind == SEMAPHORE_WAIT || (kind == QUEUE_WAIT || (is_mailing(kind) || kind == ALLOC))
+    kind == KEPT_SEMAPHORE_WAIT
+        || (kind == KEPT_QUEUE_WAIT || (is_mailing(kind) || kind == KEPT_ALLOC))
 }
 
 // A wait that is on no object.
 fn is_alone(kind: u16) -> bool
     ensures { λ r. ⌜ r ≡ isAlone kind ⌝ }
 {
-    is_sleep(kind) || kind == EVENT_WAIT
+    is_sleep(kind) || kind == KEPT_EVENT_WAIT
 }
 
 // How many objects there are for an unfinished call: 1 stands for the object 0 of a call that has none, 0 for a kind that
@@ -88,17 +90,17 @@ fn is_alone(kind: u16) -> bool
 fn call_limit(z: Sizes, kind: u16) -> u16
     ensures { λ r. ⌜ r ≡ callLimit z kind ⌝ }
 {
-    if kind == SEMAPHORE_WAIT {
+    if kind == KEPT_SEMAPHORE_WAIT {
         z.semaphores
-    } else if kind == QUEUE_WAIT {
+    } else if kind == KEPT_QUEUE_WAIT {
         z.queues
-    } else if kind == SUSPEND {
+    } else if kind == KEPT_SUSPEND {
         z.references
     } else if is_alone(kind) {
         1
     } else if is_mailing(kind) {
         z.mailboxes
-    } else if kind == ALLOC {
+    } else if kind == KEPT_ALLOC {
         z.pools
     } else {
         0
@@ -125,7 +127,7 @@ pub fn call_fits(t: Thread, z: Sizes) -> bool
     ensures { λ r. ⌜ r ≡ callFits t z ⌝ }
 {
     let call = t.call;
-    if call.kind == 0 {
+    if call.kind == KEPT_NONE {
         is_clear(call)
     } else {
         is_sound(call, z)
@@ -138,11 +140,11 @@ fn wait_state(kind: u16) -> u16
 {
     if is_queueing(kind) {
         QUEUED
-    } else if kind == SUSPEND {
+    } else if kind == KEPT_SUSPEND {
         SUSPENDED
     } else if is_sleep(kind) {
         SLEEPING
-    } else if kind == EVENT_WAIT {
+    } else if kind == KEPT_EVENT_WAIT {
         AWAITING
     } else {
         READY
@@ -153,17 +155,17 @@ fn wait_state(kind: u16) -> u16
 fn wait_place(kind: u16, object: u16) -> u16
     ensures { λ r. ⌜ r ≡ waitPlace kind object ⌝ }
 {
-    if kind == SEMAPHORE_WAIT {
+    if kind == KEPT_SEMAPHORE_WAIT {
         semaphore_place(object)
-    } else if kind == QUEUE_WAIT {
+    } else if kind == KEPT_QUEUE_WAIT {
         queue_place(object)
-    } else if kind == SUSPEND {
+    } else if kind == KEPT_SUSPEND {
         object
     } else if is_post(kind) {
         writers_place(object)
-    } else if kind == FETCH {
+    } else if kind == KEPT_FETCH {
         readers_place(object)
-    } else if kind == ALLOC {
+    } else if kind == KEPT_ALLOC {
         pool_place(object)
     } else {
         NOWHERE
@@ -201,7 +203,7 @@ pub fn awaited_fit(t: Thread) -> bool
     ensures { λ r. ⌜ r ≡ awaitedFit t ⌝ }
 {
     let call = t.call;
-    if call.kind == EVENT_WAIT {
+    if call.kind == KEPT_EVENT_WAIT {
         t.awaited == call.operand
     } else {
         t.awaited == 0

@@ -2,6 +2,8 @@
 // A line for each step: its number, code, running thread, woken mask, finished mask, message and datum.
 // `stdout` holds what document 01's words give.
 use kernel::clock::Clock;
+use kernel::numbers::INFINITE;
+use kernel::numbers::NOBODY;
 use kernel::units::Rate;
 use libc::STDOUT_FILENO;
 use library::calls::Step;
@@ -11,6 +13,55 @@ use library::sizes::Sizes;
 use library::tables::Tables;
 use steps::stepping::Outcome;
 use steps::stepping::step;
+
+// A scene's rows are of 32-bit numbers: the kinds in them, and the two numbers that mean more than themselves.
+const TICK: u32 = kernel::kinds::TICK as u32;
+
+const SEMAPHORE_WAIT: u32 = kernel::kinds::SEMAPHORE_WAIT as u32;
+
+const SIGNAL: u32 = kernel::kinds::SIGNAL as u32;
+
+const SEMAPHORE_RESET: u32 = kernel::kinds::SEMAPHORE_RESET as u32;
+
+const BINARY_SIGNAL: u32 = kernel::kinds::BINARY_SIGNAL as u32;
+
+const QUEUE_WAIT: u32 = kernel::kinds::QUEUE_WAIT as u32;
+
+const RELEASE_FIRST: u32 = kernel::kinds::RELEASE_FIRST as u32;
+
+const RELEASE_ALL: u32 = kernel::kinds::RELEASE_ALL as u32;
+
+const SUSPEND: u32 = kernel::kinds::SUSPEND as u32;
+
+const RESUME: u32 = kernel::kinds::RESUME as u32;
+
+const SLEEP_FOR: u32 = kernel::kinds::SLEEP_FOR as u32;
+
+const SLEEP_UNTIL: u32 = kernel::kinds::SLEEP_UNTIL as u32;
+
+const EVENT_SIGNAL: u32 = kernel::kinds::EVENT_SIGNAL as u32;
+
+const EVENT_WAIT: u32 = kernel::kinds::EVENT_WAIT as u32;
+
+const POST: u32 = kernel::kinds::POST as u32;
+
+const POST_AHEAD: u32 = kernel::kinds::POST_AHEAD as u32;
+
+const FETCH: u32 = kernel::kinds::FETCH as u32;
+
+const MAILBOX_RESET: u32 = kernel::kinds::MAILBOX_RESET as u32;
+
+const MAILBOX_RESUME: u32 = kernel::kinds::MAILBOX_RESUME as u32;
+
+const ALLOC: u32 = kernel::kinds::ALLOC as u32;
+
+const FREE: u32 = kernel::kinds::FREE as u32;
+
+const ADD: u32 = kernel::kinds::ADD as u32;
+
+const INTERRUPT: u32 = NOBODY as u32;
+
+const EVER: u32 = INFINITE;
 
 // A scene under way: the tables, the clock, and the number of the last step, which stays far below its limit.
 struct Scene {
@@ -43,16 +94,18 @@ fn print_outcome(number: u8, o: Outcome) {
     io::write_all(STDOUT_FILENO, b"\n");
 }
 
-// A scene begins with fresh tables at 1000 ticks a second. Every mailbox has `slots` slots.
-fn begin(t: u16, s: u16, q: u16, r: u16, m: u16, p: u16, slots: u16) -> Scene {
+// A scene begins with fresh tables at 1000 ticks a second. The sizes are threads, semaphores, queues, references, mailboxes, pools,
+// and the slots of every mailbox.
+fn begin(n: [u16; 7]) -> Scene {
+    let slots = n[6];
     let all = [slots; 4];
     let sizes = Sizes {
-        threads: t,
-        semaphores: s,
-        queues: q,
-        references: r,
-        mailboxes: m,
-        pools: p,
+        threads: n[0],
+        semaphores: n[1],
+        queues: n[2],
+        references: n[3],
+        mailboxes: n[4],
+        pools: n[5],
         slots: all,
     };
     let made = make(sizes, Rate::Standard);
@@ -65,15 +118,19 @@ fn begin(t: u16, s: u16, q: u16, r: u16, m: u16, p: u16, slots: u16) -> Scene {
     }
 }
 
+// A step in five numbers: kind, caller, object, operand and timeout.
+fn step_of(n: [u32; 5]) -> Step {
+    Step {
+        kind: (n[0] % 256) as u8,
+        caller: (n[1] % 256) as u8,
+        object: (n[2] % 256) as u8,
+        a: n[3],
+        timeout: n[4],
+    }
+}
+
 // One step of the scene, and its line.
-fn play(x: Scene, kind: u8, caller: u8, object: u8, a: u32, timeout: u32) -> Scene {
-    let s = Step {
-        kind: kind,
-        caller: caller,
-        object: object,
-        a: a,
-        timeout: timeout,
-    };
+fn play(x: Scene, s: Step) -> Scene {
     let tables = x.tables;
     let clock = x.clock;
     let r = step(tables, clock, s);
@@ -92,211 +149,254 @@ fn play(x: Scene, kind: u8, caller: u8, object: u8, a: u32, timeout: u32) -> Sce
     }
 }
 
+// A scene: its name and its steps, a row each.
+fn run(name: &[u8], sizes: [u16; 7], steps: &[[u32; 5]]) {
+    io::write_all(STDOUT_FILENO, name);
+    let mut x = begin(sizes);
+    let mut i: usize = 0;
+    while i < steps.len() {
+        let row = steps[i];
+        i += 1;
+        let s = step_of(row);
+        x = play(x, s);
+    }
+}
+
 // Document 01's own trace.
 fn six_lines() {
-    io::write_all(STDOUT_FILENO, b"six lines\n");
-    let x0 = begin(2, 1, 0, 0, 0, 0, 0);
-    let x1 = play(x0, 2, 0, 0, 0, 3);
-    let x2 = play(x1, 3, 1, 0, 0, 0);
-    let x3 = play(x2, 2, 0, 0, 0, 2);
-    let x4 = play(x3, 1, 255, 0, 0, 0);
-    let x5 = play(x4, 1, 255, 0, 0, 0);
-    play(x5, 3, 1, 0, 0, 0);
+    let sizes = [2, 1, 0, 0, 0, 0, 0];
+    let steps = [
+        [SEMAPHORE_WAIT, 0, 0, 0, 3],
+        [SIGNAL, 1, 0, 0, 0],
+        [SEMAPHORE_WAIT, 0, 0, 0, 2],
+        [TICK, INTERRUPT, 0, 0, 0],
+        [TICK, INTERRUPT, 0, 0, 0],
+        [SIGNAL, 1, 0, 0, 0],
+    ];
+    run(b"six lines\n", sizes, &steps);
 }
 
 // Threads 0 and 1 sleep, 2 and then 1 wait; the signal wakes 1.
 fn highest_not_longest() {
-    io::write_all(STDOUT_FILENO, b"highest, not longest\n");
-    let x0 = begin(3, 1, 0, 0, 0, 0, 0);
-    let x1 = play(x0, 11, 0, 0, 0, 2);
-    let x2 = play(x1, 11, 1, 0, 0, 1);
-    let x3 = play(x2, 2, 2, 0, 0, 4294967295);
-    let x4 = play(x3, 1, 255, 0, 0, 0);
-    let x5 = play(x4, 2, 1, 0, 0, 4294967295);
-    let x6 = play(x5, 3, 255, 0, 0, 0);
-    play(x6, 3, 1, 0, 0, 0);
+    let sizes = [3, 1, 0, 0, 0, 0, 0];
+    let steps = [
+        [SLEEP_FOR, 0, 0, 0, 2],
+        [SLEEP_FOR, 1, 0, 0, 1],
+        [SEMAPHORE_WAIT, 2, 0, 0, EVER],
+        [TICK, INTERRUPT, 0, 0, 0],
+        [SEMAPHORE_WAIT, 1, 0, 0, EVER],
+        [SIGNAL, INTERRUPT, 0, 0, 0],
+        [SIGNAL, 1, 0, 0, 0],
+    ];
+    run(b"highest, not longest\n", sizes, &steps);
 }
 
 // The counter is 0 again after the timeout: the next signal is kept, and the next wait takes it.
 fn a_timeout_gives_its_place_back() {
-    io::write_all(STDOUT_FILENO, b"a timeout gives its place back\n");
-    let x0 = begin(1, 1, 0, 0, 0, 0, 0);
-    let x1 = play(x0, 2, 0, 0, 0, 1);
-    let x2 = play(x1, 1, 255, 0, 0, 0);
-    let x3 = play(x2, 3, 0, 0, 0, 0);
-    let x4 = play(x3, 2, 0, 0, 0, 0);
-    play(x4, 2, 0, 0, 0, 0);
+    let sizes = [1, 1, 0, 0, 0, 0, 0];
+    let steps = [
+        [SEMAPHORE_WAIT, 0, 0, 0, 1],
+        [TICK, INTERRUPT, 0, 0, 0],
+        [SIGNAL, 0, 0, 0, 0],
+        [SEMAPHORE_WAIT, 0, 0, 0, 0],
+        [SEMAPHORE_WAIT, 0, 0, 0, 0],
+    ];
+    run(b"a timeout gives its place back\n", sizes, &steps);
 }
 
 // Reader 1 is woken for a message that 0 takes first; it sleeps 3 ticks again, not 1.
 fn a_retry_sleeps_its_full_timeout() {
-    io::write_all(STDOUT_FILENO, b"a retry sleeps its full timeout\n");
-    let x0 = begin(2, 1, 0, 0, 1, 0, 1);
-    let x1 = play(x0, 2, 0, 0, 0, 4294967295);
-    let x2 = play(x1, 17, 1, 0, 0, 3);
-    let x3 = play(x2, 1, 255, 0, 0, 0);
-    let x4 = play(x3, 1, 255, 0, 0, 0);
-    let x5 = play(x4, 3, 255, 0, 0, 0);
-    let x6 = play(x5, 15, 255, 0, 7, 0);
-    let x7 = play(x6, 17, 0, 0, 0, 0);
-    let x8 = play(x7, 2, 0, 0, 0, 4294967295);
-    let x9 = play(x8, 1, 255, 0, 0, 0);
-    let x10 = play(x9, 1, 255, 0, 0, 0);
-    play(x10, 1, 255, 0, 0, 0);
+    let sizes = [2, 1, 0, 0, 1, 0, 1];
+    let steps = [
+        [SEMAPHORE_WAIT, 0, 0, 0, EVER],
+        [FETCH, 1, 0, 0, 3],
+        [TICK, INTERRUPT, 0, 0, 0],
+        [TICK, INTERRUPT, 0, 0, 0],
+        [SIGNAL, INTERRUPT, 0, 0, 0],
+        [POST, INTERRUPT, 0, 7, 0],
+        [FETCH, 0, 0, 0, 0],
+        [SEMAPHORE_WAIT, 0, 0, 0, EVER],
+        [TICK, INTERRUPT, 0, 0, 0],
+        [TICK, INTERRUPT, 0, 0, 0],
+        [TICK, INTERRUPT, 0, 0, 0],
+    ];
+    run(b"a retry sleeps its full timeout\n", sizes, &steps);
 }
 
 // Free wakes 1, and 0 tries to alloc before 1 runs: -1; an interrupt too.
 fn a_promised_object_is_not_given_away() {
-    io::write_all(STDOUT_FILENO, b"a promised object is not given away\n");
-    let x0 = begin(2, 1, 0, 0, 0, 1, 0);
-    let x1 = play(x0, 22, 0, 0, 9, 0);
-    let x2 = play(x1, 20, 0, 0, 0, 0);
-    let x3 = play(x2, 2, 0, 0, 0, 4294967295);
-    let x4 = play(x3, 20, 1, 0, 0, 4294967295);
-    let x5 = play(x4, 3, 255, 0, 0, 0);
-    let x6 = play(x5, 21, 0, 0, 9, 0);
-    let x7 = play(x6, 20, 0, 0, 0, 0);
-    let x8 = play(x7, 20, 255, 0, 0, 0);
-    play(x8, 2, 0, 0, 0, 4294967295);
+    let sizes = [2, 1, 0, 0, 0, 1, 0];
+    let steps = [
+        [ADD, 0, 0, 9, 0],
+        [ALLOC, 0, 0, 0, 0],
+        [SEMAPHORE_WAIT, 0, 0, 0, EVER],
+        [ALLOC, 1, 0, 0, EVER],
+        [SIGNAL, INTERRUPT, 0, 0, 0],
+        [FREE, 0, 0, 9, 0],
+        [ALLOC, 0, 0, 0, 0],
+        [ALLOC, INTERRUPT, 0, 0, 0],
+        [SEMAPHORE_WAIT, 0, 0, 0, EVER],
+    ];
+    run(b"a promised object is not given away\n", sizes, &steps);
 }
 
 // 0 fetches from the box that woken writer 1 has not used yet: 0 sleeps, 1 posts, and 0 has its message in the same step.
 fn continuing_one_call_wakes_another() {
-    io::write_all(STDOUT_FILENO, b"continuing one call wakes another\n");
-    let x0 = begin(2, 1, 0, 0, 1, 0, 1);
-    let x1 = play(x0, 15, 0, 0, 5, 0);
-    let x2 = play(x1, 2, 0, 0, 0, 4294967295);
-    let x3 = play(x2, 15, 1, 0, 6, 4294967295);
-    let x4 = play(x3, 3, 255, 0, 0, 0);
-    let x5 = play(x4, 17, 0, 0, 0, 4294967295);
-    let x6 = play(x5, 17, 0, 0, 0, 4294967295);
-    play(x6, 17, 0, 0, 0, 0);
+    let sizes = [2, 1, 0, 0, 1, 0, 1];
+    let steps = [
+        [POST, 0, 0, 5, 0],
+        [SEMAPHORE_WAIT, 0, 0, 0, EVER],
+        [POST, 1, 0, 6, EVER],
+        [SIGNAL, INTERRUPT, 0, 0, 0],
+        [FETCH, 0, 0, 0, EVER],
+        [FETCH, 0, 0, 0, EVER],
+        [FETCH, 0, 0, 0, 0],
+    ];
+    run(b"continuing one call wakes another\n", sizes, &steps);
 }
 
 // Flags 1 of 3 awaited: datum 1, flag 4 stays pending for the next wait.
 fn flags_are_taken_at_the_waking() {
-    io::write_all(STDOUT_FILENO, b"flags are taken at the waking\n");
-    let x0 = begin(2, 0, 0, 0, 0, 0, 0);
-    let x1 = play(x0, 14, 0, 0, 3, 4294967295);
-    let x2 = play(x1, 13, 1, 0, 4, 0);
-    let x3 = play(x2, 13, 1, 0, 5, 0);
-    let x4 = play(x3, 14, 0, 0, 4, 0);
-    play(x4, 14, 0, 0, 4, 0);
+    let sizes = [2, 0, 0, 0, 0, 0, 0];
+    let steps = [
+        [EVENT_WAIT, 0, 0, 3, EVER],
+        [EVENT_SIGNAL, 1, 0, 4, 0],
+        [EVENT_SIGNAL, 1, 0, 5, 0],
+        [EVENT_WAIT, 0, 0, 4, 0],
+        [EVENT_WAIT, 0, 0, 4, 0],
+    ];
+    run(b"flags are taken at the waking\n", sizes, &steps);
 }
 
 // Both waiters get -2, the counter is 2.
 fn reset_of_a_semaphore() {
-    io::write_all(STDOUT_FILENO, b"reset of a semaphore\n");
-    let x0 = begin(3, 1, 0, 0, 0, 0, 0);
-    let x1 = play(x0, 2, 0, 0, 0, 4294967295);
-    let x2 = play(x1, 2, 1, 0, 0, 5);
-    let x3 = play(x2, 4, 2, 0, 2, 0);
-    let x4 = play(x3, 2, 0, 0, 0, 0);
-    let x5 = play(x4, 2, 0, 0, 0, 0);
-    play(x5, 2, 0, 0, 0, 0);
+    let sizes = [3, 1, 0, 0, 0, 0, 0];
+    let steps = [
+        [SEMAPHORE_WAIT, 0, 0, 0, EVER],
+        [SEMAPHORE_WAIT, 1, 0, 0, 5],
+        [SEMAPHORE_RESET, 2, 0, 2, 0],
+        [SEMAPHORE_WAIT, 0, 0, 0, 0],
+        [SEMAPHORE_WAIT, 0, 0, 0, 0],
+        [SEMAPHORE_WAIT, 0, 0, 0, 0],
+    ];
+    run(b"reset of a semaphore\n", sizes, &steps);
 }
 
 // Kind, caller, context, object, value, state: the first that fails.
 fn refusals_in_order() {
-    io::write_all(STDOUT_FILENO, b"refusals in order\n");
-    let x0 = begin(2, 1, 0, 1, 0, 1, 0);
-    let x1 = play(x0, 30, 7, 9, 0, 0);
-    let x2 = play(x1, 0, 255, 0, 0, 0);
-    let x3 = play(x2, 3, 1, 9, 0, 0);
-    let x4 = play(x3, 1, 0, 0, 0, 0);
-    let x5 = play(x4, 2, 255, 9, 0, 0);
-    let x6 = play(x5, 2, 0, 1, 0, 0);
-    let x7 = play(x6, 21, 0, 1, 99, 0);
-    let x8 = play(x7, 21, 0, 0, 99, 0);
-    let x9 = play(x8, 21, 0, 0, 9, 0);
-    let x10 = play(x9, 4, 0, 0, 2147483648, 0);
-    let x11 = play(x10, 14, 0, 0, 0, 0);
-    let x12 = play(x11, 11, 0, 0, 0, 0);
-    let x13 = play(x12, 11, 0, 0, 0, 4294967295);
-    play(x13, 12, 0, 0, 0, 0);
+    let sizes = [2, 1, 0, 1, 0, 1, 0];
+    let steps = [
+        [30, 7, 9, 0, 0],
+        [0, INTERRUPT, 0, 0, 0],
+        [SIGNAL, 1, 9, 0, 0],
+        [TICK, 0, 0, 0, 0],
+        [SEMAPHORE_WAIT, INTERRUPT, 9, 0, 0],
+        [SEMAPHORE_WAIT, 0, 1, 0, 0],
+        [FREE, 0, 1, 99, 0],
+        [FREE, 0, 0, 99, 0],
+        [FREE, 0, 0, 9, 0],
+        [SEMAPHORE_RESET, 0, 0, 2147483648, 0],
+        [EVENT_WAIT, 0, 0, 0, 0],
+        [SLEEP_FOR, 0, 0, 0, 0],
+        [SLEEP_FOR, 0, 0, 0, EVER],
+        [SLEEP_UNTIL, 0, 0, 0, 0],
+    ];
+    run(b"refusals in order\n", sizes, &steps);
 }
 
 // Resume hands over its message; of an empty reference it does nothing; a held one is refused.
 fn suspend_and_resume() {
-    io::write_all(STDOUT_FILENO, b"suspend and resume\n");
-    let x0 = begin(3, 0, 0, 1, 0, 0, 0);
-    let x1 = play(x0, 10, 0, 0, 5, 0);
-    let x2 = play(x1, 9, 0, 0, 0, 0);
-    let x3 = play(x2, 9, 0, 0, 0, 4294967295);
-    let x4 = play(x3, 9, 1, 0, 0, 4294967295);
-    let x5 = play(x4, 10, 1, 0, 4294967291, 0);
-    let x6 = play(x5, 9, 0, 0, 0, 1);
-    let x7 = play(x6, 1, 255, 0, 0, 0);
-    play(x7, 10, 255, 0, 1, 0);
+    let sizes = [3, 0, 0, 1, 0, 0, 0];
+    let steps = [
+        [RESUME, 0, 0, 5, 0],
+        [SUSPEND, 0, 0, 0, 0],
+        [SUSPEND, 0, 0, 0, EVER],
+        [SUSPEND, 1, 0, 0, EVER],
+        [RESUME, 1, 0, 4294967291, 0],
+        [SUSPEND, 0, 0, 0, 1],
+        [TICK, INTERRUPT, 0, 0, 0],
+        [RESUME, INTERRUPT, 0, 1, 0],
+    ];
+    run(b"suspend and resume\n", sizes, &steps);
 }
 
 // Until 2 at time 0 is two ticks; at time 2 until 2 is 0 ticks and until 1 is 4294967295: both refused.
 fn sleep_until() {
-    io::write_all(STDOUT_FILENO, b"sleep until\n");
-    let x0 = begin(2, 0, 0, 0, 0, 0, 0);
-    let x1 = play(x0, 12, 0, 0, 2, 0);
-    let x2 = play(x1, 1, 255, 0, 0, 0);
-    let x3 = play(x2, 1, 255, 0, 0, 0);
-    let x4 = play(x3, 12, 0, 0, 2, 0);
-    let x5 = play(x4, 12, 0, 0, 1, 0);
-    let x6 = play(x5, 12, 0, 0, 4, 0);
-    let x7 = play(x6, 1, 255, 0, 0, 0);
-    play(x7, 1, 255, 0, 0, 0);
+    let sizes = [2, 0, 0, 0, 0, 0, 0];
+    let steps = [
+        [SLEEP_UNTIL, 0, 0, 2, 0],
+        [TICK, INTERRUPT, 0, 0, 0],
+        [TICK, INTERRUPT, 0, 0, 0],
+        [SLEEP_UNTIL, 0, 0, 2, 0],
+        [SLEEP_UNTIL, 0, 0, 1, 0],
+        [SLEEP_UNTIL, 0, 0, 4, 0],
+        [TICK, INTERRUPT, 0, 0, 0],
+        [TICK, INTERRUPT, 0, 0, 0],
+    ];
+    run(b"sleep until\n", sizes, &steps);
 }
 
 // All who wait get -2, then every call does until resume.
 fn mailbox_reset() {
-    io::write_all(STDOUT_FILENO, b"mailbox reset\n");
-    let x0 = begin(4, 0, 0, 0, 1, 0, 1);
-    let x1 = play(x0, 17, 0, 0, 0, 4294967295);
-    let x2 = play(x1, 18, 1, 0, 0, 0);
-    let x3 = play(x2, 15, 0, 0, 1, 4294967295);
-    let x4 = play(x3, 17, 0, 0, 0, 0);
-    let x5 = play(x4, 19, 0, 0, 0, 0);
-    let x6 = play(x5, 15, 0, 0, 1, 4294967295);
-    let x7 = play(x6, 15, 0, 0, 2, 4294967295);
-    let x8 = play(x7, 18, 1, 0, 0, 0);
-    play(x8, 17, 255, 0, 0, 0);
+    let sizes = [4, 0, 0, 0, 1, 0, 1];
+    let steps = [
+        [FETCH, 0, 0, 0, EVER],
+        [MAILBOX_RESET, 1, 0, 0, 0],
+        [POST, 0, 0, 1, EVER],
+        [FETCH, 0, 0, 0, 0],
+        [MAILBOX_RESUME, 0, 0, 0, 0],
+        [POST, 0, 0, 1, EVER],
+        [POST, 0, 0, 2, EVER],
+        [MAILBOX_RESET, 1, 0, 0, 0],
+        [FETCH, INTERRUPT, 0, 0, 0],
+    ];
+    run(b"mailbox reset\n", sizes, &steps);
 }
 
 // Release first with a message, release all, an empty queue, timeout 0.
 fn queues() {
-    io::write_all(STDOUT_FILENO, b"queues\n");
-    let x0 = begin(4, 0, 1, 0, 0, 0, 0);
-    let x1 = play(x0, 6, 0, 0, 0, 0);
-    let x2 = play(x1, 6, 0, 0, 0, 4294967295);
-    let x3 = play(x2, 6, 1, 0, 0, 4294967295);
-    let x4 = play(x3, 6, 2, 0, 0, 2);
-    let x5 = play(x4, 7, 3, 0, 77, 0);
-    let x6 = play(x5, 8, 0, 0, 4294967286, 0);
-    let x7 = play(x6, 8, 0, 0, 3, 0);
-    play(x7, 7, 255, 0, 3, 0);
+    let sizes = [4, 0, 1, 0, 0, 0, 0];
+    let steps = [
+        [QUEUE_WAIT, 0, 0, 0, 0],
+        [QUEUE_WAIT, 0, 0, 0, EVER],
+        [QUEUE_WAIT, 1, 0, 0, EVER],
+        [QUEUE_WAIT, 2, 0, 0, 2],
+        [RELEASE_FIRST, 3, 0, 77, 0],
+        [RELEASE_ALL, 0, 0, 4294967286, 0],
+        [RELEASE_ALL, 0, 0, 3, 0],
+        [RELEASE_FIRST, INTERRUPT, 0, 3, 0],
+    ];
+    run(b"queues\n", sizes, &steps);
 }
 
 // 3 is posted ahead of 1 and 2.
 fn post_ahead_and_order() {
-    io::write_all(STDOUT_FILENO, b"post ahead and order\n");
-    let x0 = begin(1, 0, 0, 0, 1, 0, 3);
-    let x1 = play(x0, 15, 0, 0, 1, 0);
-    let x2 = play(x1, 15, 0, 0, 2, 0);
-    let x3 = play(x2, 16, 0, 0, 3, 0);
-    let x4 = play(x3, 15, 0, 0, 4, 0);
-    let x5 = play(x4, 17, 0, 0, 0, 0);
-    let x6 = play(x5, 17, 255, 0, 0, 0);
-    let x7 = play(x6, 17, 0, 0, 0, 0);
-    play(x7, 17, 0, 0, 0, 0);
+    let sizes = [1, 0, 0, 0, 1, 0, 3];
+    let steps = [
+        [POST, 0, 0, 1, 0],
+        [POST, 0, 0, 2, 0],
+        [POST_AHEAD, 0, 0, 3, 0],
+        [POST, 0, 0, 4, 0],
+        [FETCH, 0, 0, 0, 0],
+        [FETCH, INTERRUPT, 0, 0, 0],
+        [FETCH, 0, 0, 0, 0],
+        [FETCH, 0, 0, 0, 0],
+    ];
+    run(b"post ahead and order\n", sizes, &steps);
 }
 
 // It never counts above 1.
 fn binary_signal() {
-    io::write_all(STDOUT_FILENO, b"binary signal\n");
-    let x0 = begin(2, 1, 0, 0, 0, 0, 0);
-    let x1 = play(x0, 5, 0, 0, 0, 0);
-    let x2 = play(x1, 5, 0, 0, 0, 0);
-    let x3 = play(x2, 2, 0, 0, 0, 0);
-    let x4 = play(x3, 2, 0, 0, 0, 4294967295);
-    let x5 = play(x4, 5, 1, 0, 0, 0);
-    play(x5, 2, 0, 0, 0, 0);
+    let sizes = [2, 1, 0, 0, 0, 0, 0];
+    let steps = [
+        [BINARY_SIGNAL, 0, 0, 0, 0],
+        [BINARY_SIGNAL, 0, 0, 0, 0],
+        [SEMAPHORE_WAIT, 0, 0, 0, 0],
+        [SEMAPHORE_WAIT, 0, 0, 0, EVER],
+        [BINARY_SIGNAL, 1, 0, 0, 0],
+        [SEMAPHORE_WAIT, 0, 0, 0, 0],
+    ];
+    run(b"binary signal\n", sizes, &steps);
 }
 
 fn main() {

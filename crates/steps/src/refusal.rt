@@ -1,5 +1,19 @@
 // The refusals, in document 01's order: the first test that fails gives its number, and 0 is an accepted step.
 use kernel::clock::Clock;
+use kernel::kinds::ADD;
+use kernel::kinds::BINARY_SIGNAL;
+use kernel::kinds::EVENT_SIGNAL;
+use kernel::kinds::EVENT_WAIT;
+use kernel::kinds::FREE;
+use kernel::kinds::MAILBOX_RESUME;
+use kernel::kinds::RELEASE_ALL;
+use kernel::kinds::RESUME;
+use kernel::kinds::SEMAPHORE_RESET;
+use kernel::kinds::SIGNAL;
+use kernel::kinds::SLEEP_FOR;
+use kernel::kinds::SLEEP_UNTIL;
+use kernel::kinds::SUSPEND;
+use kernel::kinds::TICK;
 use kernel::numbers::IMMEDIATE;
 use kernel::numbers::INFINITE;
 use kernel::numbers::NOBODY;
@@ -29,7 +43,7 @@ ghost use Rattle.steps.specs.Refusal.{kindFits, callerFits, contextFits,
 fn kind_fits(kind: u8) -> bool
     ensures { λ r. ⌜ r ≡ kindFits kind ⌝ }
 {
-    both(1 <= kind, kind <= 22)
+    both(TICK <= kind, kind <= ADD)
 }
 
 // 3: the caller is neither 255 nor the running thread.
@@ -53,7 +67,7 @@ fn context_fits(s: Step) -> bool
             true
         }
     } else {
-        s.kind != 1
+        s.kind != TICK
     }
 }
 
@@ -61,19 +75,19 @@ fn context_fits(s: Step) -> bool
 fn object_limit(z: Sizes, kind: u8) -> u16
     ensures { λ r. ⌜ r ≡ objectLimit z kind ⌝ }
 {
-    if kind <= 1 {
+    if kind <= TICK {
         256
-    } else if kind <= 5 {
+    } else if kind <= BINARY_SIGNAL {
         z.semaphores
-    } else if kind <= 8 {
+    } else if kind <= RELEASE_ALL {
         z.queues
-    } else if kind <= 10 {
+    } else if kind <= RESUME {
         z.references
-    } else if kind == 13 {
+    } else if kind == EVENT_SIGNAL {
         z.threads
-    } else if kind <= 14 {
+    } else if kind <= EVENT_WAIT {
         256
-    } else if kind <= 19 {
+    } else if kind <= MAILBOX_RESUME {
         z.mailboxes
     } else {
         z.pools
@@ -93,15 +107,15 @@ fn value_fits(now: SystemTime, s: Step) -> bool
 {
     let kind = s.kind;
     match kind {
-        4 => s.a <= 2147483647,
-        11 => is_span(s.timeout),
-        12 => {
+        SEMAPHORE_RESET => s.a <= 2147483647,
+        SLEEP_FOR => is_span(s.timeout),
+        SLEEP_UNTIL => {
             let d = difference(now, SystemTime(s.a));
             is_span(d.0)
         }
-        14 => 1 <= s.a,
-        21 => s.a <= 31,
-        22 => s.a <= 31,
+        EVENT_WAIT => 1 <= s.a,
+        FREE => s.a <= 31,
+        ADD => s.a <= 31,
         _ => true,
     }
 }
@@ -113,10 +127,10 @@ fn state_fits(p: Plant, s: Step) -> bool
     let kind = s.kind;
     let object = s.object as u16;
     match kind {
-        3 => counter_at(p.kernel, semaphore_place(object)) < 2147483647,
-        9 => holder_at(p.kernel, object) == NOBODY,
-        21 => mark_at(pool_at(p, object), (s.a % 256) as u8) == OUT,
-        22 => mark_at(pool_at(p, object), (s.a % 256) as u8) == ABSENT,
+        SIGNAL => counter_at(p.kernel, semaphore_place(object)) < 2147483647,
+        SUSPEND => holder_at(p.kernel, object) == NOBODY,
+        FREE => mark_at(pool_at(p, object), (s.a % 256) as u8) == OUT,
+        ADD => mark_at(pool_at(p, object), (s.a % 256) as u8) == ABSENT,
         _ => true,
     }
 }

@@ -2,6 +2,7 @@
 use crate::refusal::refuse;
 use kernel::clock::Clock;
 use kernel::clock::advance;
+use kernel::kinds::TICK;
 use kernel::numbers::NOBODY;
 use kernel::records::Answer;
 use kernel::records::Kernel;
@@ -105,7 +106,7 @@ fn refused_outcome(code: u8, running: u8) -> Outcome
 fn clock_after(clock: Clock, kind: u8) -> Clock
     ensures { λ r. ⌜ r ≡ clockAfter clock kind ⌝ }
 {
-    if kind == 1 {
+    if kind == TICK {
         let mut r = clock;
         r.time = advance(clock.time);
         r

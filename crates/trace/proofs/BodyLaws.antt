@@ -11,7 +11,7 @@ use Rattle.library.specs.declared.calls.Step.{Step}
 use Rattle.library.specs.declared.sizes.Sizes.{Sizes}
 use Rattle.trace.specs.Ordered.{bytesN, getN}
 use Rattle.trace.specs.TraceBytes.{sizesBody, stepBody}
-use Rattle.trace.specs.Reader.{decodedSizes, decodedStep}
+use Rattle.trace.specs.Decoding.{decodedSizes, decodedStep}
 use Rattle.trace.specs.Traces.{Encodes, Tabled, Bytes}
 use Rattle.trace.proofs.Cases.{split}
 use Rattle.trace.proofs.Widths.{get-bytes, bytes-get}

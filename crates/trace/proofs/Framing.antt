@@ -10,7 +10,7 @@ use borrow.Author.Tests.{lt-ltb, le-ltb, eq-eqb, ltb-false, eqb-true, eqb-false}
 use Rattle.trace.specs.Ordered.{getN}
 use Rattle.trace.specs.TraceBytes.{longest}
 use Rattle.library.specs.Sizes.{sizesFit}
-use Rattle.trace.specs.Reader.{endsInside, lengthRefusal, headSizes, headRefusal, stepRefusal}
+use Rattle.trace.specs.Decoding.{endsInside, lengthRefusal, headSizes, headRefusal, stepRefusal}
 use Rattle.trace.proofs.Cases.{split, not-both, ltb-same}
 
 -- record 0 was not refused with 15, 11, 12 or 13

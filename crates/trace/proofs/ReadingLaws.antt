@@ -10,11 +10,11 @@ use lib.Seq.{take-at, drop-append-add, length-take-le}
 use borrow.Author.Tests.{eq-eqb, ne-eqb, eqb-true, eqb-false}
 use Rattle.library.specs.declared.calls.Step.{Step}
 use Rattle.library.specs.declared.sizes.Sizes.{Sizes}
-use Rattle.trace.specs.declared.reader.Found.the-variants.{Opened, Stepped, Ended, Refused}
+use Rattle.trace.specs.declared.decoding.Found.the-variants.{Opened, Stepped, Ended, Refused}
 use Rattle.trace.specs.Ordered.{bytesN, getN}
 use Rattle.library.specs.Sizes.{sizesFit, noSizes}
 use Rattle.trace.specs.TraceBytes.{longest, sizesBody, headOf, stepBody, recordOf, recordsOf, traceOf}
-use Rattle.trace.specs.Reader.{numberAt, headRefusal, stepRefusal, decodedStep, stoppedRead, refusedRead, openedRead, steppedRead, nextRead}
+use Rattle.trace.specs.Decoding.{numberAt, headRefusal, stepRefusal, decodedStep, stoppedRead, refusedRead, openedRead, steppedRead, nextRead}
 use Rattle.trace.specs.Traces.{readFrom, readAll, Encodes, AllEncode, more, Tabled}
 use Rattle.trace.proofs.BodyLaws.{step-decoded, sizes-decoded}
 use Rattle.trace.proofs.Cases.{split}

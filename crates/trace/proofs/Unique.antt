@@ -16,7 +16,7 @@ use denote.Triple.Clauses.{AtExit}
 use denote.Triple.Entry.{Args, Res}
 use borrow.Fn.Kinds.{Dens, resT, endedOf}
 use Rattle.kernel.proofs.Unique.{coincide, coincide-lent, Fixes}
-use Rattle.trace.specs.declared.reading.Reader.{Reader}
+use Rattle.trace.specs.declared.cursor.Reader.{Reader}
 use Rattle.trace.proofs.ordered.byte_at.Reads as ordered-byte-at
 use Rattle.trace.proofs.ordered.byte_at.Kinds as ordered-byte-at-kinds
 use Rattle.trace.proofs.ordered.read_u16.Reads as ordered-read-u16
@@ -27,18 +27,18 @@ use Rattle.trace.proofs.ordered.write_u16.Reads as ordered-write-u16
 use Rattle.trace.proofs.ordered.write_u16.Kinds as ordered-write-u16-kinds
 use Rattle.trace.proofs.ordered.write_u32.Reads as ordered-write-u32
 use Rattle.trace.proofs.ordered.write_u32.Kinds as ordered-write-u32-kinds
-use Rattle.trace.proofs.reader.number_at.Reads as reader-number-at
-use Rattle.trace.proofs.reader.number_at.Kinds as reader-number-at-kinds
-use Rattle.trace.proofs.reader.decode_sizes.Reads as reader-decode-sizes
-use Rattle.trace.proofs.reader.decode_sizes.Kinds as reader-decode-sizes-kinds
-use Rattle.trace.proofs.reader.decode_step.Reads as reader-decode-step
-use Rattle.trace.proofs.reader.decode_step.Kinds as reader-decode-step-kinds
-use Rattle.trace.proofs.reader.next_record.Reads as reader-next-record
-use Rattle.trace.proofs.reader.next_record.Kinds as reader-next-record-kinds
-use Rattle.trace.proofs.reading.new as reading-new
-use Rattle.trace.proofs.reading.next as reading-next
-use Rattle.trace.proofs.reading.read_at.Reads as reading-read-at
-use Rattle.trace.proofs.reading.read_at.Kinds as reading-read-at-kinds
+use Rattle.trace.proofs.decoding.number_at.Reads as decoding-number-at
+use Rattle.trace.proofs.decoding.number_at.Kinds as decoding-number-at-kinds
+use Rattle.trace.proofs.decoding.decode_sizes.Reads as decoding-decode-sizes
+use Rattle.trace.proofs.decoding.decode_sizes.Kinds as decoding-decode-sizes-kinds
+use Rattle.trace.proofs.decoding.decode_step.Reads as decoding-decode-step
+use Rattle.trace.proofs.decoding.decode_step.Kinds as decoding-decode-step-kinds
+use Rattle.trace.proofs.decoding.next_record.Reads as decoding-next-record
+use Rattle.trace.proofs.decoding.next_record.Kinds as decoding-next-record-kinds
+use Rattle.trace.proofs.cursor.new as cursor-new
+use Rattle.trace.proofs.cursor.next as cursor-next
+use Rattle.trace.proofs.cursor.read_at.Reads as cursor-read-at
+use Rattle.trace.proofs.cursor.read_at.Kinds as cursor-read-at-kinds
 use Rattle.trace.proofs.writer.write_sizes.Reads as writer-write-sizes
 use Rattle.trace.proofs.writer.write_sizes.Kinds as writer-write-sizes-kinds
 use Rattle.trace.proofs.writer.write_step.Reads as writer-write-step
@@ -53,20 +53,20 @@ ordered-read-u16-one κs a e x y = coincide
 pub ordered-read-u32-one : Fixes 1 ordered-read-u32-kinds.ps ordered-read-u32-kinds.r ordered-read-u32.Post
 ordered-read-u32-one κs a e x y = coincide
 
-pub reader-number-at-one : Fixes 0 reader-number-at-kinds.ps reader-number-at-kinds.r reader-number-at.Post
-reader-number-at-one κs a e x y = coincide
+pub decoding-number-at-one : Fixes 0 decoding-number-at-kinds.ps decoding-number-at-kinds.r decoding-number-at.Post
+decoding-number-at-one κs a e x y = coincide
 
-pub reader-decode-sizes-one : Fixes 1 reader-decode-sizes-kinds.ps reader-decode-sizes-kinds.r reader-decode-sizes.Post
-reader-decode-sizes-one κs a e x y = coincide
+pub decoding-decode-sizes-one : Fixes 1 decoding-decode-sizes-kinds.ps decoding-decode-sizes-kinds.r decoding-decode-sizes.Post
+decoding-decode-sizes-one κs a e x y = coincide
 
-pub reader-decode-step-one : Fixes 1 reader-decode-step-kinds.ps reader-decode-step-kinds.r reader-decode-step.Post
-reader-decode-step-one κs a e x y = coincide
+pub decoding-decode-step-one : Fixes 1 decoding-decode-step-kinds.ps decoding-decode-step-kinds.r decoding-decode-step.Post
+decoding-decode-step-one κs a e x y = coincide
 
-pub reader-next-record-one : Fixes 1 reader-next-record-kinds.ps reader-next-record-kinds.r reader-next-record.Post
-reader-next-record-one κs a e x y = coincide
+pub decoding-next-record-one : Fixes 1 decoding-next-record-kinds.ps decoding-next-record-kinds.r decoding-next-record.Post
+decoding-next-record-one κs a e x y = coincide
 
-pub reading-read-at-one : Fixes 1 reading-read-at-kinds.ps reading-read-at-kinds.r reading-read-at.Post
-reading-read-at-one κs a e x y = coincide
+pub cursor-read-at-one : Fixes 1 cursor-read-at-kinds.ps cursor-read-at-kinds.r cursor-read-at.Post
+cursor-read-at-one κs a e x y = coincide
 
 -- readers of one trace at one place are one reader
 one-reader : (x y : Reader) → x .trace ≡ y .trace → x .at ≡ y .at → x ≡ y
@@ -76,20 +76,20 @@ one-reader x y s n =
 
 -- The statements of functions over a reader are of the logic: whatever satisfies one twice is the same.
 module _ {M : Type 1} (𝓤 : URA M) (H : Heap 𝓤) (A : Atoms 𝓤) (at-mem : Memory → SProp 𝓤) (run : Routine → Fun 𝓤) where
-  module _ (κs : Lfts 1) (a : Args reading-new.signature κs) (x y : Res reading-new.signature κs) (e : AtExit reading-new.ended κs) where
-    abbrev new-gives : Res reading-new.signature κs → SProp 𝓤
-    new-gives r = reading-new.clauses 𝓤 H A at-mem run κs a .ensures tt r e
+  module _ (κs : Lfts 1) (a : Args cursor-new.signature κs) (x y : Res cursor-new.signature κs) (e : AtExit cursor-new.ended κs) where
+    abbrev new-gives : Res cursor-new.signature κs → SProp 𝓤
+    new-gives r = cursor-new.clauses 𝓤 H A at-mem run κs a .ensures tt r e
 
-    pub reading-new-one : ent 𝓤 (sep 𝓤 (new-gives x) (new-gives y)) (fact 𝓤 (x ≡ y))
-    reading-new-one = coincide-lent 𝓤 (λ p q. one-reader x y (coincide (p .0) (q .0)) (coincide (p .1) (q .1)))
+    pub cursor-new-one : ent 𝓤 (sep 𝓤 (new-gives x) (new-gives y)) (fact 𝓤 (x ≡ y))
+    cursor-new-one = coincide-lent 𝓤 (λ p q. one-reader x y (coincide (p .0) (q .0)) (coincide (p .1) (q .1)))
 
-  module _ (κs : Lfts 2) (a : Args reading-next.signature κs) (x y : Res reading-next.signature κs) (e f : AtExit reading-next.ended κs) where
-    abbrev next-gives : Res reading-next.signature κs → AtExit reading-next.ended κs → SProp 𝓤
-    next-gives = reading-next.clauses 𝓤 H A at-mem run κs a .ensures tt
+  module _ (κs : Lfts 2) (a : Args cursor-next.signature κs) (x y : Res cursor-next.signature κs) (e f : AtExit cursor-next.ended κs) where
+    abbrev next-gives : Res cursor-next.signature κs → AtExit cursor-next.ended κs → SProp 𝓤
+    next-gives = cursor-next.clauses 𝓤 H A at-mem run κs a .ensures tt
 
     -- and where the lent reader stands in the end
-    pub reading-next-one : ent 𝓤 (sep 𝓤 (next-gives x e) (next-gives y f)) (fact 𝓤 ((x ≡ y) × (now (e .0) ≡ now (f .0))))
-    reading-next-one = coincide-lent 𝓤 (λ p q. (coincide (p .0) (q .0), coincide (p .1) (q .1)))
+    pub cursor-next-one : ent 𝓤 (sep 𝓤 (next-gives x e) (next-gives y f)) (fact 𝓤 ((x ≡ y) × (now (e .0) ≡ now (f .0))))
+    cursor-next-one = coincide-lent 𝓤 (λ p q. (coincide (p .0) (q .0), coincide (p .1) (q .1)))
 
 module _ (κs : Lfts 1) (a : Dens κs ordered-write-u16-kinds.ps) (x y : resT ordered-write-u16-kinds.r κs .Denot)
     (e f : AtExit (endedOf 1 ordered-write-u16-kinds.ps ordered-write-u16-kinds.r) κs) where

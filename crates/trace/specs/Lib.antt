@@ -1,7 +1,7 @@
 -- The meanings that the contracts cite, in the order in which they build on each other.
 pub mod Ordered
 pub mod TraceBytes
-pub mod Reader
-pub mod Reading
+pub mod Decoding
+pub mod Cursor
 pub mod Writer
 pub mod Traces

@@ -5,12 +5,12 @@ use mathlib.Core.List.{List, [], _∷_}
 use lib.ListN.{length, getD}
 use Rattle.library.specs.declared.calls.Step.{Step}
 use Rattle.library.specs.declared.sizes.Sizes.{Sizes}
-use Rattle.trace.specs.declared.reader.Read.{Read}
-use Rattle.trace.specs.declared.reader.Found.{Found}
-use Rattle.trace.specs.declared.reader.Found.the-variants as found
+use Rattle.trace.specs.declared.decoding.Read.{Read}
+use Rattle.trace.specs.declared.decoding.Found.{Found}
+use Rattle.trace.specs.declared.decoding.Found.the-variants as found
 use Rattle.trace.specs.declared.writer.Written.{Written}
 use Rattle.trace.specs.declared.writer.Written.the-variants as written
-use Rattle.trace.specs.Reader.{nextRead}
+use Rattle.trace.specs.Decoding.{nextRead}
 use Rattle.library.specs.Sizes.{slotsAt, noSizes}
 use Rattle.trace.specs.Writer.{sizesAnswer, sizesWritten, stepAnswer, stepWritten}
 

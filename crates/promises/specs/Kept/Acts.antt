@@ -67,7 +67,7 @@ module _ (p : Plant) (c : Clock) (s : Step) (a : Accepted p c s) (w : Whole (p .
 
   -- an operation that is no signal
   tried : (h : Plant) → Tries z p h → [] ≡ calledFor p s → Acts z p s h
-  tried h t e = record { marks = t .marks; done = t .done; calls = t .calls ∙ e }
+  tried h t e = record { marks = t .marks; done = t .done }
 
   -- one that finishes the caller's call at once
   at-once : (h : Plant) (ms : List Event) → Done z p h ms → callsOf ms ≡ calledFor p s → countIn (isSlept (s .caller)) ms ≡ 0
@@ -84,7 +84,6 @@ module _ (p : Plant) (c : Clock) (s : Step) (a : Accepted p c s) (w : Whole (p .
           chained = rw (nil-right ms) at (after (d .chained) x);
           whole = kernel-done z h (finished (h .kernel) i ok 0) [] (d .whole) x (λ q l. refl) .whole;
         };
-        calls = e;
       }
 
   post-acts : (m : ℕ) → s .kind ≡ m → (m ≡ 15) ⊎ (m ≡ 16) → Acts z p s (postTried p (s .caller) (callOf s))

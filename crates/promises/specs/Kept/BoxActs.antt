@@ -51,7 +51,7 @@ use Rattle.promises.specs.Kept.PoolKept.{
   put-back-kept,
   put-back-pushed,
 }
-use Rattle.promises.specs.Kept.Story.{Event, signalAt, takeAt, sleepIn, endWith, countIn, CallFits, Again}
+use Rattle.promises.specs.Kept.Story.{Event, signalAt, takeAt, sleepIn, endWith, countIn, CallSound, Again}
 use Rattle.promises.specs.Kept.Chain.{Chain, Sleeper, Sound, hands, stop, queued-unready}
 use Rattle.promises.specs.Kept.Owed.{isSignal, isTake}
 use Rattle.promises.specs.Kept.Moving.{
@@ -68,13 +68,11 @@ use Rattle.promises.specs.Kept.Moving.{
   signal-chained,
 }
 use Rattle.promises.specs.Kept.Whole.{Whole, Done, InStep, done, kernel-done, whole-good}
-use Rattle.promises.specs.Kept.KernelActs.{callsOf}
 
 -- marks that are neither tick nor signal, and take no pool anything
 pub record Quiet (z : Sizes) (k h : Kernel) : Type 0 where
   pub marks : List Event
   pub chained : Chained z k h marks
-  pub calls : callsOf marks ≡ []
   pub takes : (q : ℕ) → countIn (isTake (poolPlace q)) marks ≡ 0
   pub signals : (q : ℕ) → countIn (isSignal (poolPlace q)) marks ≡ 0
 
@@ -82,12 +80,11 @@ pub record Quiet (z : Sizes) (k h : Kernel) : Type 0 where
 pub record Tries (z : Sizes) (p h : Plant) : Type 0 where
   pub marks : List Event
   pub done : Done z p h marks
-  pub calls : callsOf marks ≡ []
 
 -- who tries a call: its call may finish with any answer, and may sleep if it has a timeout
 pub record Tryer (z : Sizes) (k : Kernel) (i : ℕ) (c : Call) : Type 0 where
   pub asks : Caller z k i
-  pub sleeps : c .timeout ≢ 0 → (i < z .threads) × (Free (threadAt k i) × (CallFits z c × Again (threadAt k i) c))
+  pub sleeps : c .timeout ≢ 0 → (i < z .threads) × (Free (threadAt k i) × (CallSound z c × Again (threadAt k i) c))
 
 module _ (z : Sizes) (g : GoodSizes z) (k : Kernel) (s : Sound z k) where
   abbrev n : ℕ
@@ -96,7 +93,7 @@ module _ (z : Sizes) (g : GoodSizes z) (k : Kernel) (s : Sound z k) where
   -- nothing but wakings and finished calls
   silent : (h : Kernel) → Chained z k h [] → Quiet z k h
   unfolding countIn
-  silent h c = record { marks = []; chained = c; calls = refl; takes = λ q. refl; signals = λ q. refl }
+  silent h c = record { marks = []; chained = c; takes = λ q. refl; signals = λ q. refl }
 
   -- the sleep of a call on a place whose counter is not above 0
   enqueue-quiet : (i p : ℕ) (c : Call) → Tryer z k i c → queued ≡ waitState (c .kind) → p ≡ waitPlace (c .kind) (c .object)
@@ -106,7 +103,7 @@ module _ (z : Sizes) (g : GoodSizes z) (k : Kernel) (s : Sound z k) where
       let x = block-chained z g k i queued p c e f dozing (t .asks) in
       split (eqb (c .timeout) immediate)
       (λ b. silent _ (rw b at x))
-      (λ b. record { marks = sleepIn i c ∷ []; chained = rw b at x; calls = refl; takes = λ q. refl; signals = λ q. refl })
+      (λ b. record { marks = sleepIn i c ∷ []; chained = rw b at x; takes = λ q. refl; signals = λ q. refl })
     where
       dozing : c .timeout ≢ 0 → Sleeper z k i c
       dozing d =
@@ -187,7 +184,7 @@ module _ (p : Plant) (w : Whole (p .sizes) p) where
 
   boxes-tries : (h : Plant) → MailboxesKept p h → Quiet z k (h .kernel) → Tries z p h
   boxes-tries h m q =
-      record { marks = q .marks; done = boxes-done h (q .marks) m (q .chained) (q .takes) (q .signals); calls = q .calls }
+      record { marks = q .marks; done = boxes-done h (q .marks) m (q .chained) (q .takes) (q .signals) }
 
   module _ (i : ℕ) (c : Call) (t : Tryer z k i c) (there : c .object < z .mailboxes) where
     post-quiet : queued ≡ waitState (c .kind) → writersPlace (c .object) ≡ waitPlace (c .kind) (c .object)
@@ -289,7 +286,6 @@ module _ (p : Plant) (w : Whole (p .sizes) p) where
           marks = takeAt (poolPlace o) ∷ [];
           done = pools-done (handedOver p i o) o (takeAt (poolPlace o) ∷ []) kept chain
               (took-step (handedOver p i o) o there kept (hand-over-popped p (w .pools) o there i some .fewer));
-          calls = refl;
         }
       where
         some : 0 < poolAt p o .length
@@ -339,7 +335,6 @@ module _ (p : Plant) (w : Whole (p .sizes) p) where
         marks = takeAt at ∷ [];
         done = pools-done (allocTried p i c) (c .object) (takeAt at ∷ []) kept (above b)
             (took-step (allocTried p i c) (c .object) there kept (alloc-popped p i c (w .pools) there b (some b) .fewer));
-        calls = refl;
       })
       (λ b.
       let x = enqueue-quiet z g k (w .kernel) i at c t (rw e) (rw e) b in
@@ -347,7 +342,6 @@ module _ (p : Plant) (w : Whole (p .sizes) p) where
       (record {
         marks = x .marks;
         done = kernel-done z p (enqueued k i at c) (x .marks) w (x .chained) (λ q l. x .takes q ∙ sym (x .signals q));
-        calls = x .calls;
       }))
     where
       at : ℕ

@@ -1,6 +1,6 @@
 -- Whatever a step does, it does by a chain of moves: a thread is made ready, a thread goes to sleep, a tick passes, a signal comes, a call
 -- finishes, or something changes that concerns no wait. What each move keeps is proved here once; of a step only that it is a chain.
-use Prim.Native.Nat.{ℕ, zero, suc, _+_, _≤_, _<_}
+use Prim.Native.Nat.{ℕ, zero, suc, _≤_, _<_}
 use native.Mathlib.Nat.{not-suc-le-zero}
 use native.Mathlib.Omega.{arith}
 use mathlib.Core.Path.{_≡_, refl, sym, ap, _∙_}
@@ -28,7 +28,7 @@ use Rattle.kernel.specs.Semaphore.{taken}
 use Rattle.kernel.specs.Event.{withPending}
 use Rattle.kernel.specs.Ticking.{ticked}
 use Rattle.kernel.proofs.Cases.{split, same-or, contrary, both-means}
-use Rattle.kernel.proofs.WalkLaws.{First, None, count-none}
+use Rattle.kernel.proofs.WalkLaws.{Least, None, count-none}
 use Rattle.kernel.proofs.CountersLaws.{debt, debt-none, raised-none, lowered-none}
 use Rattle.kernel.proofs.TablesLaws.{
   Sized,
@@ -96,7 +96,7 @@ use Rattle.promises.specs.Kept.Story.{
   takeAt,
   endStep,
   isOf,
-  CallFits,
+  CallSound,
   Follows,
   Again,
   Because,
@@ -133,7 +133,7 @@ pub record Waken (z : Sizes) (k : Kernel) (i : ℕ) (m : ℤ) : Type 0 where
 pub record Sleeper (z : Sizes) (k : Kernel) (i : ℕ) (c : Call) : Type 0 where
   pub within : i < z .threads
   pub is-ready : threadAt k i .state ≡ ready
-  pub fits : CallFits z c
+  pub fits : CallSound z c
   pub counter : waitState (c .kind) ≡ queued → ltZ (pos 0) (counterAt k (waitPlace (c .kind) (c .object))) ≡ false
   pub holder : waitState (c .kind) ≡ suspended → holderAt k (waitPlace (c .kind) (c .object)) ≡ nobody
   pub flags : waitState (c .kind) ≡ awaiting → bitAnd (threadAt k i .pending) (awaitedBy c) ≡ 0
@@ -173,7 +173,7 @@ pub data Chain (z : Sizes) (h : Kernel) : Kernel → List Event → Type 0 where
   stop : Chain z h h []
   wakes : {k : Kernel} {es : List Event} (i : ℕ) (m : ℤ) → Waken z k i m → Chain z h (woken k i m) es → Chain z h k (woke i m ∷ es)
   -- a signal with waiters wakes the first
-  passes : {k : Kernel} {es : List Event} (p i : ℕ) → p < 20 → First (waits k p) (z .threads) i → Chain z h (woken k i ok) es
+  passes : {k : Kernel} {es : List Event} (p i : ℕ) → p < 20 → Least (waits k p) (z .threads) i → Chain z h (woken k i ok) es
       → Chain z h k (signalAt p ∷ (woke i ok ∷ es))
   -- and without waiters raises the counter
   raises : {k : Kernel} {es : List Event} (p : ℕ) → p < 20 → ltZ (counterAt k p) (pos 0) ≡ false
@@ -228,23 +228,6 @@ module _ (k : Kernel) where
   -- the flags of a step begin anew
   begun-sized : Sized k → Sized (begun (ended k))
   begun-sized s = record { threads = s .threads; counters = s .counters; references = s .references; woken = refl; finished = refl }
-
--- THE TABLES KEEP THEIR LENGTHS
-pub chain-sized : {z : Sizes} {h k : Kernel} {es : List Event} → Chain z h k es → Sized k → Sized h
-chain-sized stop s = s
-chain-sized (wakes {k} i m w c) s = chain-sized c (sized-kept (wake-sizes k i m) s)
-chain-sized (passes {k} p i l f c) s = chain-sized c (sized-kept (wake-sizes k i ok) s)
-chain-sized (raises {k} p l e b c) s = chain-sized c (sized-kept (counter-sizes k p (up (counterAt k p))) s)
-chain-sized {z} (ages {k} c) s = chain-sized c (sized-kept (tick-sizes k (z .threads)) s)
-chain-sized (sleeps {k} i a w c) s =
-    chain-sized c (sized-kept (sleep-sizes k i (waitState (a .kind)) (waitPlace (a .kind) (a .object)) a) s)
-chain-sized (takes {k} p l e c) s = chain-sized c (sized-kept (take-sizes k p) s)
-chain-sized (sets {k} p v w c) s = chain-sized c (sized-kept (counter-sizes k p v) s)
-chain-sized (finishes {k} i m d f c) s = chain-sized c (sized-kept (finish-sizes k i m d) s)
-chain-sized (hands {k} i d f c) s = chain-sized c (sized-kept (finish-sizes k i ok d) s)
-chain-sized (answers {k} a c) s = chain-sized c (sized-kept (answer-sizes k a) s)
-chain-sized (flags {k} i f e c) s = chain-sized c (sized-kept (thread-sizes k i (withPending (threadAt k i) f)) s)
-chain-sized (begins {k} c) s = chain-sized c (begun-sized k s)
 
 -- ---- the story of one thread, in each move
 

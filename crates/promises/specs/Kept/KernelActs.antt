@@ -1,5 +1,5 @@
 -- Every accepted step of kinds 1 to 14 is a chain of moves that leaves the tables whole.
-use Prim.Native.Nat.{ℕ, suc, _+_, _≤_, _<_}
+use Prim.Native.Nat.{ℕ, suc, _≤_, _<_}
 use native.Mathlib.Omega.{arith}
 use mathlib.Core.Path.{_≡_, refl, sym, ap, _∙_}
 use mathlib.Core.Logic.{_≢_, inl, inr}
@@ -58,7 +58,7 @@ use Rattle.promises.specs.Kept.Story.{
   countIn,
   isSlept,
   Idle,
-  CallFits,
+  CallSound,
 }
 use Rattle.promises.specs.Kept.Chain.{Sleeper}
 use Rattle.promises.specs.Kept.Owed.{isSignal, isTake}
@@ -97,20 +97,6 @@ abbrev pub callsOf : List Event → List Event
 callsOf [] = []
 callsOf (e ∷ es) = callThen e (callsOf es)
 
-call-append : (e : Event) (r s : List Event) → callThen e (r ++ s) ≡ callThen e r ++ s
-call-append (woke i m) r s = refl
-call-append (sleepIn i c) r s = refl
-call-append (endWith i m d) r s = refl
-call-append tick r s = refl
-call-append (countOff i) r s = refl
-call-append (signalAt p) r s = refl
-call-append (takeAt p) r s = refl
-call-append endStep r s = refl
-
-pub calls-append : (es fs : List Event) → callsOf (es ++ fs) ≡ callsOf es ++ callsOf fs
-calls-append [] fs = refl
-calls-append (e ∷ es) fs = ap (callThen e) (calls-append es fs) ∙ call-append e (callsOf es) (callsOf fs)
-
 -- the tick or the signal that an accepted step is: "Binary signals that act count as signals", and a pool's free and add signal
 abbrev pub calledFor : Plant → Step → List Event
 calledFor p s =
@@ -124,13 +110,11 @@ calledFor p s =
 pub record Acts (z : Sizes) (p : Plant) (s : Step) (h : Plant) : Type 0 where
   pub marks : List Event
   pub done : Done z p h marks
-  pub calls : callsOf marks ≡ calledFor p s
 
 -- the same of the kernel's tables: marks that put nobody but a caller to sleep, and touch no pool
 pub record KernelActs (z : Sizes) (p : Plant) (s : Step) (k : Kernel) : Type 0 where
   pub marks : List Event
   pub chained : Chained z (p .kernel) k marks
-  pub calls : callsOf marks ≡ calledFor p s
   pub takes : (q : ℕ) → countIn (isTake (poolPlace q)) marks ≡ 0
   pub signals : (q : ℕ) → countIn (isSignal (poolPlace q)) marks ≡ 0
 
@@ -226,7 +210,7 @@ module _ (p : Plant) (c : Clock) (s : Step) (a : Accepted p c s) (w : Whole (p .
   unfolding countIn
   plainly h x e =
       record {
-        acts = record { marks = []; chained = x; calls = e; takes = λ q. refl; signals = λ q. refl };
+        acts = record { marks = []; chained = x; takes = λ q. refl; signals = λ q. refl };
         awake = λ i. refl;
       }
 
@@ -241,7 +225,6 @@ module _ (p : Plant) (c : Clock) (s : Step) (a : Accepted p c s) (w : Whole (p .
               marks =
                   signalAt (s .object) ∷ [];
               chained = x;
-              calls = e;
               takes = λ q. refl;
               signals = λ q. rw (no-pool (s .object) q l);
             };
@@ -304,7 +287,6 @@ module _ (p : Plant) (c : Clock) (s : Step) (a : Accepted p c s) (w : Whole (p .
         acts = record {
           marks = tick ∷ [];
           chained = tick-chained z g k;
-          calls = rw (eqb-true (s .kind) 1 e);
           takes = λ q. refl;
           signals = λ q. refl;
         };
@@ -337,11 +319,11 @@ module _ (p : Plant) (c : Clock) (s : Step) (a : Accepted p c s) (w : Whole (p .
   waiting : (h : Kernel) (i : ℕ) (call : Call) (b : Bool) → Chained z k h (cond b [] (sleepIn i call ∷ [])) → [] ≡ calledFor p s
       → KernelActs z p s h
   unfolding countIn
-  waiting h i call true x e = record { marks = []; chained = x; calls = e; takes = λ q. refl; signals = λ q. refl }
-  waiting h i call false x e = record { marks = sleepIn i call ∷ []; chained = x; calls = e; takes = λ q. refl; signals = λ q. refl }
+  waiting h i call true x e = record { marks = []; chained = x; takes = λ q. refl; signals = λ q. refl }
+  waiting h i call false x e = record { marks = sleepIn i call ∷ []; chained = x; takes = λ q. refl; signals = λ q. refl }
 
   -- the call that a step keeps fits
-  pub kept-fits : CallKind (s .kind) → objectOf s < callLimit z (s .kind) → s .timeout ≢ 0 → CallFits z (callOf s)
+  pub kept-fits : CallKind (s .kind) → objectOf s < callLimit z (s .kind) → s .timeout ≢ 0 → CallSound z (callOf s)
   kept-fits f o t = record { kind = f; object = o; timeout = some (s .timeout) t; operand = λ e. rw e }
     where
       some : (t : ℕ) → t ≢ 0 → 1 ≤ t
@@ -358,7 +340,7 @@ module _ (p : Plant) (c : Clock) (s : Step) (a : Accepted p c s) (w : Whole (p .
     asks = stepper-caller z k (s .caller) stepper
 
     -- what it takes to sleep, in each state
-    sleeper-in : (call : Call) → CallFits z call
+    sleeper-in : (call : Call) → CallSound z call
         → (waitState (call .kind) ≡ queued → ltZ (pos 0) (counterAt k (waitPlace (call .kind) (call .object))) ≡ false)
         → (waitState (call .kind) ≡ suspended → holderAt k (waitPlace (call .kind) (call .object)) ≡ nobody)
         → (waitState (call .kind) ≡ awaiting → bitAnd (threadAt k (s .caller) .pending) (awaitedBy call) ≡ 0)
@@ -387,7 +369,6 @@ module _ (p : Plant) (c : Clock) (s : Step) (a : Accepted p c s) (w : Whole (p .
         (λ b. record {
           marks = takeAt (s .object) ∷ [];
           chained = rw b at x;
-          calls = rw e;
           takes = λ q. unfold countIn in rw (no-pool (s .object) q (low l));
           signals = λ q. unfold countIn in refl;
         })
@@ -424,7 +405,7 @@ module _ (p : Plant) (c : Clock) (s : Step) (a : Accepted p c s) (w : Whole (p .
     span : (t : ℕ) → isSpan t ≡ true → 1 ≤ t
     span t e = leb-true 1 t (both-means (leb 1 t) (ltb t infinite) e .0)
 
-    nap-acts : (call : Call) → CallFits z call → waitState (call .kind) ≡ sleeping → waitPlace (call .kind) (call .object) ≡ nowhere
+    nap-acts : (call : Call) → CallSound z call → waitState (call .kind) ≡ sleeping → waitPlace (call .kind) (call .object) ≡ nowhere
         → [] ≡ calledFor p s
         → KernelActs z p s (slept k (s .caller) sleeping nowhere call)
     nap-acts call f st pl e =
@@ -491,7 +472,6 @@ module _ (p : Plant) (c : Clock) (s : Step) (a : Accepted p c s) (w : Whole (p .
             (after (x .acts .chained)
             (finish-chained z g h i ok 0
             (stepper-caller z h i (stepper-kept z k h i m g (w .kernel) (x .acts .chained) (x .awake i) stepper))));
-        calls = x .acts .calls;
         takes = x .acts .takes;
         signals = x .acts .signals;
       }
@@ -506,5 +486,4 @@ module _ (p : Plant) (c : Clock) (s : Step) (a : Accepted p c s) (w : Whole (p .
       record {
         marks = x .marks;
         done = kernel-done z p (actedOnKernel k n (c .time) s) (x .marks) w (x .chained) (λ q there. x .takes q ∙ sym (x .signals q));
-        calls = x .calls;
       }

@@ -1,6 +1,6 @@
 -- Every operation of the kernel part is a chain of moves. With each stands what it is called for: its tick, its signal, the unit that it
 -- takes, the sleep that it begins; wakings, ticks counted off and finished calls follow from these.
-use Prim.Native.Nat.{ℕ, zero, suc, _+_, _-_, _<_}
+use Prim.Native.Nat.{ℕ, zero, suc, _-_, _<_}
 use native.Mathlib.Nat.{zero-add}
 use native.Mathlib.Omega.{arith}
 use mathlib.Core.Path.{_≡_, refl, sym, ap, _∙_}

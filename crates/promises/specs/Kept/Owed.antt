@@ -1,6 +1,6 @@
 -- What a pool owes: the units of its semaphore and the objects that it has promised. A signal owes one more, a unit taken one less,
 -- and no other move changes it; so the free list, which a free and an add lengthen and a taking shortens, has that length.
-use Prim.Native.Nat.{ℕ, zero, suc, _+_, _-_, _<_}
+use Prim.Native.Nat.{ℕ, zero, suc, _+_, _<_}
 use native.Mathlib.Omega.{arith}
 use mathlib.Core.Path.{_≡_, refl, sym, ap, _∙_}
 use mathlib.Core.Logic.{_≢_}
@@ -25,7 +25,7 @@ use Rattle.kernel.specs.Semaphore.{taken}
 use Rattle.kernel.specs.Event.{withPending}
 use Rattle.kernel.specs.Ticking.{countedOff, ticked}
 use Rattle.kernel.proofs.Cases.{split, same-or, contrary, both-means, second-fails}
-use Rattle.kernel.proofs.WalkLaws.{First, count-agree, count-change, count-some}
+use Rattle.kernel.proofs.WalkLaws.{Least, count-agree, count-change, count-some}
 use Rattle.kernel.proofs.CountersLaws.{debt-below, up-exact, down-not-above}
 use Rattle.kernel.proofs.TablesLaws.{used-all, thread-kept, counter-same, counter-other}
 use Rattle.kernel.proofs.MovesLaws.{
@@ -327,7 +327,7 @@ module _ (z : Sizes) (g : GoodSizes z) (q : ℕ) (there : q < z .pools) where
           (λ e. rw (e, w .cause at (omega (arith, low)) e))
           (λ e. rw e)
 
-  pass-owed : (k : Kernel) (p i : ℕ) → Sound z k → First (waits k p) n i → owed (woken k i ok) ≡ owed k + bit (eqb p at)
+  pass-owed : (k : Kernel) (p i : ℕ) → Sound z k → Least (waits k p) n i → owed (woken k i ok) ≡ owed k + bit (eqb p at)
   pass-owed k p i s f =
       wake-owed k i ok s (f .below) (queued-unready p (threadAt k i) (f .passes))
       ∙ rw (queued-place p at (threadAt k i) (f .passes), and-true (eqb p at))

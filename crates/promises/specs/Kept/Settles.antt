@@ -1,7 +1,6 @@
 -- Settling: every continued call is a chain that leaves the tables whole, and finishes a call or puts its thread to sleep. So settling
 -- ends, within twice the threads, with a running thread that has no unfinished call.
 use Prim.Native.Nat.{ℕ, zero, suc, _+_, _*_, _≤_, _<_}
-use native.Mathlib.Nat.{zero-add, suc-add}
 use native.Mathlib.Omega.{arith}
 use mathlib.Core.Path.{_≡_, refl, sym, ap, _∙_, subst}
 use mathlib.Core.Logic.{_≢_, inl, inr}
@@ -41,11 +40,10 @@ use Rattle.rules.specs.PoolRules.{isPromised}
 use Rattle.steps.specs.Stepping.{budgetOf}
 use Rattle.promises.specs.Together.Good.{GoodThread}
 use Rattle.promises.specs.Together.Tests.{same-means}
-use Rattle.promises.specs.Kept.Story.{endWith, countIn, CallFits}
+use Rattle.promises.specs.Kept.Story.{endWith, countIn, CallSound}
 use Rattle.promises.specs.Kept.Chain.{finishes, stop}
 use Rattle.promises.specs.Kept.Moving.{Free, after, rested}
 use Rattle.promises.specs.Kept.Whole.{Whole, kernel-done}
-use Rattle.promises.specs.Kept.KernelActs.{calls-append}
 use Rattle.promises.specs.Kept.BoxActs.{Tries, Tryer, post-tries, fetch-tries, hand-tries, released-row}
 
 -- a thread that runs with an unfinished call
@@ -89,7 +87,6 @@ module _ (p : Plant) (w : Whole (p .sizes) p) (i : ℕ) (d : Due (p .sizes) (p .
               marks = refl;
             })
             (λ q l. refl);
-        calls = refl;
       }
     where
       none : isPromised t ≡ false
@@ -109,7 +106,7 @@ module _ (p : Plant) (w : Whole (p .sizes) p) (i : ℕ) (d : Due (p .sizes) (p .
     woken-ok = split (same (t .message) ok) (λ b. b) (λ b. contrary (rw (box, b)) e)
 
     -- it keeps what it slept with: "it may sleep again with its FULL timeout"
-    fits : CallFits z (t .call)
+    fits : CallSound z (t .call)
     fits =
         record {
           kind = row .kind (d .unfinished);
@@ -354,11 +351,10 @@ tries-then a b =
     record {
       marks = a .marks ++ b .marks;
       done = record { chained = after (a .done .chained) (b .done .chained); whole = b .done .whole };
-      calls = calls-append (a .marks) (b .marks) ∙ rw (a .calls, b .calls);
     }
 
 tries-none : {z : Sizes} {p : Plant} → Whole z p → Tries z p p
-tries-none w = record { marks = []; done = record { chained = rested; whole = w }; calls = refl }
+tries-none w = record { marks = []; done = record { chained = rested; whole = w } }
 
 -- one call continued, of tables whose sizes are z
 continue-at : (z : Sizes) (p : Plant) → Whole z p → isSettled p ≡ false
@@ -383,27 +379,6 @@ spent-none b p e = rw (e, settled)
 spent-one : (b : ℕ) (p : Plant) → isSettled p ≡ false → settled (suc b) p ≡ settled b (continued p (runningIn p))
 unfolding settled
 spent-one b p e = rw (e, settled)
-
--- settled tables stay as they are, whatever budget is left
-settled-stays : (n : ℕ) (p : Plant) → isSettled p ≡ true → settled n p ≡ p
-settled-stays zero p e = spent-all p
-settled-stays (suc n) p e = spent-none n p e
-
-more-after : (b : ℕ) → ((n : ℕ) (p : Plant) → isSettled (settled b p) ≡ true → settled (b + n) p ≡ settled b p)
-    → (n : ℕ) (p : Plant) → isSettled (settled (suc b) p) ≡ true → settled (suc b + n) p ≡ settled (suc b) p
-more-after b f n p e =
-    rw (suc-add b n)
-    (split (isSettled p)
-    (λ a. spent-none (b + n) p a ∙ sym (spent-none b p a))
-    (λ a. spent-one (b + n) p a ∙ f n (continued p (runningIn p)) (rw (spent-one b p a) at e) ∙ sym (spent-one b p a)))
-
--- a budget with which settling ended is as good as any larger one
-pub settled-whole : (b : ℕ) (p : Plant) → isSettled (settled b p) ≡ true → (n : ℕ) → settled (b + n) p ≡ settled b p
-settled-whole b p e n = by b n p e
-  where
-    by : (b n : ℕ) (p : Plant) → isSettled (settled b p) ≡ true → settled (b + n) p ≡ settled b p
-    by zero n p e = rw (zero-add n) (settled-stays n p (rw (spent-all p) at e) ∙ sym (spent-all p))
-    by (suc b) n p e = more-after b (by b) n p e
 
 -- settling ends with a budget of b, for tables that weigh no more
 abbrev EndsWithin : Sizes → ℕ → Type 0

@@ -1,7 +1,6 @@
 -- The story of one thread: what happens to its record, event by event. Whatever a step does, it does by moves, and each move does to
 -- one thread's record what stands here, or nothing. What holds of such a story is proved here once.
 use Prim.Native.Nat.{ℕ, _+_, _-_, _≤_, _<_}
-use native.Mathlib.Nat.{zero-add}
 use native.Mathlib.Omega.{arith}
 use mathlib.Core.Path.{_≡_, refl, sym, _∙_}
 use mathlib.Core.Logic.{_≢_, _⊎_, inl, inr}
@@ -56,26 +55,6 @@ isOf i (signalAt p) = false
 isOf i (takeAt p) = false
 isOf i endStep = false
 
-abbrev pub isWoke : ℕ → Event → Bool
-isWoke i (woke j m) = eqb j i
-isWoke i (sleepIn j c) = false
-isWoke i (endWith j m d) = false
-isWoke i tick = false
-isWoke i (countOff j) = false
-isWoke i (signalAt p) = false
-isWoke i (takeAt p) = false
-isWoke i endStep = false
-
-abbrev pub isCounted : ℕ → Event → Bool
-isCounted i (woke j m) = false
-isCounted i (sleepIn j c) = false
-isCounted i (endWith j m d) = false
-isCounted i tick = false
-isCounted i (countOff j) = eqb j i
-isCounted i (signalAt p) = false
-isCounted i (takeAt p) = false
-isCounted i endStep = false
-
 abbrev pub isSlept : ℕ → Event → Bool
 isSlept i (woke j m) = false
 isSlept i (sleepIn j c) = eqb j i
@@ -86,23 +65,13 @@ isSlept i (signalAt p) = false
 isSlept i (takeAt p) = false
 isSlept i endStep = false
 
-abbrev pub isTick : Event → Bool
-isTick (woke j m) = false
-isTick (sleepIn j c) = false
-isTick (endWith j m d) = false
-isTick tick = true
-isTick (countOff j) = false
-isTick (signalAt p) = false
-isTick (takeAt p) = false
-isTick endStep = false
-
 -- how many events pass a test
 unfoldable pub countIn : (Event → Bool) → List Event → ℕ
 countIn f [] = 0
 countIn f (e ∷ es) = bit (f e) + countIn f es
 
 -- a call with which a thread may sleep: "An unfinished call is of kind 2, 6, 9, 11, 12, 14 to 17 or 20, its timeout above 0"
-pub record CallFits (z : Sizes) (c : Call) : Type 0 where
+pub record CallSound (z : Sizes) (c : Call) : Type 0 where
   pub kind : CallKind (c .kind)
   pub object : c .object < callLimit z (c .kind)
   pub timeout : 1 ≤ c .timeout
@@ -133,7 +102,7 @@ pub data Story (z : Sizes) (i : ℕ) (u : Thread) : Thread → List Event → Ty
   apart : {t : Thread} {es : List Event} (e : Event) → isOf i e ≡ false → Story z i u t es → Story z i u t (e ∷ es)
   rouses : {t : Thread} {es : List Event} (m : ℤ) → t .state ≢ ready → Because t m → Story z i u (readied t m) es
       → Story z i u t (woke i m ∷ es)
-  dozes : {t : Thread} {es : List Event} (c : Call) → t .state ≡ ready → CallFits z c
+  dozes : {t : Thread} {es : List Event} (c : Call) → t .state ≡ ready → CallSound z c
       → (waitState (c .kind) ≡ awaiting → bitAnd (t .pending) (awaitedBy c) ≡ 0) → Again t c
       → Story z i u (asleepIn t c) es → Story z i u t (sleepIn i c ∷ es)
   closes : {t : Thread} {es : List Event} (m : ℤ) (d : ℕ) → t .state ≡ ready → Follows t m d
@@ -213,7 +182,7 @@ ticks-timed t n = rw (ne-eqb t infinite n)
 ticks-infinite : (t : ℕ) → t ≡ infinite → ticksOf t ≡ 0
 ticks-infinite t e = rw (eq-eqb t infinite e)
 
-asleep-good : (z : Sizes) (t : Thread) (c : Call) → CallFits z c
+asleep-good : (z : Sizes) (t : Thread) (c : Call) → CallSound z c
     → (waitState (c .kind) ≡ awaiting → bitAnd (t .pending) (awaitedBy c) ≡ 0)
     → GoodThread z (asleepIn t c)
 asleep-good z t c f p =
@@ -305,69 +274,6 @@ story-good {z} (dozes {t} c r f p a s) g = story-good s (asleep-good z t c f p)
 story-good {z} (closes {t} m d r f s) g = story-good s (answered-good z t m d r g)
 story-good {z} (counts {t} l s) g = story-good s (counted-good z t l g)
 story-good {z} (marks {t} f p s) g = story-good s (flags-good z t f p g)
-
--- ---- a sleep
-
--- the same sleep, n ticks later
-pub record Later (n : ℕ) (t u : Thread) : Type 0 where
-  pub state : u .state ≡ t .state
-  pub place : u .place ≡ t .place
-  pub call : u .call ≡ t .call
-  -- a timed one has that many ticks less to go, and is not over
-  pub timed : t .remaining ≢ 0 → (u .remaining + n ≡ t .remaining) × (u .remaining ≢ 0)
-
-no-bit : (b : Bool) → bit b ≡ 0 → b ≡ false
-no-bit true h = absurd (omega arith)
-no-bit false h = refl
-
--- an event of somebody else is no waking of i, and counts nothing off it
-pub apart-woke : (i : ℕ) (e : Event) → isOf i e ≡ false → isWoke i e ≡ false
-apart-woke i (woke j m) n = n
-apart-woke i (sleepIn j c) n = refl
-apart-woke i (endWith j m d) n = refl
-apart-woke i tick n = refl
-apart-woke i (countOff j) n = refl
-apart-woke i (signalAt p) n = refl
-apart-woke i (takeAt p) n = refl
-apart-woke i endStep n = refl
-
-apart-counted : (i : ℕ) (e : Event) → isOf i e ≡ false → isCounted i e ≡ false
-apart-counted i (woke j m) n = refl
-apart-counted i (sleepIn j c) n = refl
-apart-counted i (endWith j m d) n = refl
-apart-counted i tick n = refl
-apart-counted i (countOff j) n = n
-apart-counted i (signalAt p) n = refl
-apart-counted i (takeAt p) n = refl
-apart-counted i endStep n = refl
-
--- one tick counted off
-once-later : (n : ℕ) (t u : Thread) → t .remaining ≢ 1 → Later n (countedOff t) u → Later (1 + n) t u
-once-later n t u l a =
-    record {
-      state = a .state;
-      place = a .place;
-      call = a .call;
-      timed = λ d. let x = a .timed (more (t .remaining) d l) in (omega (arith, x .0, more (t .remaining) d l), x .1);
-    }
-  where
-    more : (r : ℕ) → r ≢ 0 → r ≢ 1 → r - 1 ≢ 0
-    more r a b = omega arith
-
--- WHO IS NOT WOKEN SLEEPS ON, with just the ticks counted off; so a timed sleep that is not ended has more ticks than were counted
-pub story-sleeps : {z : Sizes} {i : ℕ} {u t : Thread} {es : List Event} → Story z i u t es → t .state ≢ ready
-    → countIn (isWoke i) es ≡ 0 → Later (countIn (isCounted i) es) t u
-unfolding countIn
-story-sleeps rests a o = record { state = refl; place = refl; call = refl; timed = λ n. (omega arith, n) }
-story-sleeps {z} {i} (apart {t} {es} e n s) a o =
-    rw (apart-counted i e n, zero-add) (story-sleeps s a (omega (arith, o)))
-story-sleeps {z} {i} (rouses {t} m n b s) a o = absurd (omega (arith, rw (eq-eqb i i refl) at o))
-story-sleeps (dozes c r f p y s) a o = absurd (a r)
-story-sleeps (closes m d r f s) a o = absurd (a r)
-story-sleeps {z} {i} {u} (counts {t} {es} l s) a o =
-    rw (eq-eqb i i refl) (once-later (countIn (isCounted i) es) t u l (story-sleeps s a (omega (arith, o))))
-story-sleeps (marks f p s) a o =
-    let l = story-sleeps s a o in record { state = l .state; place = l .place; call = l .call; timed = l .timed }
 
 -- ---- a thread without a call
 

@@ -16,7 +16,7 @@ use Rattle.library.specs.declared.calls.Step.{Step}
 use Rattle.library.specs.declared.tables.Tables.{Tables}
 use Rattle.steps.specs.declared.stepping.Outcome.{Outcome}
 use Rattle.steps.specs.declared.stepping.Stepped.{Stepped}
-use Rattle.promises.specs.Paper.Step.{
+use Rattle.promises.specs.Paper.World.{
   World,
   noThread,
   noBox,
@@ -29,15 +29,17 @@ use Rattle.promises.specs.Paper.Step.{
   madeReady,
   ended,
   signed,
+  Highest,
+  First,
+  Running,
+}
+use Rattle.promises.specs.Paper.Rows.{
   written,
   writtenAhead,
   takenFrom,
   slotsOf,
   inReset,
   onTop,
-  Highest,
-  First,
-  Running,
   TickOf,
   Ticks,
   Signal,
@@ -54,16 +56,10 @@ use Rattle.promises.specs.Paper.Step.{
   Fetch,
   Alloc,
   Act,
-  IsOther,
-  Continued,
-  Settles,
-  ClockAfter,
-  MaskOf,
-  ResultOf,
-  RefusedWith,
-  Broken,
-  StepOf,
 }
+use Rattle.promises.specs.Paper.Settling.{IsOther, Continued, Settles}
+use Rattle.promises.specs.Paper.Refusals.{RefusedWith, Broken}
+use Rattle.promises.specs.Paper.Step.{ClockAfter, MaskOf, ResultOf, StepOf}
 
 -- ---- general
 

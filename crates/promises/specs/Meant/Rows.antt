@@ -52,15 +52,8 @@ use Rattle.promises.specs.Meant.Semaphores.{not-most}
 use Rattle.promises.specs.Meant.Steps.{message-up, message-down, Rows, rows, atOnce}
 use Rattle.promises.specs.Meant.Accepted.{caller-runs}
 use Rattle.promises.specs.Meant.AcceptedBoxes.{few-free}
-use Rattle.promises.specs.Paper.Step.{
-  World,
-  found,
-  boxTo,
-  poolTo,
-  ended,
-  fallAsleep,
-  signed,
-  kept,
+use Rattle.promises.specs.Paper.World.{World, found, boxTo, poolTo, ended, fallAsleep, signed, kept}
+use Rattle.promises.specs.Paper.Rows.{
   inReset,
   atWork,
   onTop,

@@ -1,5 +1,5 @@
 -- What `stepped` gives back is what document 01 tells of the step: for any tables, any clock and any step of a host.
-use Prim.Native.Nat.{ℕ, zero, suc, _-_, _≤_, _<_}
+use Prim.Native.Nat.{ℕ, zero, suc, _≤_, _<_}
 use native.Mathlib.Omega.{arith}
 use mathlib.Core.Path.{_≡_, refl, sym, ap, _∙_, subst}
 use mathlib.Core.Logic.{_≢_, _⊎_, inl, inr}
@@ -32,44 +32,51 @@ use Rattle.steps.specs.Stepping.{clockAfter, budgetOf, outcomeOf, doneWith, ref
 use Rattle.steps.proofs.StepLaws.{step-code}
 use Rattle.promises.specs.Runs.Answers.{step-done, step-stopped}
 use Rattle.promises.specs.Together.Tests.{same-means}
-use Rattle.promises.specs.Runs.Flags.{mask-digit}
+use Rattle.promises.specs.Meant.Masks.{mask-digit}
 use Rattle.promises.specs.Together.Hanging.{test-hangs}
 use Rattle.promises.specs.Kept.Accepting.{refusal-none}
 use Rattle.promises.specs.Kept.Acts.{step-acts}
 use Rattle.promises.specs.Kept.Whole.{PlantSized, Whole, good-whole}
 use Rattle.promises.specs.Kept.Settles.{continue-tries}
-use Rattle.promises.specs.Runs.History.{Hangs, settles}
+use Rattle.promises.specs.Kept.Steps.{Hangs, settles}
 use Rattle.promises.specs.Meant.Tick.{tick-time, tick-time-wraps, other-time}
 use Rattle.promises.specs.Meant.Pools.{promise-stocked}
-use Rattle.promises.specs.Meant.Settling.{running-first, post-again, fetch-again, alloc-again, settle-on, settle-ends}
+use Rattle.promises.specs.Meant.Settling.{running-first, post-again, fetch-again, alloc-again, settle-on, settle-stops}
 use Rattle.promises.specs.Meant.Refusals.{first-broken}
-use Rattle.promises.specs.Paper.Step.{
-  World,
-  Left,
-  ended,
-  First,
-  Running,
-  Post,
-  Fetch,
-  Continued,
-  Settles,
-  ClockAfter,
-  ResultOf,
-  RefusedWith,
-  StepOf,
-}
-use Rattle.promises.specs.Meant.Broken.{breaks-broken, broken-breaks}
+use Rattle.promises.specs.Paper.World.{World, Left, ended, First, Running}
+use Rattle.promises.specs.Paper.Rows.{Post, Fetch}
+use Rattle.promises.specs.Paper.Host.{HostTables, Host}
+use Rattle.promises.specs.Paper.Settling.{Continued, Settles}
+use Rattle.promises.specs.Paper.Refusals.{RefusedWith}
+use Rattle.promises.specs.Paper.Step.{ClockAfter, ResultOf, StepOf}
 use Rattle.promises.specs.Meant.Moves.{worldOf, found-is, finish-world}
 use Rattle.promises.specs.Meant.Calls.{sized, few, good, post-is, fetch-is, top-is, pool-row}
 use Rattle.promises.specs.Meant.Rows.{act-is}
 use Rattle.promises.specs.Meant.Only.{first-only, step-only}
 
--- what the types of a host fix: the lengths of its arrays, and the widths of a step's fields and of the time
-pub record Host (t : Tables) (c : Clock) (s : Step) : Type 0 where
-  pub lengths : PlantSized (opened t)
-  pub object : s .object < 256
-  pub operand : s .a < 4294967296
-  pub time : c .time .0 < 4294967296
+-- the lengths of a host's arrays, as the tables at work have them
+pub host-sized : (t : Tables) → HostTables t → PlantSized (opened t)
+host-sized t h =
+    record {
+      kernel = record { threads = h .threads; counters = h .counters; references = h .references; woken = refl; finished = refl };
+      mailboxes = h .mailboxes;
+      messages = h .messages;
+      pools = h .pools;
+      pool = λ q l. record { list = h .lists q l; marks = h .marks q l };
+    }
+
+pub sized-host : (t : Tables) → PlantSized (opened t) → HostTables t
+sized-host t h =
+    record {
+      threads = h .kernel .threads;
+      counters = h .kernel .counters;
+      references = h .kernel .references;
+      mailboxes = h .mailboxes;
+      messages = h .messages;
+      pools = h .pools;
+      lists = λ q l. h .pool q l .list;
+      marks = λ q l. h .pool q l .marks;
+    }
 
 -- ---- who runs
 
@@ -189,12 +196,28 @@ pub settles-is : (b : ℕ) → SettlesWith b
 settles-is zero p w e = Settles.ends (quiet p w (rw (spent-all p) at e)) (ap worldOf (spent-all p))
 settles-is (suc b) p w e =
     split (isSettled p)
-    (λ q. Settles.ends (quiet p w q) (ap worldOf (settle-ends p (suc b) (eqb-true (threadAt (p .kernel) (runningIn p) .call .kind) 0 q))))
+    (λ q. Settles.ends (quiet p w q) (ap worldOf (settle-stops p (suc b) (eqb-true (threadAt (p .kernel) (runningIn p) .call .kind) 0 q))))
     (settles-on b (settles-is b) p w e)
+
+-- what each continued call keeps, settling keeps
+pub settled-keeps : (P : World → Type 0)
+    → ((p : Plant) → Whole (p .sizes) p → (i : ℕ) → First (worldOf p) i → threadAt (p .kernel) i .call .kind ≢ 0 → (x : World)
+    → Continued (worldOf p) i x → P (worldOf p) → P x)
+    → (b : ℕ) (p : Plant) → Whole (p .sizes) p → P (worldOf p) → P (worldOf (settled b p))
+settled-keeps P f zero p w h = rw (spent-all p) h
+settled-keeps P f (suc b) p w h =
+    split (isSettled p) (λ q. rw (settle-stops p (suc b) (eqb-true (threadAt (p .kernel) (runningIn p) .call .kind) 0 q)) h)
+    (λ q.
+    let r = runningIn p in
+    let g = due p w q in
+    let call = eqb-false (threadAt (p .kernel) r .call .kind) 0 q in
+    rw (settle-on p b call)
+    (settled-keeps P f b (continued p r) (whole-on p w r g call)
+    (f p w r g call (worldOf (continued p r)) (continued-is p w r g call) h)))
 
 -- ---- clock and result
 
-clock-is : (c : Clock) → c .time .0 < 4294967296 → (kind : ℕ) → ClockAfter c kind (clockAfter c kind)
+pub clock-is : (c : Clock) → c .time .0 < 4294967296 → (kind : ℕ) → ClockAfter c kind (clockAfter c kind)
 clock-is c h kind =
     same-or kind 1
     (λ e. in-or-out (c .time .0) 4294967295
@@ -208,7 +231,7 @@ bit-one : (b : Bool) → bit b ≡ cond b 1 0
 bit-one true = refl
 bit-one false = refl
 
-result-is : (p : Plant) → p .sizes .threads ≤ 16 → (caller : ℕ)
+pub result-is : (p : Plant) → p .sizes .threads ≤ 16 → (caller : ℕ)
     → ResultOf (worldOf p) caller (outcomeOf (p .kernel) (p .sizes .threads) caller)
 unfolding outcomeOf
 result-is p few caller =
@@ -221,7 +244,7 @@ result-is p few caller =
       datum = split (eqb caller 255) (λ e. rw e) (λ e. rw e);
     }
 
-left-is : (p : Plant) → Whole (p .sizes) p → Left (worldOf p) (closed p)
+pub left-is : (p : Plant) → Whole (p .sizes) p → Left (worldOf p) (closed p)
 left-is p w =
     record {
       sizes = refl;
@@ -240,10 +263,10 @@ left-is p w =
 -- ---- ONE STEP
 
 module _ (t : Tables) (c : Clock) (s : Step) (host : Host t c s) where
-  abbrev p : Plant
+  abbrev pub p : Plant
   p = opened t
 
-  abbrev n : ℕ
+  abbrev pub n : ℕ
   n = refusalOf p c s
 
   -- tables that break no rule have at most 16 threads
@@ -266,46 +289,45 @@ module _ (t : Tables) (c : Clock) (s : Step) (host : Host t c s) where
         datum = refl;
       }
 
-  abbrev h : Plant
+  abbrev pub h : Plant
   h = settled (budgetOf (t .sizes .threads)) (acted p (c .time) s)
 
   module _ (e : n ≡ 0) where
-    hangs : Hangs t c
-    hangs = record { together = test-hangs p c (refusal-none p c s e .hangs); sized = host .lengths }
+    pub hangs : Hangs t c
+    hangs = record { together = test-hangs p c (refusal-none p c s e .hangs); sized = host-sized t (host .tables) }
 
-    begun-whole : Whole (t .sizes) p
-    begun-whole = good-whole p (hangs .together .good) (host .lengths)
+    pub begun-whole : Whole (t .sizes) p
+    begun-whole = good-whole p (hangs .together .good) (host-sized t (host .tables))
 
-    acted-whole : Whole (t .sizes) (acted p (c .time) s)
+    pub acted-whole : Whole (t .sizes) (acted p (c .time) s)
     acted-whole = step-acts p c s (refusal-none p c s e) begun-whole .done .whole
 
-    code : stepped t c s .outcome .code ≡ 0
+    pub code : stepped t c s .outcome .code ≡ 0
     code = step-code t c s ∙ e
 
-    own : {x : Plant} → Whole (t .sizes) x → Whole (x .sizes) x
+    pub own : {x : Plant} → Whole (t .sizes) x → Whole (x .sizes) x
     own {x} v = subst (λ (y : Sizes). Whole y x) (sym (v .same)) v
 
-    settled-whole : Whole (h .sizes) h
+    pub settled-whole : Whole (h .sizes) h
     settled-whole = own (settles t c s hangs code .tries .done .whole)
 
     accepted-is : StepOf t c s (doneWith h c s)
     unfolding doneWith
     accepted-is =
-        StepOf.accepted (λ m b. first-broken p c s (host .object) .none e m (broken-breaks t c s (λ x. few-then (λ y. absurd (omega (arith, e, y)))) b)) (worldOf (acted p (c .time) s)) (worldOf h)
-        (act-is t c s begun-whole (host .operand) e)
+        StepOf.accepted (first-broken t c s (host .tables .threads) (host .step .object) .none e) (worldOf (acted p (c .time) s)) (worldOf h)
+        (act-is t c s begun-whole (host .step .operand) e)
         (settles-is (budgetOf (t .sizes .threads)) (acted p (c .time) s) (own acted-whole) (settles t c s hangs code .ended))
         (left-is h settled-whole) (clock-is c (host .time) (s .kind)) (result-is h (settled-whole .sizes .threads .1) (s .caller))
 
   -- EVERY STEP IS AS DOCUMENT 01 TELLS IT
   pub step-is : StepOf t c s (stepped t c s)
   step-is =
+      let first = first-broken t c s (host .tables .threads) (host .step .object) in
       same-or n 0
       (λ e. subst (StepOf t c s) (sym (step-done t c s (step-code t c s ∙ e))) (accepted-is e))
       (λ d.
       subst (StepOf t c s) (sym (step-stopped t c s (λ x. d (sym (step-code t c s) ∙ x))))
-      (StepOf.refused n (breaks-broken t c s (λ x. few-then (λ y. absurd (omega (arith, x, y)))) (first-broken p c s (host .object) .broken d))
-      (λ m l b.
-      first-broken p c s (host .object) .before m l (broken-breaks t c s (λ x. few-then (λ y. absurd (omega (arith, x, y, l)))) b))
+      (StepOf.refused n (first .broken d) (first .before)
       (refused-is d)))
 
 -- DEMAND 2: what document 01 tells of a step, `stepped` gives back, and it is the only answer of which it is told

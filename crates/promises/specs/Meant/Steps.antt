@@ -3,7 +3,7 @@
 use Prim.Native.Nat.{ℕ, suc, _-_, _%_, _≤_, _<_}
 use native.Mathlib.Nat.{mod-eq-of-lt}
 use native.Mathlib.Omega.{arith}
-use mathlib.Core.Path.{_≡_, refl}
+use mathlib.Core.Path.{_≡_}
 use lib.IntN.{pos, negsuc}
 use borrow.Author.Tests.{lt-ltb, le-ltb}
 use Rattle.kernel.specs.declared.time.SystemTime.{SystemTime}
@@ -17,7 +17,6 @@ use Rattle.kernel.specs.Reference.{suspendedOn, resumed}
 use Rattle.kernel.specs.Delay.{sleptFor, sleptUntil}
 use Rattle.kernel.specs.Event.{eventSignalled, eventWaited}
 use Rattle.kernel.specs.Ticking.{ticked}
-use Rattle.kernel.proofs.TablesLaws.{Sized}
 use Rattle.library.specs.declared.calls.Step.{Step}
 use Rattle.library.specs.declared.tables.Plant.{Plant}
 use Rattle.library.specs.Tables.{withKernel}
@@ -25,15 +24,10 @@ use Rattle.library.specs.Binary.{binarySignalled}
 use Rattle.library.specs.Mailbox.{postTried, fetchTried, mailboxReset, mailboxResumed}
 use Rattle.library.specs.Pool.{allocTried, putBack}
 use Rattle.library.specs.Acting.{messageOf, waitBegun, effected, actedOnKernel, boxEffected, actedOnBox, acted}
-use Rattle.promises.specs.Meant.Words.{OnlyAnswered, finish-only}
 
 -- "A thread's call that doesn't sleep finishes at once", and "An answer or datum not named is 0"
 abbrev pub atOnce : Plant → ℕ → Plant
 atOnce p i = withKernel p (finished (p .kernel) i (pos 0) 0)
-
--- with 0 and 0, the thread's call or the interrupt's, and that is all
-pub at-once-answers : (p : Plant) (i : ℕ) → Sized (p .kernel) → OnlyAnswered (p .kernel) (atOnce p i .kernel) i (pos 0) 0
-at-once-answers p i z = finish-only (p .kernel) z i (pos 0) 0
 
 -- "unfinished call (kind, object, operand, full timeout ..)"
 abbrev pub keptCall : ℕ → ℕ → ℕ → ℕ → Call
@@ -110,10 +104,3 @@ rows p now s =
   where
     small : s .a ≤ 31 → s .a % 256 ≡ s .a
     small h = mod-eq-of-lt (omega arith)
-
--- ---- an example
-
--- an interrupt's signal of semaphore 0 is row 3
-pub row-example : (p : Plant) (now : SystemTime) → acted p now (record { kind = 3; caller = 255; object = 0; a = 0; timeout = 0 })
-    ≡ atOnce (withKernel p (signalled (p .kernel) (p .sizes .threads) 0)) 255
-row-example p now = rows p now (record { kind = 3; caller = 255; object = 0; a = 0; timeout = 0 }) .signal refl

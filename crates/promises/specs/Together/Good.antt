@@ -140,7 +140,7 @@ pub record Good (p : Plant) : Type 0 where
   pub threads : (i : ℕ) → i < p .sizes .threads → GoodThread (p .sizes) (threadAt (p .kernel) i)
 
 -- "Tables that hang together"
-pub record HangTogether (p : Plant) (c : Clock) : Type 0 where
+pub record RulesHold (p : Plant) (c : Clock) : Type 0 where
   pub good : Good p
   -- ".. the frequency .. in range"
   pub frequency : (1 ≤ c .frequency) × (c .frequency ≤ 1000000)

@@ -43,7 +43,7 @@ use Rattle.promises.specs.Together.Good.{
   GoodMailbox,
   GoodPool,
   Good,
-  HangTogether,
+  RulesHold,
 }
 use Rattle.promises.specs.Together.RowTests.{row-good, good-row}
 use Rattle.promises.specs.Together.PlaceTests.{sizes-good, good-sizes, counters-good, good-counters, references-good, good-references}
@@ -70,7 +70,7 @@ frequency-good f e = let x = both-means (leb 1 f) (leb f 1000000) e in (leb-true
 
 module _ (p : Plant) (c : Clock) where
   -- tables that pass the test hang together
-  pub test-hangs : hangsTogether p c ≡ true → HangTogether p c
+  pub test-hangs : hangsTogether p c ≡ true → RulesHold p c
   unfolding hangsTogether runningFree
   test-hangs e =
       let a = both-means (sizesFit (p .sizes)) _ e in
@@ -95,7 +95,7 @@ module _ (p : Plant) (c : Clock) where
       }
 
   -- tables that hang together pass the test
-  pub hangs-test : HangTogether p c → hangsTogether p c ≡ true
+  pub hangs-test : RulesHold p c → hangsTogether p c ≡ true
   unfolding hangsTogether runningFree
   hangs-test g =
       let s = g .good .sizes in
@@ -109,7 +109,7 @@ module _ (p : Plant) (c : Clock) where
       (eq-eqb (threadAt (p .kernel) (firstReady (p .kernel) (p .sizes .threads)) .call .kind) 0 (g .running))))))))
 
   -- the Bool test and the record of statements say the same
-  pub hangs-exactly : (hangsTogether p c ≡ true) ↔ HangTogether p c
+  pub hangs-exactly : (hangsTogether p c ≡ true) ↔ RulesHold p c
   hangs-exactly = (test-hangs, hangs-test)
 
 -- ---- fresh tables

@@ -1,233 +1,219 @@
--- The three demands, over any configuration, any list of steps from fresh tables, refused steps in between wherever.
-use Prim.Native.Nat.{ℕ, suc, _+_, _≤_, _<_}
+-- THE THREE DEMANDS. The first two are of any tables, clock and step of a host; the third of any run, refused steps included, from any
+-- tables that hang together, and so from fresh ones. Their words are those of room Paper: what they cite of the code is `stepped` alone,
+-- which each function is proved to compute.
+use Prim.Native.Nat.{ℕ, _+_, _≤_, _<_}
 use native.Mathlib.Omega.{arith}
-use mathlib.Core.Path.{_≡_, refl, sym, _∙_}
-use mathlib.Core.Logic.{_≢_, _⊎_}
-use mathlib.Core.Bool.{true, false}
-use mathlib.Core.List.{List, _∷_, _++_}
-use lib.ListN.{getD, replicate}
+use mathlib.Core.Path.{_≡_, refl, sym, _∙_, subst}
+use mathlib.Core.Logic.{_≢_, _↔_}
+use mathlib.Core.Bool.{false}
+use mathlib.Core.List.{List, [], _∷_}
 use Rattle.kernel.specs.declared.clock.Clock.{Clock}
+use Rattle.kernel.specs.declared.records.Thread.{Thread}
 use Rattle.kernel.specs.declared.units.Rate.{Rate}
-use Rattle.kernel.specs.declared.records.Call.{Call}
-use Rattle.kernel.specs.declared.records.Kernel.{Kernel}
-use Rattle.kernel.specs.Numbers.{ready, ok, timedOut, wasReset}
-use Rattle.kernel.specs.Records.{blank}
-use Rattle.kernel.specs.Places.{semaphorePlace, poolPlace}
-use Rattle.kernel.specs.Tables.{threadAt}
 use Rattle.kernel.specs.Units.{frequencyOf, frequencyFits}
-use Rattle.kernel.proofs.Cases.{split, chosen}
-use Rattle.kernel.proofs.WaitersLaws.{waits}
+use Rattle.kernel.proofs.Cases.{same-or, in-or-out, chosen}
 use Rattle.library.specs.declared.calls.Step.{Step}
+use Rattle.library.specs.declared.fresh.Made.{Made}
 use Rattle.library.specs.declared.sizes.Sizes.{Sizes}
 use Rattle.library.specs.declared.tables.Tables.{Tables}
-use Rattle.library.specs.declared.fresh.Made.{Made}
-use Rattle.library.specs.Acting.{acted}
 use Rattle.library.specs.Fresh.{made}
-use Rattle.library.specs.Settling.{isSettled, settled}
 use Rattle.library.specs.Sizes.{sizesFit}
-use Rattle.library.specs.Tables.{opened}
-use Rattle.rules.specs.PlaceRules.{inUse}
-use Rattle.steps.specs.Refusal.{refusalOf}
 use Rattle.steps.specs.declared.stepping.Stepped.{Stepped}
-use Rattle.steps.specs.Stepping.{budgetOf, doneWith, stepped}
-use Rattle.steps.proofs.StepLaws.{step-code, Untouched}
+use Rattle.steps.specs.Stepping.{stepped}
+use Rattle.promises.specs.Paper.World.{found}
+use Rattle.promises.specs.Paper.Together.{TicksFit, HangTogether}
+use Rattle.promises.specs.Paper.Host.{Host, HostSteps}
+use Rattle.promises.specs.Paper.Refusals.{Broken, RefusedWith}
+use Rattle.promises.specs.Paper.Step.{StepOf}
+use Rattle.promises.specs.Paper.Waking.{rowOf}
+use Rattle.promises.specs.Paper.Run.{ticksIn, signalsIn, joinsIn, higher, WokenIn}
 use Rattle.promises.specs.Runs.Run.{ran}
-use Rattle.promises.specs.Runs.Answers.{step-answers, step-done}
-use Rattle.promises.specs.Together.Good.{HangTogether}
-use Rattle.promises.specs.Together.Hanging.{all-blank}
-use Rattle.promises.specs.Kept.CounterRule.{semaphore-place, pool-place}
-use Rattle.promises.specs.Kept.Story.{Event, sleepIn, isWoke, Idle, Story, story-sleeps}
-use Rattle.promises.specs.Kept.Chain.{Sound, chain-story}
-use Rattle.promises.specs.Kept.Whole.{good-whole}
-use Rattle.promises.specs.Kept.Settles.{settled-whole}
-use Rattle.promises.specs.Runs.Flags.{someIn, maskBit}
-use Rattle.promises.specs.Runs.History.{Hangs, History, recorded, run-hangs, made-hang, ticksIn, someResult, settles}
-use Rattle.promises.specs.Runs.Lives.{
-  EndsInTime,
-  ends-at,
-  story-ends,
-  chain-counted,
-  counted-all,
-  WokenWithin,
-  none-counted,
-  Mode,
-  atWork,
-  Lives,
-  InMode,
-  modeAfter,
-  ownEvents,
-  story-lives,
-  wokeWith,
-  story-message,
+use Rattle.promises.specs.Kept.Steps.{made-hang}
+use Rattle.promises.specs.Runs.Moments.{
+  moments,
+  Going,
+  going-on,
+  WakingOf,
+  sleeps-end,
+  TurnAt,
+  turn-comes,
+  EachThread,
+  Throughout,
+  each-step,
 }
-use Rattle.promises.specs.Runs.Turns.{higher, TurnWithin, chain-turn}
+use Rattle.promises.specs.Meant.Together.{rules-together}
+use Rattle.promises.specs.Meant.Step.{sized-host, step-is, demand-two}
 
--- thread i's turn comes with the n-th signal at the place p, "with 0 unless its timeout or a reset made it ready sooner"
-pub record ReleasedWithin (p i n : ℕ) (es : List Event) : Type 0 where
-  pub turn : TurnWithin p i n es
-  pub message : someIn (isWoke i) es ≡ true → (wokeWith i es ≡ ok) ⊎ ((wokeWith i es ≡ timedOut) ⊎ (wokeWith i es ≡ wasReset))
+-- ---- DEMAND 1: "Any tables and any step get an answer. Bad ones get the refusal number of document 01; then every table byte stays as it
+-- was, no thread is woken, no call finishes"
 
--- ---- demand 3, of a run from any tables that hang together
+pub record Answered (t : Tables) (c : Clock) (s : Step) : Type 0 where
+  -- "Given exactly when", "in the order of checking": its rule is broken and none before it
+  pub refused : (n : ℕ) → n ≢ 0 → (stepped t c s .outcome .code ≡ n) ↔ (Broken t c s n × ((m : ℕ) → m < n → Broken t c s m → ⊥))
+  -- accepted is what breaks none
+  pub accepted : (stepped t c s .outcome .code ≡ 0) ↔ ((n : ℕ) → Broken t c s n → ⊥)
+  -- and a refused step leaves tables and clock, wakes nobody and finishes nothing
+  pub untouched : stepped t c s .outcome .code ≢ 0 → RefusedWith t c (stepped t c s .outcome .code) (stepped t c s)
+  -- there are seven numbers
+  pub numbers : stepped t c s .outcome .code ≤ 7
 
-module _ (t : Tables) (c : Clock) (g : Hangs t c) (ss : List Step) (h : History t c ss) where
-  abbrev k : Kernel
-  k = opened t .kernel
+-- the rules have the numbers 1 to 7
+broken-number : {t : Tables} {c : Clock} {s : Step} {n : ℕ} → Broken t c s n → (1 ≤ n) × (n ≤ 7)
+broken-number (Broken.tables a) = (omega arith, omega arith)
+broken-number (Broken.no-kind a) = (omega arith, omega arith)
+broken-number (Broken.other-kind a) = (omega arith, omega arith)
+broken-number (Broken.caller a b) = (omega arith, omega arith)
+broken-number (Broken.tick a b) = (omega arith, omega arith)
+broken-number (Broken.wait a b) = (omega arith, omega arith)
+broken-number (Broken.box-wait a b d) = (omega arith, omega arith)
+broken-number (Broken.semaphore a b d) = (omega arith, omega arith)
+broken-number (Broken.queue a b d) = (omega arith, omega arith)
+broken-number (Broken.reference a b d) = (omega arith, omega arith)
+broken-number (Broken.thread a b) = (omega arith, omega arith)
+broken-number (Broken.mailbox a b d) = (omega arith, omega arith)
+broken-number (Broken.pool a b d) = (omega arith, omega arith)
+broken-number (Broken.reset a b) = (omega arith, omega arith)
+broken-number (Broken.pool-object a b) = (omega arith, omega arith)
+broken-number (Broken.mask a b) = (omega arith, omega arith)
+broken-number (Broken.sleep-for a b) = (omega arith, omega arith)
+broken-number (Broken.sleep-until a b) = (omega arith, omega arith)
+broken-number (Broken.signal a b) = (omega arith, omega arith)
+broken-number (Broken.suspend a b) = (omega arith, omega arith)
+broken-number (Broken.free a b d) = (omega arith, omega arith)
+broken-number (Broken.add a b d) = (omega arith, omega arith)
 
-  sound : Sound (t .sizes) k
-  sound = good-whole (opened t) (g .together .good) (g .sized) .kernel
+module _ (t : Tables) (c : Clock) (s : Step) (host : Host t c s) where
+  abbrev n : ℕ
+  n = stepped t c s .outcome .code
 
-  few : t .sizes .threads ≤ 16
-  few = g .together .good .sizes .threads .1
+  -- by what the step is: accepted with 0, or refused with the number of the first rule that it breaks
+  data Verdict : Type 0 where
+    taken : n ≡ 0 → ((m : ℕ) → Broken t c s m → ⊥) → Verdict
+    stopped : Broken t c s n → ((m : ℕ) → m < n → Broken t c s m → ⊥) → RefusedWith t c n (stepped t c s) → Verdict
 
-  module _ (i : ℕ) (within : i < t .sizes .threads) where
-    -- the story of thread i
-    story : Story (t .sizes) i (threadAt (opened (ran t c ss .tables) .kernel) i) (threadAt k i) (h .events)
-    story = chain-story (t .sizes) few i within (h .chain) (sound .rules .sized) (sound .rows i within)
+  verdict : StepOf t c s (stepped t c s) → Verdict
+  verdict (StepOf.refused m b f r) =
+      let e = r .code in
+      Verdict.stopped (subst (Broken t c s) (sym e) b) (λ k l. f k (rw e at l)) (subst (λ (k : ℕ). RefusedWith t c k (stepped t c s)) (sym e) r)
+  verdict (StepOf.accepted b w x a z l d r) = Verdict.taken (r .code) b
 
-    -- a. "a sleep with timeout t ends by its t-th later accepted tick", wherever in the run it began
-    pub sleeps-end : (call : Call) (before after : List Event) → h .events ≡ before ++ (sleepIn i call ∷ after)
-        → EndsInTime i call after
-    sleeps-end call before after e = ends-at i call before after (rw e at (story-ends story false (chain-counted i within (h .chain))))
+  -- two first broken rules are one
+  first-rule : (m k : ℕ) → Broken t c s m → ((j : ℕ) → j < m → Broken t c s j → ⊥) → Broken t c s k → ((j : ℕ) → j < k → Broken t c s j → ⊥)
+      → m ≡ k
+  first-rule m k a f b g = same-or m k (λ e. e) (λ d. in-or-out m k (λ l. absurd (g m l a)) (λ l. absurd (f k (omega arith) b)))
 
-    -- b. "each sleep ends at most once, at its first waking, with that waking's message"
-    pub one-waking : (m : Mode) → InMode m (threadAt k i)
-        → Lives m (ownEvents i (h .events)) × InMode (modeAfter m (ownEvents i (h .events))) (threadAt (opened (ran t c ss .tables) .kernel) i)
-    one-waking = story-lives story
+  answered : Verdict → Answered t c s
+  answered (Verdict.taken e b) =
+      record {
+        refused = λ m d. (λ x. absurd (d (sym x ∙ e)), λ x. absurd (b m (x .0)));
+        accepted = (λ x. b, λ x. e);
+        untouched = λ d. absurd (d e);
+        numbers = omega (arith, e);
+      }
+  answered (Verdict.stopped b f r) =
+      record {
+        refused = λ m d. (
+          λ x. (subst (Broken t c s) x b, λ k l. f k (rw x l)),
+          λ x. first-rule n m b f (x .0) (x .1),
+        );
+        accepted = (λ x. absurd (omega (arith, x, broken-number b .0)), λ x. absurd (x n b));
+        untouched = λ d. r;
+        numbers = broken-number b .1;
+      }
 
-    -- c. "a semaphore waiter with w higher ones is released by the (w+1)-th later signal"
-    pub turn-comes : (p : ℕ) → p < 20 → inUse (t .sizes) p ≡ true → waits k p i ≡ true
-        → ReleasedWithin p i (suc (higher k p i)) (h .events)
-    turn-comes p semaphore used waiting =
-        record {
-          turn = chain-turn (t .sizes) (g .together .good .sizes) p (omega arith) used i within (h .chain) sound waiting
-              (suc (higher k p i)) (omega arith);
-          message = story-message p semaphore story waiting;
-        }
+  pub demand-1 : Answered t c s
+  demand-1 = answered (verdict (step-is t c s host))
 
--- a sleep that goes on, as the results show it: it ends by the last of its remaining ticks
-pub ticks-wake : (t : Tables) (c : Clock) (g : Hangs t c) (ss : List Step) (i : ℕ) → i < t .sizes .threads
-    → threadAt (opened t .kernel) i .state ≢ ready → threadAt (opened t .kernel) i .remaining ≢ 0
-    → threadAt (opened t .kernel) i .remaining ≤ ticksIn t c ss → someResult (λ o. maskBit i (o .woken)) (ran t c ss .outcomes) ≡ true
-ticks-wake t c g ss i within asleep timed ticks = sym (recorded ss t c g .seen .woken i (omega (arith, few t c g ss h))) ∙ comes
-  where
-    h : History t c ss
-    h = recorded ss t c g .history
+  -- ---- DEMAND 2: "Every accepted step gives the tables, wakeups, finished calls and answer that the NIL manual and document 01 define": it
+  -- is a step as document 01 tells it, and the only one
+  pub demand-2 : StepOf t c s (stepped t c s) × ((r : Stepped) → StepOf t c s r → r ≡ stepped t c s)
+  demand-2 = demand-two t c s host
 
-    left : (n : ℕ) → n ≢ 0 → 1 ≤ n
-    left n d = omega arith
+-- ---- DEMAND 3, from any tables that hang together
 
-    comes : someIn (isWoke i) (h .events) ≡ true
-    comes =
-        split (someIn (isWoke i) (h .events)) (λ e. e)
-        (λ e.
-        let none = none-counted (isWoke i) (h .events) e in
-        let x = story-sleeps (story t c g ss h i within) asleep none .timed timed in
-        let f = counted-all i false (h .events) (chain-counted i within (h .chain)) in
-        absurd (omega (
-          arith,
-          ticks,
-          h .ticks,
-          f,
-          none,
-          x .0,
-          left (threadAt (opened (ran t c ss .tables) .kernel) i .remaining)
-              (x .1),
-        )))
+-- a timed call's remaining ticks are at most its timeout
+ticks-left : {a : Thread} → TicksFit a → a .call .timeout ≤ 4294967294 → a .remaining ≤ a .call .timeout
+ticks-left (TicksFit.none h r) l = omega (arith, r)
+ticks-left (TicksFit.some n m k u) l = u
 
--- ---- the demands
+module _ (t : Tables) (c : Clock) (g : Going t c) (ss : List Step) (hs : HostSteps ss) where
+  -- a. whoever is asleep between two steps, in a call with a timeout of at most 4294967294, is in the woken mask of a later result by as many
+  -- accepted ticks, by a waking that document 01 gives it, whose message its record then has
+  pub sleep-ends : (i : ℕ) → i < t .sizes .threads → rowOf t i .state ≢ 0 → rowOf t i .call .timeout ≤ 4294967294
+      → rowOf t i .call .timeout ≤ ticksIn (moments t c ss) → WokenIn i (WakingOf i) (moments t c ss)
+  sleep-ends i l n m r =
+      sleeps-end ss hs t c g i l n (λ z. absurd (omega (arith, m, z))) (omega (arith, r, ticks-left (g .together .threads i l .ticks) m))
 
--- what `made` makes has the sizes that were asked for
-made-sizes : (y : Sizes) (r : Rate) → made y r .code ≡ 0 → made y r .tables .sizes ≡ y
+  -- b. what each accepted step makes of each thread that slept before it, and of each that did not
+  pub one-waking : Throughout EachThread (moments t c ss)
+  one-waking = each-step ss hs t c g
+
+  -- c. a waiter at a semaphore with w higher ones is in the woken mask by the (w+1)-th accepted signal, if no higher one begins to wait there
+  pub turn-of-semaphore : (i p : ℕ) → i < t .sizes .threads → p < t .sizes .semaphores → rowOf t i .state ≡ 3 → rowOf t i .place ≡ p
+      → joinsIn p i (moments t c ss) ≡ false → higher t p i < signalsIn p (moments t c ss) → WokenIn i (TurnAt p i) (moments t c ss)
+  turn-of-semaphore i p l there st pl none r =
+      turn-comes p (omega (arith, there, g .together .sizes .semaphores)) ss hs t c g i l st pl none r
+
+  -- "(a pool's too)"
+  pub turn-of-pool : (i q : ℕ) → i < t .sizes .threads → q < t .sizes .pools → rowOf t i .state ≡ 3 → rowOf t i .place ≡ 16 + q
+      → joinsIn (16 + q) i (moments t c ss) ≡ false → higher t (16 + q) i < signalsIn (16 + q) (moments t c ss)
+      → WokenIn i (TurnAt (16 + q) i) (moments t c ss)
+  turn-of-pool i q l there st pl none r =
+      turn-comes (16 + q) (omega (arith, there, g .together .sizes .pools)) ss hs t c g i l st pl none r
+
+-- ---- "Fresh tables pass, and accepted steps keep it so"
+
+-- the time of fresh tables is 0
+fresh-time : (y : Sizes) (r : Rate) → made y r .clock .time .0 ≡ 0
 unfolding made
-made-sizes y r e =
-    split (sizesFit y)
-    (λ a. split (frequencyFits (frequencyOf r)) (λ b. rw (a, b)) (λ b. absurd (omega (arith, rw (a, b) at e))))
-    (λ a. absurd (omega (arith, rw a at e)))
+fresh-time y r =
+    let P : Made → Type 0 = λ m. m .clock .time .0 ≡ 0 in
+    chosen P (sizesFit y) (λ e. chosen P (frequencyFits (frequencyOf r)) (λ f. refl) (λ f. refl)) (λ e. refl)
 
--- and all its threads at work
-made-idle : (y : Sizes) (r : Rate) (i : ℕ) → Idle (threadAt (opened (made y r .tables) .kernel) i)
-unfolding made
-made-idle y r i =
-    let P : Made → Type 0 = λ m. Idle (threadAt (opened (m .tables) .kernel) i) in
-    chosen P (sizesFit y) (λ e. chosen P (frequencyFits (frequencyOf r)) (λ f. fresh) (λ f. fresh)) (λ e. fresh)
-  where
-    fresh : Idle (getD (replicate 16 blank) i blank)
-    fresh = rw (all-blank 16 blank i) (record { is-ready = refl; no-call = refl })
-
--- from fresh tables of the sizes y, over any steps, with any history of them
-module _ (y : Sizes) (r : Rate) (legal : made y r .code ≡ 0) where
-  abbrev t₀ : Tables
-  t₀ = made y r .tables
-
-  abbrev c₀ : Clock
-  c₀ = made y r .clock
-
-  -- "Fresh tables pass, and accepted steps keep it so"
-  pub always-together : (ss : List Step) → HangTogether (opened (ran t₀ c₀ ss .tables)) (ran t₀ c₀ ss .clock)
-  always-together ss = run-hangs t₀ c₀ ss (made-hang y r legal) .together
-
-  in-sizes : {i : ℕ} → i < y .threads → i < t₀ .sizes .threads
-  in-sizes l = rw (made-sizes y r legal) l
-
-  module _ (ss : List Step) (h : History t₀ c₀ ss) (i : ℕ) (within : i < y .threads) where
-    -- DEMAND 3 a: "a sleep with timeout t ends by its t-th later accepted tick"
-    pub demand-3a : (call : Call) (before after : List Event) → h .events ≡ before ++ (sleepIn i call ∷ after)
-        → 1 ≤ call .timeout → call .timeout ≤ 4294967294 → WokenWithin i (call .timeout) after
-    demand-3a = sleeps-end t₀ c₀ (made-hang y r legal) ss h i (in-sizes within)
-
-    -- DEMAND 3 b: "each sleep ends at most once, at its first waking, with that waking's message", which the record holds until the call
-    -- is continued
-    pub demand-3b : Lives atWork (ownEvents i (h .events))
-        × InMode (modeAfter atWork (ownEvents i (h .events))) (threadAt (opened (ran t₀ c₀ ss .tables) .kernel) i)
-    demand-3b = one-waking t₀ c₀ (made-hang y r legal) ss h i (in-sizes within) atWork (made-idle y r i)
-
-  -- DEMAND 3 c: "a semaphore waiter with w higher ones is released by the (w+1)-th later signal", after any steps xs, over any steps ss
-  module _ (xs : List Step) where
-    abbrev t : Tables
-    t = ran t₀ c₀ xs .tables
-
-    abbrev c : Clock
-    c = ran t₀ c₀ xs .clock
-
-    module _ (ss : List Step) (h : History t c ss) (i : ℕ) (within : i < t .sizes .threads) where
-      -- at a semaphore
-      pub demand-3c : (s : ℕ) → s < t .sizes .semaphores → waits (opened t .kernel) (semaphorePlace s) i ≡ true
-          → ReleasedWithin (semaphorePlace s) i (suc (higher (opened t .kernel) (semaphorePlace s) i)) (h .events)
-      demand-3c s l w =
-          let g = run-hangs t₀ c₀ xs (made-hang y r legal) in
-          let p = semaphore-place (opened t .kernel) (t .sizes) (g .together .good .sizes) s l in
-          turn-comes t c g ss h i within s (omega (arith, p .0)) (p .1) w
-
-      -- "(a pool's too)"
-      pub demand-3c-pools : (q : ℕ) → q < t .sizes .pools → waits (opened t .kernel) (poolPlace q) i ≡ true
-          → ReleasedWithin (poolPlace q) i (suc (higher (opened t .kernel) (poolPlace q) i)) (h .events)
-      demand-3c-pools q l w =
-          let g = run-hangs t₀ c₀ xs (made-hang y r legal) in
-          let p = pool-place (opened t .kernel) (t .sizes) (g .together .good .sizes) q l (poolPlace q) refl in
-          turn-comes t c g ss h i within (poolPlace q) (p .1 .0) (p .1 .1) w
-
--- DEMAND 1: "Any tables and any step get an answer. Bad ones get the refusal number of document 01; then every table byte stays as it was,
--- no thread is woken, no call finishes"
-pub demand-1 : (t : Tables) (c : Clock) (s : Step)
-    → (stepped t c s .outcome .code ≡ refusalOf (opened t) c s) × ((stepped t c s .outcome .code ≡ 0) ⊎ Untouched t c (stepped t c s))
-demand-1 t c s = (step-code t c s, step-answers t c s)
-
--- DEMAND 2: an accepted step on tables that hang together is its act, settled wholly; and that is the only answer
-pub record DoneWholly (t : Tables) (c : Clock) (s : Step) : Type 0 where
-  pub done : stepped t c s ≡ doneWith (settled (budgetOf (t .sizes .threads)) (acted (opened t) (c .time) s)) c s
-  -- "Settling ends when the running thread has no unfinished call"
-  pub ended : isSettled (settled (budgetOf (t .sizes .threads)) (acted (opened t) (c .time) s)) ≡ true
-  -- no larger budget would settle more
-  pub whole : (n : ℕ) → settled (budgetOf (t .sizes .threads) + n) (acted (opened t) (c .time) s)
-      ≡ settled (budgetOf (t .sizes .threads)) (acted (opened t) (c .time) s)
-  -- two answers that meet the statement coincide
-  pub only : (r q : Stepped) → r ≡ stepped t c s → q ≡ stepped t c s → r ≡ q
-
-pub demand-2 : (t : Tables) (c : Clock) (s : Step) → Hangs t c → stepped t c s .outcome .code ≡ 0 → DoneWholly t c s
-demand-2 t c s g e =
+pub fresh-going : (y : Sizes) (r : Rate) → made y r .code ≡ 0 → Going (made y r .tables) (made y r .clock)
+fresh-going y r e =
+    let h = made-hang y r e in
     record {
-      done = step-done t c s e;
-      ended = settles t c s g e .ended;
-      whole = settled-whole (budgetOf (t .sizes .threads)) (acted (opened t) (c .time) s) (settles t c s g e .ended);
-      only = λ r q a b. a ∙ sym b;
+      together = rules-together (made y r .tables) (made y r .clock) (h .together);
+      tables = sized-host (made y r .tables) (h .sized);
+      time = rw (fresh-time y r) (omega arith);
     }
+
+pub run-going : (ss : List Step) → HostSteps ss → (t : Tables) (c : Clock) → Going t c → Going (ran t c ss .tables) (ran t c ss .clock)
+unfolding ran
+run-going [] hs t c g = g
+run-going (s ∷ ss) (HostSteps.more h hs) t c g = run-going ss hs (stepped t c s .tables) (stepped t c s .clock) (going-on t c g s h)
+
+-- ---- DEMAND 3, from fresh tables of the sizes y, after any steps xs, over any steps ss
+module _ (y : Sizes) (r : Rate) (legal : made y r .code ≡ 0) (xs : List Step) (hx : HostSteps xs) where
+  abbrev pub t₁ : Tables
+  t₁ = ran (made y r .tables) (made y r .clock) xs .tables
+
+  abbrev pub c₁ : Clock
+  c₁ = ran (made y r .tables) (made y r .clock) xs .clock
+
+  going : Going t₁ c₁
+  going = run-going xs hx (made y r .tables) (made y r .clock) (fresh-going y r legal)
+
+  pub always-together : HangTogether (found t₁) c₁
+  always-together = going .together
+
+  module _ (ss : List Step) (hs : HostSteps ss) (i : ℕ) (within : i < t₁ .sizes .threads) where
+    -- "a sleep with timeout t ends by its t-th later accepted tick"
+    pub demand-3a : rowOf t₁ i .state ≢ 0 → rowOf t₁ i .call .timeout ≤ 4294967294 → rowOf t₁ i .call .timeout ≤ ticksIn (moments t₁ c₁ ss)
+        → WokenIn i (WakingOf i) (moments t₁ c₁ ss)
+    demand-3a = sleep-ends t₁ c₁ going ss hs i within
+
+    -- "each sleep ends at most once, at its first waking, with that waking's message"
+    pub demand-3b : Throughout EachThread (moments t₁ c₁ ss)
+    demand-3b = one-waking t₁ c₁ going ss hs
+
+    -- "a semaphore waiter with w higher ones is released by the (w+1)-th later signal"
+    pub demand-3c : (p : ℕ) → p < t₁ .sizes .semaphores → rowOf t₁ i .state ≡ 3 → rowOf t₁ i .place ≡ p
+        → joinsIn p i (moments t₁ c₁ ss) ≡ false → higher t₁ p i < signalsIn p (moments t₁ c₁ ss) → WokenIn i (TurnAt p i) (moments t₁ c₁ ss)
+    demand-3c p = turn-of-semaphore t₁ c₁ going ss hs i p within
+
+    pub demand-3c-pools : (q : ℕ) → q < t₁ .sizes .pools → rowOf t₁ i .state ≡ 3 → rowOf t₁ i .place ≡ 16 + q
+        → joinsIn (16 + q) i (moments t₁ c₁ ss) ≡ false → higher t₁ (16 + q) i < signalsIn (16 + q) (moments t₁ c₁ ss)
+        → WokenIn i (TurnAt (16 + q) i) (moments t₁ c₁ ss)
+    demand-3c-pools q = turn-of-pool t₁ c₁ going ss hs i q within

@@ -29,9 +29,9 @@ use Rattle.rules.specs.Hanging.{runningFree, hangsTogether}
 use Rattle.steps.specs.declared.stepping.Outcome.{Outcome}
 use Rattle.steps.specs.Refusal.{refusalOf}
 use Rattle.steps.specs.Stepping.{maskOf, outcomeOf, doneWith, refusedWith, stepped}
-use Rattle.trace.specs.declared.reader.Found.the-variants.{Ended}
+use Rattle.trace.specs.declared.decoding.Found.the-variants.{Ended}
 use Rattle.trace.specs.Ordered.{getN}
-use Rattle.trace.specs.Reader.{endsInside, lengthRefusal, stepRefusal, decodedSizes, decodedStep, openedRead, steppedRead, nextRead}
+use Rattle.trace.specs.Decoding.{endsInside, lengthRefusal, stepRefusal, decodedSizes, decodedStep, openedRead, steppedRead, nextRead}
 use Rattle.trace.specs.Traces.{Reading, readFrom, readAll}
 use Rattle.promises.specs.Runs.Run.{Ran, ran}
 

@@ -1,0 +1,81 @@
+-- A RUN, AS A HOST SEES IT: the steps, their results, and the tables between two steps; what is counted in it, and when a thread was woken.
+use Prim.Native.Nat.{ℕ, _+_, _<_}
+use mathlib.Core.Path.{_≡_}
+use mathlib.Core.Logic.{_⊎_}
+use mathlib.Core.Bool.{Bool, true, false, cond, not, _&&_, _||_}
+use mathlib.Core.List.{List, [], _∷_}
+use lib.Dec.{eqb, ltb}
+use lib.IntN.{ℤ, pos, negsuc}
+use lib.Signed.{ltZ}
+use Rattle.kernel.specs.declared.records.Thread.{Thread}
+use Rattle.library.specs.declared.calls.Step.{Step}
+use Rattle.library.specs.declared.tables.Tables.{Tables}
+use Rattle.steps.specs.declared.stepping.Outcome.{Outcome}
+use Rattle.promises.specs.Paper.World.{found}
+use Rattle.promises.specs.Paper.Together.{number, isQueued}
+use Rattle.promises.specs.Paper.Waking.{rowOf, inMask}
+
+-- one step of a run, with the tables before and after it
+pub record Moment : Type 0 where
+  pub before : Tables
+  pub step : Step
+  pub result : Outcome
+  pub after : Tables
+
+abbrev pub isAccepted : Moment → Bool
+isAccepted m = eqb (m .result .code) 0
+
+-- how many moments pass a test
+abbrev pub howMany : (Moment → Bool) → List Moment → ℕ
+howMany f [] = 0
+howMany f (m ∷ ms) = cond (f m) 1 0 + howMany f ms
+
+-- whether any does
+abbrev pub anyOf : (Moment → Bool) → List Moment → Bool
+anyOf f [] = false
+anyOf f (m ∷ ms) = f m || anyOf f ms
+
+-- accepted ticks
+abbrev pub isTick : Moment → Bool
+isTick m = isAccepted m && eqb (m .step .kind) 1
+
+abbrev pub ticksIn : List Moment → ℕ
+ticksIn ms = howMany isTick ms
+
+-- a signal at the place p (a semaphore's number, 16 and more for a pool): 3; 5, which acts "if the counter is below 1"; 21 and 22, which
+-- "put the object on top and signal"
+abbrev pub signalsAt : ℕ → Tables → Step → Bool
+signalsAt p t s =
+    (eqb (s .kind) 3 && eqb (s .object) p)
+    || ((eqb (s .kind) 5 && (eqb (s .object) p && ltZ (found t .counter p) (pos 1)))
+    || ((eqb (s .kind) 21 || eqb (s .kind) 22) && eqb (16 + s .object) p))
+
+abbrev pub signalsIn : ℕ → List Moment → ℕ
+signalsIn p ms = howMany (λ m. isAccepted m && signalsAt p (m .before) (m .step)) ms
+
+-- a thread of higher priority than i that begins to wait at p: 2 and 20, where the timeout is not 0
+abbrev pub joinsAt : ℕ → ℕ → Step → Bool
+joinsAt p i s =
+    ltb (s .caller) i
+    && (not (eqb (s .timeout) 0) && ((eqb (s .kind) 2 && eqb (s .object) p) || (eqb (s .kind) 20 && eqb (16 + s .object) p)))
+
+abbrev pub joinsIn : ℕ → ℕ → List Moment → Bool
+joinsIn p i ms = anyOf (λ m. isAccepted m && joinsAt p i (m .step)) ms
+
+-- the waiters at p of higher priority than i
+abbrev pub higher : Tables → ℕ → ℕ → ℕ
+higher t p i = number (isQueued (found t) p) i
+
+-- thread i is woken in some moment of a run, and in none before it; P says of that moment and of the message in i's record what holds then
+pub data WokenIn (i : ℕ) (P : Moment → ℤ → Type 0) : List Moment → Type 0 where
+  now : {m : Moment} {ms : List Moment} → m .result .code ≡ 0 → inMask i (m .result .woken) ≡ true → P m (rowOf (m .after) i .message)
+      → WokenIn i P (m ∷ ms)
+  later : {m : Moment} {ms : List Moment} → inMask i (m .result .woken) ≡ false → WokenIn i P ms → WokenIn i P (m ∷ ms)
+
+-- the waking of a waiter at a semaphore or a pool, whose record was a: "with 0 unless its timeout or a reset made it ready sooner"
+pub data TurnOf (p : ℕ) (a : Thread) (s : Step) : ℤ → Type 0 where
+  signal : (s .kind ≡ 3) ⊎ (s .kind ≡ 5) → s .object ≡ p → TurnOf p a s (pos 0)
+  object : (s .kind ≡ 21) ⊎ (s .kind ≡ 22) → 16 + s .object ≡ p → TurnOf p a s (pos 0)
+  last-tick : s .kind ≡ 1 → a .remaining ≡ 1 → TurnOf p a s (negsuc 0)
+  -- of a semaphore only
+  reset : s .kind ≡ 4 → s .object ≡ p → p < 16 → TurnOf p a s (negsuc 1)

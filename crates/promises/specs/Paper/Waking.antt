@@ -1,0 +1,180 @@
+-- WAKINGS: what one accepted step makes of a thread that slept before it. Read off the step, its result, and the tables before and after.
+use Prim.Native.Nat.{ℕ, _+_, _-_, _/_, _%_, _^_, _<_}
+use mathlib.Core.Path.{_≡_}
+use mathlib.Core.Logic.{_≢_, _⊎_}
+use mathlib.Core.Bool.{Bool, true, false, cond, _&&_}
+use lib.Dec.{eqb}
+use lib.Bits.{bitAnd, bitOr}
+use lib.IntN.{ℤ, pos, negsuc}
+use Rattle.kernel.specs.declared.time.SystemTime.{SystemTime}
+use Rattle.kernel.specs.declared.records.Answer.{Answer}
+use Rattle.kernel.specs.declared.records.Thread.{Thread}
+use Rattle.library.specs.declared.calls.Step.{Step}
+use Rattle.library.specs.declared.tables.Tables.{Tables}
+use Rattle.promises.specs.Paper.World.{noCall, noAnswer, found, signed}
+
+-- thread i's record between two steps
+abbrev pub rowOf : Tables → ℕ → Thread
+rowOf t i = found t .thread i
+
+-- whether thread i is in a mask
+abbrev pub inMask : ℕ → ℕ → Bool
+inMask i mask = eqb (mask / 2 ^ i % 2) 1
+
+-- "mailbox post; post ahead", "fetch"
+abbrev pub IsPost : ℕ → Type 0
+IsPost kind = (kind ≡ 15) ⊎ (kind ≡ 16)
+
+abbrev pub IsMailing : ℕ → Type 0
+IsMailing kind = IsPost kind ⊎ (kind ≡ 17)
+
+-- a mailbox call of a kind on an object that the step tries: its own, or one that a thread's record kept unfinished
+pub data Tried (t : Tables) (s : Step) (kind object : ℕ) : Type 0 where
+  own : s .kind ≡ kind → s .object ≡ object → Tried t s kind object
+  kept : (j : ℕ) → j < t .sizes .threads → rowOf t j .call .kind ≡ kind → rowOf t j .call .object ≡ object → Tried t s kind object
+
+-- the step s calls out a thread that waits in this state at this place, with this message: "the highest-priority waiter is made ready with
+-- 0"; "all waiters are made ready with -2"; "the waker's a is the message"; "releases the first of the other side's waiters with 0"; ..
+pub data CalledOut (t : Tables) (s : Step) (state place : ℕ) : ℤ → Type 0 where
+  signal : (s .kind ≡ 3) ⊎ (s .kind ≡ 5) → state ≡ 3 → place ≡ s .object → CalledOut t s state place (pos 0)
+  reset : s .kind ≡ 4 → state ≡ 3 → place ≡ s .object → CalledOut t s state place (negsuc 1)
+  release : (s .kind ≡ 7) ⊎ (s .kind ≡ 8) → state ≡ 3 → place ≡ 20 + s .object → CalledOut t s state place (signed (s .a))
+  resume : s .kind ≡ 10 → state ≡ 2 → place ≡ s .object → CalledOut t s state place (signed (s .a))
+  -- a reader by a post, a writer by a fetch
+  post : (b : ℕ) → Tried t s 15 b ⊎ Tried t s 16 b → state ≡ 3 → place ≡ 32 + b → CalledOut t s state place (pos 0)
+  fetch : (b : ℕ) → Tried t s 17 b → state ≡ 3 → place ≡ 28 + b → CalledOut t s state place (pos 0)
+  box-reset : s .kind ≡ 18 → state ≡ 3 → (place ≡ 28 + s .object) ⊎ (place ≡ 32 + s .object) → CalledOut t s state place (negsuc 1)
+  object : (s .kind ≡ 21) ⊎ (s .kind ≡ 22) → state ≡ 3 → place ≡ 16 + s .object → CalledOut t s state place (pos 0)
+
+-- the waking, and its message, that document 01 gives thread i in the step s, if its record was a
+pub data WokenBy (t : Tables) (s : Step) (i : ℕ) (a : Thread) : ℤ → Type 0 where
+  -- "at 0 the thread is taken off its queue .. and made ready with -1"
+  last-tick : s .kind ≡ 1 → a .remaining ≡ 1 → WokenBy t s i a (negsuc 0)
+  -- "if its state is awaiting events, for any of them, it is made ready"
+  events : s .kind ≡ 13 → s .object ≡ i → a .state ≡ 4 → bitAnd (bitOr (a .pending) (s .a)) (a .awaited) ≢ 0 → WokenBy t s i a (pos 0)
+  call : {m : ℤ} → CalledOut t s (a .state) (a .place) m → WokenBy t s i a m
+
+-- the flags pending for thread i, once those of the step have come
+abbrev pub heard : Step → ℕ → Thread → ℕ
+heard s i a = cond (eqb (s .kind) 13 && eqb (s .object) i) (bitOr (a .pending) (s .a)) (a .pending)
+
+-- the same sleep, one tick shorter at a tick
+abbrev pub sleptOn : Step → ℕ → Thread → Thread
+sleptOn s i a =
+    record {
+      state = a .state;
+      place = a .place;
+      remaining = cond (eqb (s .kind) 1) (a .remaining - 1) (a .remaining);
+      pending = heard s i a;
+      awaited = a .awaited;
+      message = a .message;
+      call = a .call;
+      answer = a .answer;
+    }
+
+-- neither an event wait, nor a mailbox's call, nor a pool's
+abbrev pub IsPlain : ℕ → Type 0
+IsPlain n = (n ≢ 14) × (n ≢ 15) × (n ≢ 16) × (n ≢ 17) × (n ≢ 20)
+
+-- the answer of a call that was woken with m: message, datum, and the flags that stay pending
+pub data AnswerOf (a : Thread) (flags : ℕ) (m : ℤ) : ℤ → ℕ → ℕ → Type 0 where
+  -- "all others answer their wake message with datum 0"
+  message : IsPlain (a .call .kind) ⊎ (m ≢ pos 0) → AnswerOf a flags m m 0 flags
+  -- "the awaited flags then pending are cleared, are the datum with message 0"
+  events : a .call .kind ≡ 14 → m ≡ pos 0
+      → AnswerOf a flags m (pos 0) (bitAnd flags (a .awaited)) (flags - bitAnd flags (a .awaited))
+  -- "it takes the top"
+  object : a .call .kind ≡ 20 → m ≡ pos 0 → (o : ℕ) → o < 32 → AnswerOf a flags m (pos 0) o flags
+  -- "the whole mailbox rule is tried again, reset state first"
+  in-reset : IsMailing (a .call .kind) → m ≡ pos 0 → AnswerOf a flags m (negsuc 1) 0 flags
+  posted : IsPost (a .call .kind) → m ≡ pos 0 → AnswerOf a flags m (pos 0) 0 flags
+  fetched : a .call .kind ≡ 17 → m ≡ pos 0 → (x : ℕ) → AnswerOf a flags m (pos 0) x flags
+
+-- a record that was woken with m and whose call is not continued yet; l is its last answer
+abbrev pub wokenRow : Step → ℕ → Thread → ℤ → Answer → Thread
+wokenRow s i a m l =
+    record {
+      state = 0;
+      place = 0;
+      remaining = 0;
+      pending = heard s i a;
+      awaited = a .awaited;
+      message = m;
+      call = a .call;
+      answer = l;
+    }
+
+-- a record that was woken with m and whose call finished with x and d; the flags f stay pending
+abbrev pub doneRow : ℤ → ℤ → ℕ → ℕ → Thread
+doneRow m x d f =
+    record {
+      state = 0;
+      place = 0;
+      remaining = 0;
+      pending = f;
+      awaited = 0;
+      message = m;
+      call = noCall;
+      answer = record { message = x; datum = d };
+    }
+
+-- a record whose mailbox call was tried again and sleeps again, "with its FULL timeout"
+abbrev pub againRow : Step → ℕ → Thread → Thread
+againRow s i a =
+    record {
+      state = 3;
+      place = a .place;
+      remaining = cond (eqb (a .call .timeout) 4294967295) 0 (a .call .timeout);
+      pending = heard s i a;
+      awaited = a .awaited;
+      message = pos 0;
+      call = a .call;
+      answer = noAnswer;
+    }
+
+-- what an accepted step s, on the tables t, has made of thread i that slept before it: b is its record then, beside whether it was woken
+-- and whether its call finished
+pub data SleeperAfter (t : Tables) (s : Step) (i : ℕ) (b : Thread) (woken finished : Bool) : Type 0 where
+  -- it sleeps on
+  on : b ≡ sleptOn s i (rowOf t i) → woken ≡ false → finished ≡ false → SleeperAfter t s i b woken finished
+  -- it was made ready, and its call is not continued yet; an event wait that its flags woke is finished at once. Its last answer is 0 and
+  -- 0 if the call was tried in between
+  ready : (m : ℤ) → WokenBy t s i (rowOf t i) m → (rowOf t i .call .kind ≡ 14 → m ≢ pos 0) → (l : Answer)
+      → (l ≡ rowOf t i .answer) ⊎ (IsMailing (rowOf t i .call .kind) × (l ≡ noAnswer)) → b ≡ wokenRow s i (rowOf t i) m l
+      → woken ≡ true → finished ≡ false → SleeperAfter t s i b woken finished
+  -- it was made ready, and its call finished with the answer that follows
+  done : (m x : ℤ) (d f : ℕ) → WokenBy t s i (rowOf t i) m → AnswerOf (rowOf t i) (heard s i (rowOf t i)) m x d f → b ≡ doneRow m x d f
+      → woken ≡ true → finished ≡ true → SleeperAfter t s i b woken finished
+  -- it was made ready with 0, and its mailbox call, tried again, sleeps again at the same place
+  again : IsMailing (rowOf t i .call .kind) → WokenBy t s i (rowOf t i) (pos 0) → b ≡ againRow s i (rowOf t i) → woken ≡ true
+      → finished ≡ false → SleeperAfter t s i b woken finished
+
+-- where the step's own call waits, if it does: the state, and the place
+pub data OwnWait (s : Step) : ℕ → ℕ → Type 0 where
+  semaphore : s .kind ≡ 2 → s .timeout ≢ 0 → OwnWait s 3 (s .object)
+  queue : s .kind ≡ 6 → s .timeout ≢ 0 → OwnWait s 3 (20 + s .object)
+  reference : s .kind ≡ 9 → s .timeout ≢ 0 → OwnWait s 2 (s .object)
+  sleeps : (s .kind ≡ 11) ⊎ (s .kind ≡ 12) → OwnWait s 1 0
+  events : s .kind ≡ 14 → s .timeout ≢ 0 → OwnWait s 4 0
+  writer : IsPost (s .kind) → s .timeout ≢ 0 → OwnWait s 3 (28 + s .object)
+  reader : s .kind ≡ 17 → s .timeout ≢ 0 → OwnWait s 3 (32 + s .object)
+  pool : s .kind ≡ 20 → s .timeout ≢ 0 → OwnWait s 3 (16 + s .object)
+
+-- and of a thread that was ready before it: it was woken only if it fell asleep in this very step, in the step's own call or in a mailbox
+-- call that was tried again. It sleeps at a semaphore or a pool only if the step's own call waits there
+pub data WakerAfter (t : Tables) (s : Step) (i : ℕ) (b : Thread) (woken : Bool) : Type 0 where
+  unwoken : b .state ≡ 0 → woken ≡ false → WakerAfter t s i b woken
+  own-sleep : s .caller ≡ i → (st pl : ℕ) → OwnWait s st pl → (b .state ≡ 3 → b .place < 20 → OwnWait s 3 (b .place))
+      → WakerAfter t s i b woken
+  tried-again : IsMailing (rowOf t i .call .kind) → rowOf t i .message ≡ pos 0 → (b .state ≡ 3 → b .place < 20 → ⊥)
+      → WakerAfter t s i b woken
+
+-- the timeout of the step's own call: the step's, and "12's full timeout is the interval slept", "a minus system time, wrapped"
+abbrev pub spanOf : SystemTime → Step → ℕ
+spanOf now s = cond (eqb (s .kind) 12) ((s .a + (4294967296 - now .0)) % 4294967296) (s .timeout)
+
+-- thread i sleeps in the step's own call, with all its ticks to come
+pub record FellAsleep (now : SystemTime) (s : Step) (b : Thread) : Type 0 where
+  pub kind : b .call .kind ≡ s .kind
+  pub timeout : b .call .timeout ≡ spanOf now s
+  pub ticks : b .remaining ≡ cond (eqb (spanOf now s) 4294967295) 0 (spanOf now s)

@@ -1,0 +1,212 @@
+-- Runs, step by step: from tables that hang together every step leaves such tables, a sleep that is not woken goes on, one tick shorter at
+-- each accepted tick, and a waiter has fewer before it with each signal. So the one ends by its last tick and the other by its turn.
+use Prim.Native.Nat.{ℕ, _+_, _^_, _≤_, _<_}
+use native.Mathlib.Omega.{arith}
+use native.Mathlib.Nat.{zero-div}
+use mathlib.Core.Path.{_≡_, sym, ap, _∙_, subst}
+use mathlib.Core.Logic.{_≢_, inl, inr}
+use mathlib.Core.Bool.{Bool, true, false, cond, _&&_}
+use mathlib.Core.List.{List, [], _∷_}
+use lib.Dec.{eqb}
+use lib.IntN.{ℤ}
+use borrow.Author.Tests.{eq-eqb, ne-eqb}
+use Rattle.kernel.specs.declared.clock.Clock.{Clock}
+use Rattle.kernel.specs.declared.records.Thread.{Thread}
+use Rattle.kernel.proofs.Cases.{split, same-or, contrary}
+use Rattle.library.specs.declared.calls.Step.{Step}
+use Rattle.library.specs.declared.tables.Tables.{Tables}
+use Rattle.steps.specs.Stepping.{stepped}
+use Rattle.steps.proofs.StepLaws.{Untouched, step-refused}
+use Rattle.promises.specs.Paper.World.{found}
+use Rattle.promises.specs.Paper.Together.{TicksFit, HangTogether}
+use Rattle.promises.specs.Paper.Host.{HostTables, HostStep, Host, HostSteps}
+use Rattle.promises.specs.Paper.Waking.{rowOf, inMask, WokenBy, sleptOn, SleeperAfter, WakerAfter}
+use Rattle.promises.specs.Paper.Step.{ClockAfter, StepOf}
+use Rattle.promises.specs.Paper.Run.{Moment, isTick, ticksIn, signalsAt, signalsIn, joinsAt, joinsIn, higher, WokenIn, TurnOf}
+use Rattle.promises.specs.Together.Tests.{neither-means}
+use Rattle.promises.specs.Kept.Steps.{Hangs, step-hangs}
+use Rattle.promises.specs.Runs.OneStep.{sizes-after, sleeper-after, waker-after}
+use Rattle.promises.specs.Runs.Waiters.{turns-on, waits-on, turn-of}
+use Rattle.promises.specs.Meant.Together.{rules-together, together-rules}
+use Rattle.promises.specs.Meant.Step.{host-sized, sized-host, step-is}
+
+-- a step with the tables that it finds and leaves
+abbrev pub momentOf : Tables → Clock → Step → Moment
+momentOf t c s = record { before = t; step = s; result = stepped t c s .outcome; after = stepped t c s .tables }
+
+-- the moments of a run
+unfoldable pub moments : Tables → Clock → List Step → List Moment
+moments t c [] = []
+moments t c (s ∷ ss) = momentOf t c s ∷ moments (stepped t c s .tables) (stepped t c s .clock) ss
+
+-- a host's tables and clock, which hang together
+pub record Going (t : Tables) (c : Clock) : Type 0 where
+  pub together : HangTogether (found t) c
+  pub tables : HostTables t
+  pub time : c .time .0 < 4294967296
+
+module _ (t : Tables) (c : Clock) (g : Going t c) where
+  hangs : Hangs t c
+  hangs = record { together = together-rules t c (g .tables .threads) (g .together); sized = host-sized t (g .tables) }
+
+  -- every step leaves them so
+  module _ (s : Step) (h : HostStep s) where
+    pub host : Host t c s
+    host = record { tables = g .tables; time = g .time; step = h }
+
+    time-kept : StepOf t c s (stepped t c s) → stepped t c s .clock .time .0 < 4294967296
+    time-kept (StepOf.refused n b f r) = rw (r .clock) (g .time)
+    time-kept (StepOf.accepted n w x a z l d r) = by d
+      where
+        by : {d : Clock} → ClockAfter c (s .kind) d → d .time .0 < 4294967296
+        by (ClockAfter.next k b e) = rw e (omega (arith, b))
+        by (ClockAfter.wraps k b e) = rw e (omega arith)
+        by (ClockAfter.stays k e) = rw e (g .time)
+
+    pub going-on : Going (stepped t c s .tables) (stepped t c s .clock)
+    going-on =
+        let n = step-hangs t c s hangs in
+        record {
+          together = rules-together (stepped t c s .tables) (stepped t c s .clock) (n .together);
+          tables = sized-host (stepped t c s .tables) (n .sized);
+          time = time-kept (step-is t c s host);
+        }
+
+-- nobody is in the mask 0
+no-bit : (i : ℕ) → inMask i 0 ≡ false
+no-bit i = rw (zero-div (2 ^ i))
+
+-- ---- a. a timed sleep ends
+
+-- the remaining ticks of a thread that sleeps with a timeout are not 0
+timed-left : {a : Thread} → TicksFit a → a .state ≢ 0 → a .call .timeout ≢ 4294967295 → 1 ≤ a .remaining
+timed-left (TicksFit.none (inl e) r) n m = absurd (n e)
+timed-left (TicksFit.none (inr e) r) n m = absurd (m e)
+timed-left (TicksFit.some x y l u) n m = l
+
+-- the waking of a sleeper that is in the woken mask, with the message that its record has then
+waking : {t : Tables} {s : Step} {i : ℕ} {b : Thread} {w f : Bool} → SleeperAfter t s i b w f → w ≡ true → WokenBy t s i (rowOf t i) (b .message)
+waking (SleeperAfter.on e x y) z = contrary z x
+waking {t} {s} {i} (SleeperAfter.ready m b k l g e x y) z = subst (WokenBy t s i (rowOf t i)) (sym (ap (λ (r : Thread). r .message) e)) b
+waking {t} {s} {i} (SleeperAfter.done m u d f b g e x y) z = subst (WokenBy t s i (rowOf t i)) (sym (ap (λ (r : Thread). r .message) e)) b
+waking {t} {s} {i} (SleeperAfter.again g b e x y) z = subst (WokenBy t s i (rowOf t i)) (sym (ap (λ (r : Thread). r .message) e)) b
+
+-- and what goes on of one that is not
+sleeping : {t : Tables} {s : Step} {i : ℕ} {b : Thread} {w f : Bool} → SleeperAfter t s i b w f → w ≡ false → b ≡ sleptOn s i (rowOf t i)
+sleeping (SleeperAfter.on e x y) z = e
+sleeping (SleeperAfter.ready m b k l g e x y) z = contrary x z
+sleeping (SleeperAfter.done m u d f b g e x y) z = contrary x z
+sleeping (SleeperAfter.again g b e x y) z = contrary x z
+
+-- the moment in which i was woken, and why
+abbrev pub WakingOf : ℕ → Moment → ℤ → Type 0
+WakingOf i m x = WokenBy (m .before) (m .step) i (rowOf (m .before) i) x
+
+module _ (t : Tables) (c : Clock) (g : Going t c) (s : Step) (h : HostStep s) where
+  -- after an accepted step that does not wake it, a timed sleeper has as many ticks left as before, less this one
+  left-after : stepped t c s .outcome .code ≡ 0 → (i : ℕ) → i < t .sizes .threads → rowOf t i .state ≢ 0 → rowOf t i .call .timeout ≢ 4294967295
+      → rowOf (stepped t c s .tables) i ≡ sleptOn s i (rowOf t i)
+      → rowOf (stepped t c s .tables) i .remaining + cond (isTick (momentOf t c s)) 1 0 ≡ rowOf t i .remaining
+  left-after e i l n m on =
+      let u = stepped t c s .tables in
+      let a = rowOf t i in
+      let r = ap (λ (b : Thread). b .remaining) on in
+      let z : rowOf u i .state ≢ 0 = λ x. n (sym (ap (λ (b : Thread). b .state) on) ∙ x) in
+      let y : rowOf u i .call .timeout ≢ 4294967295 = λ x. m (sym (ap (λ (b : Thread). b .call .timeout) on) ∙ x) in
+      let w : i < u .sizes .threads = rw (sizes-after t c s (host t c g s h) e) l in
+      let some = timed-left (going-on t c g s h .together .threads i w .ticks) z y in
+      rw (eq-eqb (stepped t c s .outcome .code) 0 e)
+      (split (eqb (s .kind) 1) (λ k. rw k (omega (arith, rw k at r, some))) (λ k. rw k (omega (arith, rw k at r))))
+
+  -- a refused step leaves all, and wakes nobody
+  module _ (d : stepped t c s .outcome .code ≢ 0) where
+    same : Untouched t c (stepped t c s)
+    same = step-refused t c s d
+
+    none-woken : (i : ℕ) → inMask i (stepped t c s .outcome .woken) ≡ false
+    none-woken i = rw (same .nobody-woken) (no-bit i)
+
+pub sleeps-end : (ss : List Step) → HostSteps ss → (t : Tables) (c : Clock) → Going t c → (i : ℕ) → i < t .sizes .threads
+    → rowOf t i .state ≢ 0 → rowOf t i .call .timeout ≢ 4294967295 → rowOf t i .remaining ≤ ticksIn (moments t c ss)
+    → WokenIn i (WakingOf i) (moments t c ss)
+unfolding moments
+sleeps-end [] hs t c g i l n m r = absurd (omega (arith, r, timed-left (g .together .threads i l .ticks) n m))
+sleeps-end (s ∷ ss) (HostSteps.more h hs) t c g i l n m r =
+    same-or (stepped t c s .outcome .code) 0
+    (λ e.
+    let after = sleeper-after t c s (host t c g s h) e i l n in
+    split (inMask i (stepped t c s .outcome .woken)) (λ w. WokenIn.now e w (waking after w))
+    (λ w.
+    let on = sleeping after w in
+    let u = stepped t c s .tables in
+    let st : rowOf u i .state ≢ 0 = λ z. n (sym (ap (λ (a : Thread). a .state) on) ∙ z) in
+    let tm : rowOf u i .call .timeout ≢ 4294967295 = λ z. m (sym (ap (λ (a : Thread). a .call .timeout) on) ∙ z) in
+    WokenIn.later w
+    (sleeps-end ss hs u (stepped t c s .clock) (going-on t c g s h) i (rw (sizes-after t c s (host t c g s h) e) l) st tm
+    (omega (arith, r, left-after t c g s h e i l n m on)))))
+    (λ d.
+    let q = same t c g s h d in
+    let r' : rowOf t i .remaining ≤ 0 + ticksIn (moments t c ss) = rw (ne-eqb (stepped t c s .outcome .code) 0 d, q .tables, q .clock) at r in
+    WokenIn.later (none-woken t c g s h d i)
+    (subst (λ (v : Tables). WokenIn i (WakingOf i) (moments v (stepped t c s .clock) ss)) (sym (q .tables))
+    (subst (λ (k : Clock). WokenIn i (WakingOf i) (moments t k ss)) (sym (q .clock)) (sleeps-end ss hs t c g i l n m (omega (arith, r'))))))
+
+-- ---- c. a waiter's turn comes
+
+-- the moment in which a waiter at p was woken, and why
+abbrev pub TurnAt : ℕ → ℕ → Moment → ℤ → Type 0
+TurnAt p i m x = TurnOf p (rowOf (m .before) i) (m .step) x
+
+pub turn-comes : (p : ℕ) → p < 20 → (ss : List Step) → HostSteps ss → (t : Tables) (c : Clock) → Going t c → (i : ℕ) → i < t .sizes .threads
+    → rowOf t i .state ≡ 3 → rowOf t i .place ≡ p → joinsIn p i (moments t c ss) ≡ false → higher t p i < signalsIn p (moments t c ss)
+    → WokenIn i (TurnAt p i) (moments t c ss)
+unfolding moments
+turn-comes p near [] hs t c g i l st pl none r = absurd (omega arith)
+turn-comes p near (s ∷ ss) (HostSteps.more h hs) t c g i l st pl none r =
+    let no = neither-means (eqb (stepped t c s .outcome .code) 0 && joinsAt p i s) (joinsIn p i (moments (stepped t c s .tables) (stepped t c s .clock) ss)) none in
+    same-or (stepped t c s .outcome .code) 0
+    (λ e.
+    let ht = host t c g s h in
+    let u = stepped t c s .tables in
+    let alone : joinsAt p i s ≡ false = rw (eq-eqb (stepped t c s .outcome .code) 0 e) at (no .0) in
+    split (inMask i (stepped t c s .outcome .woken))
+    (λ w. WokenIn.now e w (turn-of t c s ht e p near i st pl (waking (sleeper-after t c s ht e i l (three st)) w)))
+    (λ w.
+    let on = waits-on t c s ht e p near i l alone st pl w in
+    let fewer = turns-on t c s ht e p near i l alone st pl w in
+    let r' : higher t p i < cond (signalsAt p t s) 1 0 + signalsIn p (moments u (stepped t c s .clock) ss) = rw (eq-eqb (stepped t c s .outcome .code) 0 e) at r in
+    WokenIn.later w
+    (turn-comes p near ss hs u (stepped t c s .clock) (going-on t c g s h) i (rw (sizes-after t c s ht e) l) (on .0) (on .1) (no .1)
+    (omega (arith, r', fewer)))))
+    (λ d.
+    let q = same t c g s h d in
+    let r' : higher t p i < 0 + signalsIn p (moments t c ss) = rw (ne-eqb (stepped t c s .outcome .code) 0 d, q .tables, q .clock) at r in
+    WokenIn.later (none-woken t c g s h d i)
+    (subst (λ (v : Tables). WokenIn i (TurnAt p i) (moments v (stepped t c s .clock) ss)) (sym (q .tables))
+    (subst (λ (k : Clock). WokenIn i (TurnAt p i) (moments t k ss)) (sym (q .clock))
+    (turn-comes p near ss hs t c g i l st pl (rw (q .tables, q .clock) at (no .1)) (omega (arith, r'))))))
+  where
+    three : {n : ℕ} → n ≡ 3 → n ≢ 0
+    three e z = omega arith
+
+-- ---- b. each step, and each thread
+
+-- what an accepted moment made of each thread
+pub record EachThread (m : Moment) : Type 0 where
+  pub slept : (i : ℕ) → i < m .before .sizes .threads → rowOf (m .before) i .state ≢ 0
+      → SleeperAfter (m .before) (m .step) i (rowOf (m .after) i) (inMask i (m .result .woken)) (inMask i (m .result .finished))
+  pub ready : (i : ℕ) → i < m .before .sizes .threads → rowOf (m .before) i .state ≡ 0
+      → WakerAfter (m .before) (m .step) i (rowOf (m .after) i) (inMask i (m .result .woken))
+
+-- of every accepted moment of a run
+pub data Throughout (P : Moment → Type 0) : List Moment → Type 0 where
+  none : Throughout P []
+  more : {m : Moment} {ms : List Moment} → (m .result .code ≡ 0 → P m) → Throughout P ms → Throughout P (m ∷ ms)
+
+pub each-step : (ss : List Step) → HostSteps ss → (t : Tables) (c : Clock) → Going t c → Throughout EachThread (moments t c ss)
+unfolding moments
+each-step [] hs t c g = Throughout.none
+each-step (s ∷ ss) (HostSteps.more h hs) t c g =
+    Throughout.more
+    (λ e. record { slept = sleeper-after t c s (host t c g s h) e; ready = waker-after t c s (host t c g s h) e })
+    (each-step ss hs (stepped t c s .tables) (stepped t c s .clock) (going-on t c g s h))

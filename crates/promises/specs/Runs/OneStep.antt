@@ -1,0 +1,187 @@
+-- One accepted step, of any thread: what it makes of one that slept before it, and of one that was ready.
+use Prim.Native.Nat.{ℕ, _-_, _/_, _%_, _^_, _≤_, _<_}
+use native.Mathlib.Omega.{arith}
+use mathlib.Core.Path.{_≡_, refl, sym, _∙_, subst}
+use mathlib.Core.Logic.{_≢_, inl, inr}
+use mathlib.Core.Bool.{Bool, true, false, cond}
+use lib.IntN.{pos}
+use borrow.Author.Tests.{eq-eqb, ne-eqb}
+use Rattle.kernel.specs.declared.clock.Clock.{Clock}
+use Rattle.kernel.specs.declared.records.Thread.{Thread}
+use Rattle.kernel.specs.Tables.{threadAt}
+use Rattle.kernel.proofs.Cases.{same-or, in-or-out}
+use Rattle.library.specs.declared.calls.Step.{Step}
+use Rattle.library.specs.declared.tables.Plant.{Plant}
+use Rattle.library.specs.declared.tables.Tables.{Tables}
+use Rattle.library.specs.Acting.{acted}
+use Rattle.library.specs.Tables.{opened}
+use Rattle.steps.specs.declared.stepping.Stepped.{Stepped}
+use Rattle.steps.specs.Refusal.{refusalOf}
+use Rattle.steps.specs.Stepping.{budgetOf, outcomeOf, doneWith, stepped}
+use Rattle.steps.proofs.StepLaws.{step-code}
+use Rattle.promises.specs.Paper.World.{World, found, First}
+use Rattle.promises.specs.Paper.Host.{Host}
+use Rattle.promises.specs.Paper.Rows.{topIn, Act}
+use Rattle.promises.specs.Paper.Settling.{Continued}
+use Rattle.promises.specs.Paper.Together.{TicksFit, ThreadFits}
+use Rattle.promises.specs.Paper.Refusals.{Broken}
+use Rattle.promises.specs.Paper.Waking.{rowOf, inMask, SleeperAfter, WakerAfter}
+use Rattle.promises.specs.Kept.Whole.{Whole}
+use Rattle.promises.specs.Runs.Answers.{step-done}
+use Rattle.promises.specs.Runs.Keeping.{KeepsOn, Keeps, both-on, act-keeps, continue-keeps}
+use Rattle.promises.specs.Runs.Sleepers.{Kept, kept-keeps, Life, life-keeps, Calm, calm-keeps, calm-after}
+use Rattle.promises.specs.Meant.Together.{rules-together}
+use Rattle.promises.specs.Meant.Pools.{promise-stocked}
+use Rattle.promises.specs.Meant.Refusals.{first-broken}
+use Rattle.promises.specs.Meant.Moves.{worldOf}
+use Rattle.promises.specs.Meant.Calls.{good}
+use Rattle.promises.specs.Meant.Rows.{act-is}
+use Rattle.promises.specs.Meant.Step.{settled-keeps, result-is, h, hangs, begun-whole, acted-whole, settled-whole, own}
+
+-- a bit of a mask is its test
+bit-in : (mask : ℕ) (i : ℕ) (b : Bool) → mask / 2 ^ i % 2 ≡ cond b 1 0 → inMask i mask ≡ b
+bit-in mask i true e = rw e
+bit-in mask i false e = rw e
+
+-- the top of a pool that has promised an object to a woken thread is an object's number
+module _ (p : Plant) (w : Whole (p .sizes) p) (r : ℕ) (f : First (worldOf p) r) (call : threadAt (p .kernel) r .call .kind ≢ 0) where
+  top-object : threadAt (p .kernel) r .call .kind ≡ 20 → threadAt (p .kernel) r .message ≡ pos 0
+      → topIn (worldOf p .pool (threadAt (p .kernel) r .call .object)) < 32
+  top-object e m =
+      let g = good p w in
+      let o = threadAt (p .kernel) r .call .object in
+      let there : o < p .sizes .pools = rw e at (g .threads r (f .thread) .object call) in
+      g .pools o there .objects (worldOf p .pool o .length - 1)
+      (omega (arith, promise-stocked p g o there r (f .thread) (f .is-ready) e m refl))
+
+  timed : threadAt (p .kernel) r .call .timeout ≢ 0
+  timed z = omega (arith, z, good p w .threads r (f .thread) .timeout call)
+
+-- WHAT EACH MOVE KEEPS, AN ACCEPTED STEP KEEPS
+module _ (t : Tables) (c : Clock) (s : Step) (host : Host t c s) (e : stepped t c s .outcome .code ≡ 0) where
+  pub accepted : refusalOf (opened t) c s ≡ 0
+  accepted = sym (step-code t c s) ∙ e
+
+  pub unbroken : (m : ℕ) → Broken t c s m → ⊥
+  unbroken = first-broken t c s (host .tables .threads) (host .step .object) .none accepted
+
+  -- whom a reference holds is suspended on it
+  held : (i : ℕ) → s .kind ≡ 10 → found t .holder (s .object) ≡ i → i ≢ 255
+      → (found t .thread i .state ≡ 2) × (found t .thread i .place ≡ s .object)
+  held i k x d =
+      let g = rules-together t c (hangs t c s host accepted .together) in
+      let there : s .object < t .sizes .references = in-use in
+      elim (g .holder (s .object) there) [
+        | inl a ↦ absurd (d (sym x ∙ a))
+        | inr a ↦ g .holds (s .object) there i (rw x at a) .0 x
+      ]
+    where
+      in-use : s .object < t .sizes .references
+      in-use =
+          in-or-out (s .object) (t .sizes .references) (λ l. l)
+          (λ l. absurd (unbroken 5 (Broken.reference (omega (arith, k)) (omega (arith, k)) l)))
+
+  -- the tables after the step's own act
+  abbrev pub x₀ : World
+  x₀ = worldOf (acted (opened t) (c .time) s)
+
+  pub act : Act t (c .time) s x₀ (s .kind)
+  act = act-is t c s (begun-whole t c s host accepted) (host .step .operand) accepted
+
+  kept-act : Kept t s x₀
+  kept-act = act-keeps t s (Kept t s) (kept-keeps t s) (c .time) held refl act
+
+  -- what each continued call keeps, settling keeps
+  settle-keeps : (P : World → Type 0) → KeepsOn t s P → P x₀ → P (worldOf (h t c s host))
+  settle-keeps P k q =
+      settled-keeps Q continues (budgetOf (t .sizes .threads)) (acted (opened t) (c .time) s)
+      (own t c s host accepted (acted-whole t c s host accepted)) (kept-act, q) .1
+    where
+      Q : World → Type 0
+      Q w = Kept t s w × P w
+
+      continues : (p : Plant) → Whole (p .sizes) p → (i : ℕ) → First (worldOf p) i → threadAt (p .kernel) i .call .kind ≢ 0 → (x : World)
+          → Continued (worldOf p) i x → Q (worldOf p) → Q x
+      continues p w i f call x h q =
+          let within : i < t .sizes .threads = rw (q .0 .sizes) at (f .thread) in
+          continue-keeps t s Q (both-on t s (Kept t s) P (kept-keeps t s .moves) k) (worldOf p) i within (f .is-ready) call (timed p w i f call)
+          (q .0 .tried i within) (top-object p w i f call) h q
+
+  step-keeps : (P : World → Type 0) → Keeps t s P → P (worldOf (h t c s host))
+  step-keeps P k = settle-keeps P (k .moves) (act-keeps t s P k (c .time) held refl act)
+
+  -- the sizes stay
+  pub sizes-after : stepped t c s .tables .sizes ≡ t .sizes
+  unfolding doneWith
+  sizes-after =
+      subst (λ (q : Stepped). q .tables .sizes ≡ t .sizes) (sym (step-done t c s e)) (step-keeps (Kept t s) (kept-keeps t s) .sizes)
+
+  -- what holds of a record after the step's own act, and is kept, holds of it in the tables after the step
+  pub rows-after : (i : ℕ) (P : Thread → Type 0) → KeepsOn t s (λ w. P (w .thread i)) → P (x₀ .thread i) → P (rowOf (stepped t c s .tables) i)
+  unfolding doneWith
+  rows-after i P k q =
+      subst (λ (r : Stepped). P (rowOf (r .tables) i)) (sym (step-done t c s e)) (settle-keeps (λ w. P (w .thread i)) k q)
+
+  -- who was woken by the step's own act is in the mask
+  pub woken-seen : (j : ℕ) → x₀ .woken j ≡ true → inMask j (stepped t c s .outcome .woken) ≡ true
+  unfolding doneWith outcomeOf
+  woken-seen j a =
+      let x : World = worldOf (h t c s host) in
+      let r = result-is (h t c s host) (settled-whole t c s host accepted .sizes .threads .1) (s .caller) in
+      subst (λ (q : Stepped). inMask j (q .outcome .woken) ≡ true) (sym (step-done t c s e))
+      (rw (bit-in _ j (x .woken j) (r .woken j)) (settle-keeps (λ w. w .woken j ≡ true) stays a))
+    where
+      stays : KeepsOn t s (λ w. w .woken j ≡ true)
+      stays =
+          record {
+            counter = λ w p c q. q;
+            box = λ w b x q. q;
+            pool = λ w p x q. q;
+            wakes = λ w i m n d q. same-or j i (λ z. rw (z, eq-eqb i i refl)) (λ z. rw (ne-eqb j i z) q);
+            ends-on = λ w r m d l z n g q. q;
+            sleeps-on = λ w r p l z b m g q. q;
+          }
+
+  -- ---- of one thread
+
+  abbrev u : Tables
+  u = stepped t c s .tables
+
+  pub few : t .sizes .threads ≤ 16
+  few = hangs t c s host accepted .together .good .sizes .threads .1
+
+  module _ (i : ℕ) (within : i < t .sizes .threads) where
+    someone : i ≢ 255
+    someone z = omega (arith, z, within, few)
+
+    pub fits : ThreadFits (t .sizes) (rowOf t i)
+    fits = rules-together t c (hangs t c s host accepted .together) .threads i within
+
+    -- a thread that sleeps is not the caller, for it does not run
+    apart : rowOf t i .state ≢ 0 → i ≢ s .caller
+    apart n z = unbroken 3 (Broken.caller (rw z at someone) (λ f. n (rw z (f .is-ready))))
+
+    -- a thread that slept
+    pub sleeper-after : rowOf t i .state ≢ 0
+        → SleeperAfter t s i (rowOf u i) (inMask i (stepped t c s .outcome .woken)) (inMask i (stepped t c s .outcome .finished))
+    unfolding doneWith outcomeOf
+    sleeper-after n =
+        let x : World = worldOf (h t c s host) in
+        let r = result-is (h t c s host) (settled-whole t c s host accepted .sizes .threads .1) (s .caller) in
+        let life = step-keeps (Life t s i someone within n (apart n) fits) (life-keeps t s i someone within n (apart n) fits) in
+        subst (λ (q : Stepped). SleeperAfter t s i (rowOf (q .tables) i) (inMask i (q .outcome .woken)) (inMask i (q .outcome .finished)))
+        (sym (step-done t c s e)) (rw (bit-in _ i (x .woken i) (r .woken i), bit-in _ i (x .finished i) (r .finished i)) life)
+
+    -- a thread that was ready
+    pub waker-after : rowOf t i .state ≡ 0 → WakerAfter t s i (rowOf u i) (inMask i (stepped t c s .outcome .woken))
+    unfolding doneWith outcomeOf
+    waker-after z =
+        let x : World = worldOf (h t c s host) in
+        let r = result-is (h t c s host) (settled-whole t c s host accepted .sizes .threads .1) (s .caller) in
+        let calm = step-keeps (Calm t s i someone z (no-ticks (fits .ticks) z)) (calm-keeps t s i someone z (no-ticks (fits .ticks) z)) in
+        subst (λ (q : Stepped). WakerAfter t s i (rowOf (q .tables) i) (inMask i (q .outcome .woken))) (sym (step-done t c s e))
+        (rw (bit-in _ i (x .woken i) (r .woken i)) (calm-after t s i someone z (no-ticks (fits .ticks) z) x calm))
+      where
+        no-ticks : {a : Thread} → TicksFit a → a .state ≡ 0 → a .remaining ≡ 0
+        no-ticks (TicksFit.none h r) z = r
+        no-ticks (TicksFit.some n m l q) z = absurd (n z)

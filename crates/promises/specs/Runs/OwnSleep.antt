@@ -1,0 +1,155 @@
+-- A thread that an accepted step of its own leaves asleep sleeps in that step's call, with the step's timeout, all of it still to come. Each
+-- row of the table either ends the caller's call or puts the caller to sleep in it; and a call that is tried again keeps its fields.
+use Prim.Native.Nat.{ℕ, _+_, _-_, _%_, _<_}
+use native.Mathlib.Omega.{arith}
+use mathlib.Core.Path.{_≡_, refl, sym, ap, _∙_, subst}
+use mathlib.Core.Logic.{_≢_}
+use mathlib.Core.Bool.{cond}
+use lib.Dec.{eqb}
+use lib.IntN.{ℤ, pos}
+use borrow.Author.Tests.{ne-eqb}
+use Rattle.kernel.specs.declared.clock.Clock.{Clock}
+use Rattle.kernel.specs.declared.time.SystemTime.{SystemTime}
+use Rattle.kernel.specs.declared.records.Call.{Call}
+use Rattle.kernel.specs.declared.records.Thread.{Thread}
+use Rattle.kernel.proofs.Cases.{same-or}
+use Rattle.library.specs.declared.calls.Step.{Step}
+use Rattle.library.specs.declared.tables.Tables.{Tables}
+use Rattle.steps.specs.Stepping.{stepped}
+use Rattle.promises.specs.Paper.World.{World, found, readyWith, madeReady, ended, asleep, fallAsleep, kept}
+use Rattle.promises.specs.Paper.Host.{Host}
+use Rattle.promises.specs.Paper.Rows.{Waits, SemaphoreWait, EventWait, Post, Fetch, Alloc, Act}
+use Rattle.promises.specs.Paper.Waking.{rowOf, spanOf, FellAsleep}
+use Rattle.promises.specs.Runs.Keeping.{put-same, put-other, KeepsOn}
+use Rattle.promises.specs.Runs.Sleepers.{ended-other, ended-own}
+use Rattle.promises.specs.Runs.OneStep.{act, few, rows-after}
+
+module _ (t : Tables) (now : SystemTime) (s : Step) (i : ℕ) (someone : i ≢ 255) where
+  -- a record whose call is unfinished has it from the step, and its ticks if it sleeps
+  pub record OwnCall (b : Thread) : Type 0 where
+    pub kind : b .call .kind ≡ s .kind
+    pub timeout : b .call .timeout ≡ spanOf now s
+    pub ticks : b .state ≢ 0 → b .remaining ≡ cond (eqb (spanOf now s) 4294967295) 0 (spanOf now s)
+
+  abbrev pub Owned : World → Type 0
+  Owned w = w .thread i .call .kind ≢ 0 → OwnCall (w .thread i)
+
+  -- its call has ended
+  owned-end : (w : World) (m : ℤ) (d : ℕ) → Owned (ended w i m d)
+  owned-end w m d n = absurd (n (ap (λ (b : Thread). b .call .kind) (ended-own w i m d someone)))
+
+  -- it sleeps in a call of the step's kind and timeout
+  owned-sleep : (w : World) (st pl : ℕ) (c : Call) → c .kind ≡ s .kind → c .timeout ≡ spanOf now s → Owned (fallAsleep w i st pl c)
+  owned-sleep w st pl c k d n =
+      let e = put-same (w .thread) i (asleep (w .thread i) st pl c) in
+      rw e (record { kind = k; timeout = d; ticks = λ x. rw d })
+
+  owned-keeps : KeepsOn t s Owned
+  owned-keeps =
+      record {
+        counter = λ w p c o. o;
+        box = λ w b x o. o;
+        pool = λ w q x o. o;
+        wakes = λ w j m n c o.
+            same-or i j
+            (λ e. subst (λ (k : ℕ). Owned (madeReady w k m)) e (woken w m o))
+            (λ d. rw (put-other (w .thread) j i (readyWith (w .thread j) m) d) o);
+        ends-on = λ w r m d l z n e o.
+            same-or i r (λ e. subst (λ (k : ℕ). Owned (ended w k m d)) e (owned-end w m d)) (λ x. rw (ended-other w r m d i x) o);
+        sleeps-on = λ w r q l z b m e o.
+            same-or i r
+            (λ x. subst (λ (k : ℕ). Owned (fallAsleep w k 3 q (w .thread k .call))) x (again w q o))
+            (λ x. rw (put-other (w .thread) r i (asleep (w .thread r) 3 q (w .thread r .call)) x) o);
+      }
+    where
+      woken : (w : World) (m : ℤ) → Owned w → Owned (madeReady w i m)
+      woken w m o n =
+          let e = put-same (w .thread) i (readyWith (w .thread i) m) in
+          let b = o (λ z. n (ap (λ (u : Thread). u .call .kind) e ∙ z)) in
+          rw e (record { kind = b .kind; timeout = b .timeout; ticks = λ x. absurd (x refl) })
+
+      again : (w : World) (q : ℕ) → Owned w → Owned (fallAsleep w i 3 q (w .thread i .call))
+      again w q o n =
+          let e = put-same (w .thread) i (asleep (w .thread i) 3 q (w .thread i .call)) in
+          let b = o (λ z. n (ap (λ (u : Thread). u .call .kind) e ∙ z)) in
+          rw e (record { kind = b .kind; timeout = b .timeout; ticks = λ x. rw (b .timeout) })
+
+  -- ---- the rows
+
+  module _ (caller : s .caller ≡ i) where
+    to : {x y : World} → x ≡ y → Owned y → Owned x
+    to e o = subst Owned (sym e) o
+
+    done : {x : World} (v : World) (m : ℤ) (d : ℕ) → x ≡ ended v (s .caller) m d → Owned x
+    done v m d e = to e (subst (λ (k : ℕ). Owned (ended v k m d)) (sym caller) (owned-end v m d))
+
+    -- a call with the step's kind and timeout
+    module _ (c : Call) (k : c .kind ≡ s .kind) (d : c .timeout ≡ spanOf now s) where
+      sleeps : {x : World} (w : World) (st pl : ℕ) → x ≡ fallAsleep w (s .caller) st pl c → Owned x
+      sleeps w st pl e = to e (subst (λ (j : ℕ). Owned (fallAsleep w j st pl c)) (sym caller) (owned-sleep w st pl c k d))
+
+      waits : {w x : World} {st pl : ℕ} → Waits w (s .caller) st pl c x → Owned x
+      waits {w} (Waits.now a e) = done w _ 0 e
+      waits {w} {x} {st} {pl} (Waits.later a e) = sleeps w st pl e
+
+      post : {w x : World} → Post w (s .caller) c x → Owned x
+      post {w} (Post.in-reset a e) = done w _ 0 e
+      post (Post.behind a l b v r e) = done _ (pos 0) 0 e
+      post (Post.ahead a l b v r e) = done _ (pos 0) 0 e
+      post (Post.no-room a l h) = waits h
+
+      fetch : {w x : World} → Fetch w (s .caller) c x → Owned x
+      fetch {w} (Fetch.in-reset a e) = done w _ 0 e
+      fetch (Fetch.message a l v r e) = done _ (pos 0) _ e
+      fetch (Fetch.no-message a l h) = waits h
+
+      alloc : {w x : World} → Alloc w (s .caller) c x → Owned x
+      alloc (Alloc.above a e) = done _ (pos 0) _ e
+      alloc (Alloc.not-above a h) = waits h
+
+      semaphore : {w x : World} {p : ℕ} → SemaphoreWait w (s .caller) p c x → Owned x
+      semaphore (SemaphoreWait.above a e) = done _ (pos 0) 0 e
+      semaphore (SemaphoreWait.not-above a h) = waits h
+
+      event-wait : {w x : World} → EventWait w (s .caller) c x → Owned x
+      event-wait (EventWait.finds a e) = done _ (pos 0) _ e
+      event-wait (EventWait.finds-none a h) = waits h
+
+    span : {n : ℕ} → s .kind ≡ n → n ≢ 12 → s .timeout ≡ spanOf now s
+    span k n = rw (ne-eqb (s .kind) 12 (λ e. n (sym k ∙ e)))
+
+    row-owned : {n : ℕ} → s .kind ≡ n → {x : World} → Act t now s x n → Owned x
+    row-owned q (Act.tick v h e) = done v (pos 0) 0 e
+    row-owned q (Act.semaphore-wait h) = semaphore (kept 2 (s .object) 0 (s .timeout)) (sym q) (span q (λ x. omega arith)) h
+    row-owned q (Act.signal v h e) = done v (pos 0) 0 e
+    row-owned q (Act.reset v h e) = done _ (pos 0) 0 e
+    row-owned q (Act.binary-signal v h e) = done v (pos 0) 0 e
+    row-owned q (Act.queue-wait h) = waits (kept 6 (s .object) 0 (s .timeout)) (sym q) (span q (λ x. omega arith)) h
+    row-owned q (Act.release-first v h e) = done v (pos 0) 0 e
+    row-owned q (Act.release-all v h e) = done v (pos 0) 0 e
+    row-owned q (Act.suspend h) = waits (kept 9 (s .object) 0 (s .timeout)) (sym q) (span q (λ x. omega arith)) h
+    row-owned q (Act.resume v h e) = done v (pos 0) 0 e
+    row-owned q (Act.sleep-for e) = sleeps (kept 11 0 0 (s .timeout)) (sym q) (span q (λ x. omega arith)) (found t) 1 0 e
+    row-owned q (Act.sleep-until e) =
+        sleeps (kept 12 0 (s .a) ((s .a + (4294967296 - now .0)) % 4294967296)) (sym q) (rw q) (found t) 1 0 e
+    row-owned q (Act.event-signal v h e) = done v (pos 0) 0 e
+    row-owned q (Act.event-wait h) = event-wait (kept 14 0 (s .a) (s .timeout)) (sym q) (span q (λ x. omega arith)) h
+    row-owned q (Act.post h) = post (kept 15 (s .object) (s .a) (s .timeout)) (sym q) (span q (λ x. omega arith)) h
+    row-owned q (Act.post-ahead h) = post (kept 16 (s .object) (s .a) (s .timeout)) (sym q) (span q (λ x. omega arith)) h
+    row-owned q (Act.fetch h) = fetch (kept 17 (s .object) 0 (s .timeout)) (sym q) (span q (λ x. omega arith)) h
+    row-owned q (Act.mailbox-reset v u h g e) = done _ (pos 0) 0 e
+    row-owned q (Act.mailbox-resume e) = done _ (pos 0) 0 e
+    row-owned q (Act.alloc h) = alloc (kept 20 (s .object) 0 (s .timeout)) (sym q) (span q (λ x. omega arith)) h
+    row-owned q (Act.free v h e) = done _ (pos 0) 0 e
+    row-owned q (Act.add v h e) = done _ (pos 0) 0 e
+
+-- WHO FALLS ASLEEP IN A STEP OF ITS OWN
+module _ (t : Tables) (c : Clock) (s : Step) (host : Host t c s) (e : stepped t c s .outcome .code ≡ 0) where
+  pub fell-asleep : s .caller < t .sizes .threads → rowOf (stepped t c s .tables) (s .caller) .call .kind ≢ 0
+      → rowOf (stepped t c s .tables) (s .caller) .state ≢ 0 → FellAsleep (c .time) s (rowOf (stepped t c s .tables) (s .caller))
+  fell-asleep l k n =
+      let someone : s .caller ≢ 255 = λ z. absurd (omega (arith, z, l, few t c s host e)) in
+      let i = s .caller in
+      let o = rows-after t c s host e i (λ b. b .call .kind ≢ 0 → OwnCall t (c .time) s i someone b) (owned-keeps t (c .time) s i someone)
+      (row-owned t (c .time) s i someone refl refl (act t c s host e)) k in
+      record { kind = o .kind; timeout = o .timeout; ticks = o .ticks n }
