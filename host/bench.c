@@ -180,8 +180,8 @@ static double time_of(void (*play)(const struct sizes *),
     return best;
 }
 
-/* Each step's own time is the shortest of the rounds; the longest of these. What
-   reading the clock takes is taken off. */
+/* Each step's own time is the shortest of the rounds; the longest of these.
+   What reading the clock takes is taken off. */
 static double worst_of(const struct sizes *z, uint32_t rounds)
 {
     static double best[MAX_STEPS];

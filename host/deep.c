@@ -74,8 +74,8 @@ static size_t used_of(const uint8_t *stack)
     return stack_bytes - k;
 }
 
-/* The archive's step from the same tables; `after` and `expected` are the second
-   program's. */
+/* The archive's step from the same tables; `after` and `expected` are the
+   second program's. */
 static size_t try_step(const struct tables *before, const struct step *s,
                        const struct tables *after,
                        const struct result *expected)
@@ -141,7 +141,8 @@ static void call(struct tables *t, struct deepest *d, uint8_t kind,
 
 /* All threads wait for a message. Thread 0 gets one, posts one for each of the
    others, which are woken and have to wait for thread 0 to sleep, and takes
-   all these messages itself. When it sleeps, each finds none and sleeps again. */
+   all these messages itself. When it sleeps, each finds none and sleeps
+   again. */
 static void run_chain(struct deepest *d)
 {
     struct tables t = new_tables(MAX_SLOTS);

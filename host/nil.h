@@ -84,7 +84,8 @@ enum {
     NIL_BINARY_SIGNAL = 5,
     /* T, queue, timeout. Waits; the answer is the waker's message. */
     NIL_QUEUE_WAIT = 6,
-    /* Queue, a: the message. Wakes the first waiter with it, if there is one. */
+    /* Queue, a: the message. Wakes the first waiter, if there is one, with
+       it. */
     NIL_RELEASE_FIRST = 7,
     /* Queue, a: the message. Wakes all waiters with it. */
     NIL_RELEASE_ALL = 8,

@@ -255,7 +255,7 @@ static bool frequency_is_right(const struct tables *t, uint32_t row)
     return t->clock.frequency >= 1 && t->clock.frequency <= MAX_FREQUENCY;
 }
 
-/* The rules that come after the sizes are asked only of sizes that are right. */
+/* The rules after the first are asked only of sizes that are right. */
 struct broken broken_rule(const struct tables *t)
 {
     const struct sizes *z = &t->sizes;

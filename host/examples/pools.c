@@ -1,7 +1,7 @@
 /*
  * A guarded pool: two trays for two packers. Objects are numbers here; the host
- * keeps what each of them is, as `trays` does. A packer that finds no tray waits
- * for one, and is handed the one that the other gives back.
+ * keeps what each of them is, as `trays` does. A packer that finds no tray
+ * waits for one, and is handed the one that the other gives back.
  */
 #include "nil.h"
 
