@@ -26,7 +26,7 @@ use Rattle.library.specs.Tables.{poolAt}
 use Rattle.rules.specs.RowRules.{callLimit}
 use Rattle.promises.specs.Together.Good.{CallKind}
 use Rattle.promises.specs.Kept.Accepting.{Accepted}
-use Rattle.promises.specs.Kept.Chain.{Mark, signalAt, after, nil-right, countIn, isSlept}
+use Rattle.promises.specs.Kept.Chain.{Note, signalAt, after, nil-right, countIn, isSlept}
 use Rattle.promises.specs.Kept.Moving.{finish-chained}
 use Rattle.promises.specs.Kept.Whole.{Whole, Done, kernel-done, idle-free, stepper-caller, stepper-kept}
 use Rattle.promises.specs.Kept.KernelActs.{Acts, stepper, sleeper, object-of, kept-fits, kernel-acts}
@@ -67,10 +67,10 @@ module _ (p : Plant) (c : Clock) (s : Step) (a : Accepted p c s) (w : Whole (p .
 
   -- an operation that is no signal
   tried : (h : Plant) → Tries z p h → Acts z p s h
-  tried h t = record { marks = t .marks; done = t .done }
+  tried h t = record { notes = t .notes; done = t .done }
 
   -- one that finishes the caller's call at once
-  at-once : (h : Plant) (ms : List Mark) → Done z p h ms → countIn (isSlept (s .caller)) ms ≡ 0
+  at-once : (h : Plant) (ms : List Note) → Done z p h ms → countIn (isSlept (s .caller)) ms ≡ 0
       → Acts z p s (finishedAtOnce h (s .caller))
   unfolding countIn
   at-once h ms d o =
@@ -79,7 +79,7 @@ module _ (p : Plant) (c : Clock) (s : Step) (a : Accepted p c s) (w : Whole (p .
       finish-chained z (w .sizes) (h .kernel) i ok 0
       (stepper-caller z (h .kernel) i (stepper-kept z k (h .kernel) i ms (w .sizes) (w .kernel) (d .chained) o (stepper p c s a w))) in
       record {
-        marks = ms;
+        notes = ms;
         done = record {
           chained = rw (nil-right ms) at (after (d .chained) x);
           whole = kernel-done z h (finished (h .kernel) i ok 0) [] (d .whole) x (λ q l. refl) .whole;

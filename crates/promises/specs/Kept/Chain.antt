@@ -141,13 +141,13 @@ pub record Setter (z : Sizes) (k : Kernel) (p : ℕ) (c : ℤ) : Type 0 where
 -- ---- moves
 
 -- what others must know of a move: who went to sleep, at which place a signal came, where a unit was taken
-pub data Mark : Type 0 where
-  sleepOf : ℕ → Mark
-  signalAt : ℕ → Mark
-  takeAt : ℕ → Mark
+pub data Note : Type 0 where
+  sleepOf : ℕ → Note
+  signalAt : ℕ → Note
+  takeAt : ℕ → Note
 
 -- one move of the kernel's tables, from k to h
-pub data Move (z : Sizes) (k : Kernel) : Kernel → List Mark → Type 0 where
+pub data Move (z : Sizes) (k : Kernel) : Kernel → List Note → Type 0 where
   wakes : (i : ℕ) (m : ℤ) → Waken z k i m → Move z k (woken k i m) []
   -- a signal with waiters wakes the first
   passes : (p i : ℕ) → p < 20 → Least (waits k p) (z .threads) i → Move z k (woken k i ok) (signalAt p ∷ [])
@@ -168,25 +168,25 @@ pub data Move (z : Sizes) (k : Kernel) : Kernel → List Mark → Type 0 where
   -- a step is over, and the next begins
   begins : Move z k (begun (ended k)) []
 
--- from k to h, move by move, with all marks on the way
-pub data Chain (z : Sizes) (h : Kernel) : Kernel → List Mark → Type 0 where
+-- from k to h, move by move, with all notes on the way
+pub data Chain (z : Sizes) (h : Kernel) : Kernel → List Note → Type 0 where
   stop : Chain z h h []
-  on : {k j : Kernel} {ms ns : List Mark} → Move z k j ms → Chain z h j ns → Chain z h k (ms ++ ns)
+  on : {k j : Kernel} {ms ns : List Note} → Move z k j ms → Chain z h j ns → Chain z h k (ms ++ ns)
 
 -- from k to h
-abbrev pub Chained : Sizes → Kernel → Kernel → List Mark → Type 0
+abbrev pub Chained : Sizes → Kernel → Kernel → List Note → Type 0
 Chained z k h ms = Chain z h k ms
 
-pub nil-right : (ms : List Mark) → ms ++ [] ≡ ms
+pub nil-right : (ms : List Note) → ms ++ [] ≡ ms
 nil-right [] = refl
-nil-right (m ∷ ms) = ap (λ (r : List Mark). m ∷ r) (nil-right ms)
+nil-right (m ∷ ms) = ap (λ (r : List Note). m ∷ r) (nil-right ms)
 
-marks-assoc : (a b c : List Mark) → (a ++ b) ++ c ≡ a ++ (b ++ c)
-marks-assoc [] b c = refl
-marks-assoc (m ∷ a) b c = ap (λ (r : List Mark). m ∷ r) (marks-assoc a b c)
+notes-assoc : (a b c : List Note) → (a ++ b) ++ c ≡ a ++ (b ++ c)
+notes-assoc [] b c = refl
+notes-assoc (m ∷ a) b c = ap (λ (r : List Note). m ∷ r) (notes-assoc a b c)
 
 -- a single move
-pub one : {z : Sizes} {k h : Kernel} {ms : List Mark} → Move z k h ms → Chain z h k ms
+pub one : {z : Sizes} {k h : Kernel} {ms : List Note} → Move z k h ms → Chain z h k ms
 one {z} {k} {h} {ms} m = subst (Chain z h k) (nil-right ms) (Chain.on m Chain.stop)
 
 -- nothing happens
@@ -194,22 +194,22 @@ pub rested : {z : Sizes} {k : Kernel} → Chained z k k []
 rested = Chain.stop
 
 -- one chain after another
-pub after : {z : Sizes} {g h k : Kernel} {ms ns : List Mark} → Chain z h k ms → Chain z g h ns → Chain z g k (ms ++ ns)
+pub after : {z : Sizes} {g h k : Kernel} {ms ns : List Note} → Chain z h k ms → Chain z g h ns → Chain z g k (ms ++ ns)
 after Chain.stop d = d
 after {z} {g} {h} {k} {ns = ns} (Chain.on {ms = a} {ns = b} m c) d =
-    subst (Chain z g k) (sym (marks-assoc a b ns)) (Chain.on m (after c d))
+    subst (Chain z g k) (sym (notes-assoc a b ns)) (Chain.on m (after c d))
 
--- how many marks pass a test
-unfoldable pub countIn : (Mark → Bool) → List Mark → ℕ
+-- how many notes pass a test
+unfoldable pub countIn : (Note → Bool) → List Note → ℕ
 countIn f [] = 0
 countIn f (m ∷ ms) = bit (f m) + countIn f ms
 
-pub count-append : (f : Mark → Bool) (ms ns : List Mark) → countIn f (ms ++ ns) ≡ countIn f ms + countIn f ns
+pub count-append : (f : Note → Bool) (ms ns : List Note) → countIn f (ms ++ ns) ≡ countIn f ms + countIn f ns
 unfolding countIn
 count-append f [] ns = omega arith
 count-append f (m ∷ ms) ns = omega (arith, count-append f ms ns)
 
-abbrev pub isSlept : ℕ → Mark → Bool
+abbrev pub isSlept : ℕ → Note → Bool
 isSlept i (sleepOf j) = eqb j i
 isSlept i (signalAt p) = false
 isSlept i (takeAt p) = false
@@ -267,7 +267,7 @@ module _ (z : Sizes) (few : z .threads ≤ 16) (i : ℕ) (within : i < z .thread
   aging k = tick-row k (z .threads) i (rw (used-all (z .threads) few) within)
 
   -- A RECORD THAT HANGS TOGETHER STAYS SO
-  pub move-good : {k h : Kernel} {ms : List Mark} → Move z k h ms → Sized k → GoodThread z (threadAt k i) → GoodThread z (threadAt h i)
+  pub move-good : {k h : Kernel} {ms : List Note} → Move z k h ms → Sized k → GoodThread z (threadAt k i) → GoodThread z (threadAt h i)
   unfolding taken
   move-good {k} (Move.wakes j m w) s g = woken-row (GoodThread z) k i (below s) j m (λ e. readied-good z (threadAt k i) m g) g
   move-good {k} (Move.passes p j l f) s g = woken-row (GoodThread z) k i (below s) j ok (λ e. readied-good z (threadAt k i) ok g) g
@@ -289,7 +289,7 @@ module _ (z : Sizes) (few : z .threads ≤ 16) (i : ℕ) (within : i < z .thread
   move-good Move.begins s g = g
 
   -- WHO HAS NO CALL HAS NONE UNTIL IT SLEEPS IN ONE
-  pub move-idle : {k h : Kernel} {ms : List Mark} → Move z k h ms → Sized k → GoodThread z (threadAt k i) → countIn (isSlept i) ms ≡ 0
+  pub move-idle : {k h : Kernel} {ms : List Note} → Move z k h ms → Sized k → GoodThread z (threadAt k i) → countIn (isSlept i) ms ≡ 0
       → Idle (threadAt k i) → Idle (threadAt h i)
   unfolding taken countIn
   move-idle {k} (Move.wakes j m w) s g o a = woken-row Idle k i (below s) j m (λ e. absurd (w .asleep (rw (sym e) (a .is-ready)))) a
@@ -467,7 +467,7 @@ module _ (z : Sizes) (g : GoodSizes z) where
   take-rules k p l e r = counter-rules k p (down (counterAt k p)) l (λ q. lowered-none k p q e) r
 
   -- THE RULES OF COUNTERS AND REFERENCES ARE KEPT
-  pub move-rules : {k h : Kernel} {ms : List Mark} → Move z k h ms → Rules z k → Rules z h
+  pub move-rules : {k h : Kernel} {ms : List Note} → Move z k h ms → Rules z k → Rules z h
   move-rules {k} (Move.wakes i m w) r = wake-rules k i m (w .within) r
   move-rules {k} (Move.passes p i l f) r = wake-rules k i ok (f .below) r
   move-rules {k} (Move.raises p l e b) r = counter-rules k p (up (counterAt k p)) l (λ q. raised-none k p q e) r
@@ -488,18 +488,18 @@ pub record Sound (z : Sizes) (k : Kernel) : Type 0 where
 
 module _ (z : Sizes) (g : GoodSizes z) where
   -- A MOVE KEEPS ALL RULES OF THE KERNEL'S TABLES, and so does a chain
-  pub move-sound : {k h : Kernel} {ms : List Mark} → Move z k h ms → Sound z k → Sound z h
+  pub move-sound : {k h : Kernel} {ms : List Note} → Move z k h ms → Sound z k → Sound z h
   move-sound m s =
       record {
         rules = move-rules z g m (s .rules);
         rows = λ i l. move-good z (g .threads .1) i l m (s .rules .sized) (s .rows i l);
       }
 
-  pub chain-sound : {h k : Kernel} {ms : List Mark} → Chain z h k ms → Sound z k → Sound z h
+  pub chain-sound : {h k : Kernel} {ms : List Note} → Chain z h k ms → Sound z k → Sound z h
   chain-sound Chain.stop s = s
   chain-sound (Chain.on m c) s = chain-sound c (move-sound m s)
 
-  pub chain-idle : (i : ℕ) → i < z .threads → {h k : Kernel} {ms : List Mark} → Chain z h k ms → Sound z k → countIn (isSlept i) ms ≡ 0
+  pub chain-idle : (i : ℕ) → i < z .threads → {h k : Kernel} {ms : List Note} → Chain z h k ms → Sound z k → countIn (isSlept i) ms ≡ 0
       → Idle (threadAt k i) → Idle (threadAt h i)
   chain-idle i l Chain.stop s o a = a
   chain-idle i l (Chain.on {ms = ms} {ns = ns} m c) s o a =

@@ -47,7 +47,7 @@ use Rattle.promises.specs.Kept.Tallies.{Tallies}
 use Rattle.promises.specs.Kept.CounterRule.{semaphore-place, queue-place}
 use Rattle.promises.specs.Kept.Accepting.{Accepted, waits-thread}
 use Rattle.promises.specs.Kept.Rows.{Idle, CallSound}
-use Rattle.promises.specs.Kept.Chain.{Sleeper, Mark, sleepOf, signalAt, takeAt, Chained, after, nil-right, countIn, isSlept}
+use Rattle.promises.specs.Kept.Chain.{Sleeper, Note, sleepOf, signalAt, takeAt, Chained, after, nil-right, countIn, isSlept}
 use Rattle.promises.specs.Kept.Owed.{isSignal, isTake}
 use Rattle.promises.specs.Kept.Moving.{
   Caller,
@@ -69,20 +69,20 @@ use Rattle.promises.specs.Kept.Whole.{Whole, Done, kernel-done, Stepper,
 
 -- what an accepted step does before settling
 pub record Acts (z : Sizes) (p : Plant) (s : Step) (h : Plant) : Type 0 where
-  pub marks : List Mark
-  pub done : Done z p h marks
+  pub notes : List Note
+  pub done : Done z p h notes
 
--- the same of the kernel's tables: marks that put nobody but a caller to sleep, and touch no pool
+-- the same of the kernel's tables: notes that put nobody but a caller to sleep, and touch no pool
 pub record KernelActs (z : Sizes) (p : Plant) (s : Step) (k : Kernel) : Type 0 where
-  pub marks : List Mark
-  pub chained : Chained z (p .kernel) k marks
-  pub takes : (q : ℕ) → countIn (isTake (poolPlace q)) marks ≡ 0
-  pub signals : (q : ℕ) → countIn (isSignal (poolPlace q)) marks ≡ 0
+  pub notes : List Note
+  pub chained : Chained z (p .kernel) k notes
+  pub takes : (q : ℕ) → countIn (isTake (poolPlace q)) notes ≡ 0
+  pub signals : (q : ℕ) → countIn (isSignal (poolPlace q)) notes ≡ 0
 
 -- .. and nobody at all
 pub record Effects (z : Sizes) (p : Plant) (s : Step) (k : Kernel) : Type 0 where
   pub acts : KernelActs z p s k
-  pub awake : (i : ℕ) → countIn (isSlept i) (acts .marks) ≡ 0
+  pub awake : (i : ℕ) → countIn (isSlept i) (acts .notes) ≡ 0
 
 -- a semaphore is no pool
 no-pool : (o q : ℕ) → o < 16 → eqb o (poolPlace q) ≡ false
@@ -167,7 +167,7 @@ module _ (p : Plant) (c : Clock) (s : Step) (a : Accepted p c s) (w : Whole (p .
   unfolding countIn
   plainly h x =
       record {
-        acts = record { marks = []; chained = x; takes = λ q. refl; signals = λ q. refl };
+        acts = record { notes = []; chained = x; takes = λ q. refl; signals = λ q. refl };
         awake = λ i. refl;
       }
 
@@ -178,7 +178,7 @@ module _ (p : Plant) (c : Clock) (s : Step) (a : Accepted p c s) (w : Whole (p .
       record {
         acts =
             record {
-              marks =
+              notes =
                   signalAt (s .object) ∷ [];
               chained = x;
               takes = λ q. refl;
@@ -262,8 +262,8 @@ module _ (p : Plant) (c : Clock) (s : Step) (a : Accepted p c s) (w : Whole (p .
   -- a call that sleeps, or is answered at once
   waiting : (h : Kernel) (i : ℕ) (b : Bool) → Chained z k h (cond b [] (sleepOf i ∷ [])) → KernelActs z p s h
   unfolding countIn
-  waiting h i true x = record { marks = []; chained = x; takes = λ q. refl; signals = λ q. refl }
-  waiting h i false x = record { marks = sleepOf i ∷ []; chained = x; takes = λ q. refl; signals = λ q. refl }
+  waiting h i true x = record { notes = []; chained = x; takes = λ q. refl; signals = λ q. refl }
+  waiting h i false x = record { notes = sleepOf i ∷ []; chained = x; takes = λ q. refl; signals = λ q. refl }
 
   -- the call that a step keeps fits
   pub kept-fits : CallKind (s .kind) → objectOf s < callLimit z (s .kind) → s .timeout ≢ 0 → CallSound z (callOf s)
@@ -309,7 +309,7 @@ module _ (p : Plant) (c : Clock) (s : Step) (a : Accepted p c s) (w : Whole (p .
         asks in
         split (ltZ (pos 0) (counterAt k (s .object)))
         (λ b. record {
-          marks = takeAt (s .object) ∷ [];
+          notes = takeAt (s .object) ∷ [];
           chained = rw b at x;
           takes = λ q. unfold countIn in rw (no-pool (s .object) q (low l));
           signals = λ q. unfold countIn in refl;
@@ -401,10 +401,10 @@ module _ (p : Plant) (c : Clock) (s : Step) (a : Accepted p c s) (w : Whole (p .
   -- "A thread's call that doesn't sleep finishes at once"
   at-once : (h : Kernel) → Effects z p s h → KernelActs z p s (finished h (s .caller) ok 0)
   at-once h x =
-      let m = x .acts .marks in
+      let m = x .acts .notes in
       let i = s .caller in
       record {
-        marks = m;
+        notes = m;
         chained = rw (nil-right m) at
             (after (x .acts .chained)
             (finish-chained z g h i ok 0
@@ -421,6 +421,6 @@ module _ (p : Plant) (c : Clock) (s : Step) (a : Accepted p c s) (w : Whole (p .
       chosen (KernelActs z p s) (kernelWaits (s .kind)) (λ v. wait-begun (waits-thread p c s a v) v)
       (λ v. at-once (effected k n s) (effect h v)) in
       record {
-        marks = x .marks;
-        done = kernel-done z p (actedOnKernel k n (c .time) s) (x .marks) w (x .chained) (λ q there. x .takes q ∙ sym (x .signals q));
+        notes = x .notes;
+        done = kernel-done z p (actedOnKernel k n (c .time) s) (x .notes) w (x .chained) (λ q there. x .takes q ∙ sym (x .signals q));
       }

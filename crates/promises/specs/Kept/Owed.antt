@@ -57,7 +57,7 @@ use Rattle.promises.specs.Kept.Chain.{
   Sleeper,
   Finisher,
   Hander,
-  Mark,
+  Note,
   sleepOf,
   signalAt,
   takeAt,
@@ -70,12 +70,12 @@ use Rattle.promises.specs.Kept.Chain.{
   queued-unready,
 }
 
-abbrev pub isSignal : ℕ → Mark → Bool
+abbrev pub isSignal : ℕ → Note → Bool
 isSignal p (sleepOf i) = false
 isSignal p (signalAt q) = eqb q p
 isSignal p (takeAt q) = false
 
-abbrev pub isTake : ℕ → Mark → Bool
+abbrev pub isTake : ℕ → Note → Bool
 isTake p (sleepOf i) = false
 isTake p (signalAt q) = false
 isTake p (takeAt q) = eqb q p
@@ -347,7 +347,7 @@ module _ (z : Sizes) (g : GoodSizes z) (q : ℕ) (there : q < z .pools) where
   elsewhere l = omega arith
 
   -- A SIGNAL OWES ONE MORE, A UNIT TAKEN ONE LESS, and nothing else changes what a pool owes
-  move-owed : {k h : Kernel} {ms : List Mark} → Move z k h ms → Sound z k
+  move-owed : {k h : Kernel} {ms : List Note} → Move z k h ms → Sound z k
       → owed h + countIn (isTake at) ms ≡ owed k + countIn (isSignal at) ms
   unfolding countIn
   move-owed {k} (Move.wakes i m w) s = omega (arith, quiet-owed k i m s w)
@@ -363,7 +363,7 @@ module _ (z : Sizes) (g : GoodSizes z) (q : ℕ) (there : q < z .pools) where
   move-owed {k} (Move.flags i f e) s = omega (arith, flags-owed k i f)
   move-owed Move.begins s = refl
 
-  pub chain-owed : {h k : Kernel} {ms : List Mark} → Chain z h k ms → Sound z k
+  pub chain-owed : {h k : Kernel} {ms : List Note} → Chain z h k ms → Sound z k
       → owed h + countIn (isTake at) ms ≡ owed k + countIn (isSignal at) ms
   chain-owed Chain.stop s = unfold countIn in refl
   chain-owed (Chain.on {ms = ms} {ns = ns} m c) s =

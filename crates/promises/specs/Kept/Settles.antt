@@ -70,7 +70,7 @@ module _ (p : Plant) (w : Whole (p .sizes) p) (i : ℕ) (d : Due (p .sizes) (p .
   unfolding countIn
   others-tries e =
       record {
-        marks = [];
+        notes = [];
         done = kernel-done z p (finished k i (t .message) 0) [] w
             (one (Move.finishes i (t .message) 0 (record { within = d .within; is-ready = d .is-ready; unpromised = none })))
             (λ q l. refl);
@@ -318,12 +318,12 @@ pub record Settled (z : Sizes) (p h : Plant) : Type 0 where
 tries-then : {z : Sizes} {p j h : Plant} → Tries z p j → Tries z j h → Tries z p h
 tries-then a b =
     record {
-      marks = a .marks ++ b .marks;
+      notes = a .notes ++ b .notes;
       done = record { chained = after (a .done .chained) (b .done .chained); whole = b .done .whole };
     }
 
 tries-none : {z : Sizes} {p : Plant} → Whole z p → Tries z p p
-tries-none w = record { marks = []; done = record { chained = rested; whole = w } }
+tries-none w = record { notes = []; done = record { chained = rested; whole = w } }
 
 -- one call continued, of tables whose sizes are z
 continue-at : (z : Sizes) (p : Plant) → Whole z p → isSettled p ≡ false

@@ -24,7 +24,7 @@ use Rattle.promises.specs.Kept.ReferenceRule.{references-hold, holds-ref
 use Rattle.promises.specs.Kept.RingKept.{MailboxesGood}
 use Rattle.promises.specs.Kept.PoolKept.{PoolsListed, PoolSized, stock, good-listed, listed-good, good-length, length-promises}
 use Rattle.promises.specs.Kept.Rows.{Idle}
-use Rattle.promises.specs.Kept.Chain.{Mark, Chained, countIn, isSlept, Sound, chain-sound, chain-idle}
+use Rattle.promises.specs.Kept.Chain.{Note, Chained, countIn, isSlept, Sound, chain-sound, chain-idle}
 use Rattle.promises.specs.Kept.Moving.{Free, Caller}
 use Rattle.promises.specs.Kept.Owed.{isSignal, isTake, owed-is, chain-owed}
 
@@ -97,22 +97,22 @@ module _ (p : Plant) where
 
 -- ---- a chain leaves them so
 
--- the pools of h are as much longer than those of p as the marks say
-abbrev pub InStep : Sizes → Plant → Plant → List Mark → Type 0
+-- the pools of h are as much longer than those of p as the notes say
+abbrev pub InStep : Sizes → Plant → Plant → List Note → Type 0
 InStep z p h ms = (q : ℕ) → q < z .pools
     → poolAt h q .length + countIn (isTake (poolPlace q)) ms ≡ poolAt p q .length + countIn (isSignal (poolPlace q)) ms
 
--- what an operation leaves: a chain from the kernel's tables to its own, with these marks, and whole tables
-pub record Done (z : Sizes) (p h : Plant) (ms : List Mark) : Type 0 where
+-- what an operation leaves: a chain from the kernel's tables to its own, with these notes, and whole tables
+pub record Done (z : Sizes) (p h : Plant) (ms : List Note) : Type 0 where
   pub chained : Chained z (p .kernel) (h .kernel) ms
   pub whole : Whole z h
 
-module _ (z : Sizes) (p h : Plant) (ms : List Mark) (w : Whole z p) (c : Chained z (p .kernel) (h .kernel) ms) where
-  -- what a pool owes goes with the marks
-  pub owed-marks : (q : ℕ) (there : q < z .pools)
+module _ (z : Sizes) (p h : Plant) (ms : List Note) (w : Whole z p) (c : Chained z (p .kernel) (h .kernel) ms) where
+  -- what a pool owes goes with the notes
+  pub owed-notes : (q : ℕ) (there : q < z .pools)
       → stock (counterAt (h .kernel) (poolPlace q)) + promisedCount (h .kernel) (z .threads) q + countIn (isTake (poolPlace q)) ms
       ≡ stock (counterAt (p .kernel) (poolPlace q)) + promisedCount (p .kernel) (z .threads) q + countIn (isSignal (poolPlace q)) ms
-  owed-marks q there =
+  owed-notes q there =
       rw (owed-is z (w .sizes) q there (h .kernel), owed-is z (w .sizes) q there (p .kernel))
       (chain-owed z (w .sizes) q there c (w .kernel))
 
@@ -132,12 +132,12 @@ module _ (z : Sizes) (p h : Plant) (ms : List Mark) (w : Whole z p) (c : Chained
           messages = x;
           pools = o;
           rows = r;
-          lengths = λ q there. omega (arith, l q there, owed-marks q there, w .lengths q there);
+          lengths = λ q there. omega (arith, l q there, owed-notes q there, w .lengths q there);
         };
       }
 
--- the kernel's tables alone, by marks that give and take no pool anything
-pub kernel-done : (z : Sizes) (p : Plant) (k : Kernel) (ms : List Mark) → Whole z p → Chained z (p .kernel) k ms
+-- the kernel's tables alone, by notes that give and take no pool anything
+pub kernel-done : (z : Sizes) (p : Plant) (k : Kernel) (ms : List Note) → Whole z p → Chained z (p .kernel) k ms
     → ((q : ℕ) → q < z .pools → countIn (isTake (poolPlace q)) ms ≡ countIn (isSignal (poolPlace q)) ms) → Done z p (withKernel p k) ms
 kernel-done z p k ms w c e =
     done z p (withKernel p k) ms w c refl (w .mailboxes) (w .boxes) (w .messages) (record {
@@ -162,7 +162,7 @@ stepper-caller z k i (inl e) = inl e
 stepper-caller z k i (inr a) = inr (a .0, idle-free (threadAt k i) (a .1))
 
 -- and stays so while it does not sleep
-pub stepper-kept : (z : Sizes) (k h : Kernel) (i : ℕ) (ms : List Mark) → GoodSizes z → Sound z k → Chained z k h ms
+pub stepper-kept : (z : Sizes) (k h : Kernel) (i : ℕ) (ms : List Note) → GoodSizes z → Sound z k → Chained z k h ms
     → countIn (isSlept i) ms ≡ 0
     → Stepper z k i → Stepper z h i
 stepper-kept z k h i ms g s c o (inl e) = inl e
