@@ -2,7 +2,9 @@
  * The comparison: compare [STEPS [TABLES [SEED]]]. Drives the archive beside
  * the second program, with STEPS steps of the random traces that ./fuzz has,
  * read and written back through the archive too, and with one step on each of
- * TABLES damaged tables. It stops at the first answer or byte that differs.
+ * TABLES damaged tables, of which both say which rule is broken first; and for
+ * each of these the nine functions of time. It stops at the first answer or
+ * byte that differs.
  *
  * Seeds count up from SEED: one for each trace, and then one for each plant
  * whose tables are damaged.
@@ -10,6 +12,7 @@
 #include "director.h"
 #include "scenario.h"
 #include "spoil.h"
+#include "times.h"
 #include "traces.h"
 
 #include <stdio.h>
@@ -119,6 +122,7 @@ static void step_on_damaged(struct random *r, struct where at,
     uint32_t way = some_way(r);
 
     spoil(r, way, &damaged);
+    try_times(at);
     table_codes[way][both_step(at, &damaged, s)]++;
 }
 
@@ -193,16 +197,17 @@ static void report_tables(void)
     print_codes("damaged tables", sum);
 }
 
-/* The codes that were met, each with its number. */
-static void print_met(const char *name, const uint64_t *codes)
+/* Which of `count` numbers were met, and how often. */
+static void print_met(const char *name, const char *what,
+                      const uint64_t *met, uint32_t count)
 {
     const char *between = "";
 
     printf("  %s:", name);
-    for (uint32_t k = 0; k < CODES; k++) {
-        if (codes[k] > 0) {
-            printf("%s code %u %llu", between, (unsigned)k,
-                   (unsigned long long)codes[k]);
+    for (uint32_t k = 0; k < count; k++) {
+        if (met[k] > 0) {
+            printf("%s %s %u %llu", between, what, (unsigned)k,
+                   (unsigned long long)met[k]);
             between = ",";
         }
     }
@@ -236,7 +241,11 @@ int main(int argc, char **argv)
     print_heading();
     print_codes("random steps", step_codes);
     report_tables();
-    print_met("traces read", read_codes);
-    print_met("fresh tables asked for", fresh_codes);
+    print_met("traces read", "code", read_codes, CODES);
+    print_met("fresh tables asked for", "code", fresh_codes, CODES);
+    print_met("broken first", "rule", broken_rules, RULES);
+    printf("  conversions: %llu made, %llu refused\n",
+           (unsigned long long)conversions[0],
+           (unsigned long long)conversions[1]);
     return fflush(stdout) == 0 ? 0 : 1;
 }

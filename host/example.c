@@ -153,13 +153,48 @@ static void show_refusal(struct plant *p)
            memcmp(&before, p, sizeof before) == 0 ? "as they were" : "CHANGED");
 }
 
+/* Damage of a host: a counter is overwritten. A technician is told the rule and
+   the row; docs/RULES.md has the words. */
+static void show_damage(const struct plant *p)
+{
+    struct plant damaged = *p;
+    nil_result r;
+    uint32_t broken;
+
+    damaged.tables.counters[NIL_SEMAPHORE_PLACE + BOTTLES] = 5;
+    r = step(&damaged, NIL_TICK, NIL_INTERRUPT, 0, 0, 0);
+    broken = nil_broken(&damaged.tables, &damaged.clock);
+    printf("a counter overwritten: code %u, rule %u is broken at place %u\n",
+           (unsigned)r.code, (unsigned)nil_rule(broken),
+           (unsigned)nil_row(broken));
+}
+
+/* Times of the firmware in ticks of the plant's clock, and back. */
+static void show_time(const struct plant *p)
+{
+    uint32_t patience;
+    uint64_t lasted;
+
+    if (nil_ms2i(1500, p->clock.frequency, &patience) == 0
+        && nil_i2us(p->clock.time, p->clock.frequency, &lasted) == 0) {
+        printf("1500 ms are %u ticks; the play lasted %u us; 100 ticks on it "
+               "is %u\n", (unsigned)patience, (unsigned)lasted,
+               (unsigned)nil_time_add(p->clock.time, 100));
+    }
+}
+
 int main(void)
 {
     static const nil_sizes sizes = { THREADS, 1, 0, 0, 1, 0, { 1, 0, 0, 0 } };
     static struct plant plant; /* every thread's first call is what it ASKS */
-    uint32_t code = nil_fresh(&plant.tables, &plant.clock, &sizes,
-                              NIL_FREQUENCY);
+    uint32_t code;
 
+    if (!NIL_LAYOUT_FITS()) {
+        printf("nil.h has layout %u, the archive %u\n", (unsigned)NIL_LAYOUT,
+               (unsigned)nil_layout());
+        return 1;
+    }
+    code = nil_fresh(&plant.tables, &plant.clock, &sizes, NIL_FREQUENCY);
     if (code == 0) {
         code = run_threads(&plant, PRINTER); /* all are ready at first */
     }
@@ -171,5 +206,7 @@ int main(void)
         return 1;
     }
     show_refusal(&plant);
+    show_damage(&plant);
+    show_time(&plant);
     return 0;
 }

@@ -18,6 +18,10 @@
 #include <stddef.h>
 #include <stdint.h>
 
+/* The number of this header's layout: it rises with every change of a struct.
+   The archive's own is nil_layout(); NIL_LAYOUT_FITS() compares them. */
+#define NIL_LAYOUT UINT32_C(1)
+
 #ifdef __cplusplus
 extern "C" {
 #endif
@@ -57,31 +61,70 @@ enum { NIL_OK = 0, NIL_TIMEOUT = -1, NIL_RESET = -2 };
 #define NIL_FREQUENCY UINT32_C(1000)
 #define NIL_MAX_FREQUENCY UINT32_C(1000000)
 
-/* The kinds of step, with what their object is, what `a` is, and whether they
-   have a timeout. Fields that a kind does not name are ignored. */
+/*
+ * The kinds of step: the object, what `a` is, whether there is a timeout; the
+ * effect; and the answer, a message and a datum, 0 and 0 where none is named.
+ * Fields that a kind does not name are ignored. docs/CALLS.md has the NIL call
+ * behind each. T: by a thread alone; I: by an interrupt alone; *: an interrupt
+ * only with timeout 0.
+ *
+ * "Waits": the thread sleeps until it is woken, with timeout 0 not at all.
+ * Then the answer is the message that it was woken with, or NIL_TIMEOUT.
+ */
 enum {
-    NIL_TICK = 1,            /* by an interrupt */
-    NIL_SEMAPHORE_WAIT = 2,  /* semaphore, timeout; not by an interrupt */
-    NIL_SIGNAL = 3,          /* semaphore */
-    NIL_SEMAPHORE_RESET = 4, /* semaphore, a: the counter to be */
-    NIL_BINARY_SIGNAL = 5,   /* semaphore */
-    NIL_QUEUE_WAIT = 6,      /* queue, timeout; not by an interrupt */
-    NIL_RELEASE_FIRST = 7,   /* queue, a: the message */
-    NIL_RELEASE_ALL = 8,     /* queue, a: the message */
-    NIL_SUSPEND = 9,         /* reference, timeout; not by an interrupt */
-    NIL_RESUME = 10,         /* reference, a: the message */
-    NIL_SLEEP_FOR = 11,      /* timeout; not by an interrupt */
-    NIL_SLEEP_UNTIL = 12,    /* a: the system time; not by an interrupt */
-    NIL_EVENT_SIGNAL = 13,   /* thread, a: the flags */
-    NIL_EVENT_WAIT = 14,     /* a: the mask, timeout; not by an interrupt */
-    NIL_POST = 15,           /* mailbox, a: the message, timeout */
-    NIL_POST_AHEAD = 16,     /* mailbox, a: the message, timeout */
-    NIL_FETCH = 17,          /* mailbox, timeout; the datum is the message */
-    NIL_MAILBOX_RESET = 18,  /* mailbox */
-    NIL_MAILBOX_RESUME = 19, /* mailbox */
-    NIL_ALLOC = 20,          /* pool, timeout; the datum is the object */
-    NIL_FREE = 21,           /* pool, a: the object */
-    NIL_ADD = 22             /* pool, a: the object */
+    /* I. Time goes on by 1; whose ticks run out is woken with NIL_TIMEOUT. */
+    NIL_TICK = 1,
+    /* T, semaphore, timeout. Takes 1 off the counter, or waits. */
+    NIL_SEMAPHORE_WAIT = 2,
+    /* Semaphore. Adds 1 to the counter; wakes the first waiter with 0. */
+    NIL_SIGNAL = 3,
+    /* Semaphore, a: the counter to be. Wakes all waiters with NIL_RESET. */
+    NIL_SEMAPHORE_RESET = 4,
+    /* Semaphore. As NIL_SIGNAL where the counter is below 1, else nothing. */
+    NIL_BINARY_SIGNAL = 5,
+    /* T, queue, timeout. Waits; the answer is the waker's message. */
+    NIL_QUEUE_WAIT = 6,
+    /* Queue, a: the message. Wakes the first waiter, if there is one, with
+       it. */
+    NIL_RELEASE_FIRST = 7,
+    /* Queue, a: the message. Wakes all waiters with it. */
+    NIL_RELEASE_ALL = 8,
+    /* T, reference, timeout. Waits in the reference; the answer is the
+       waker's message. */
+    NIL_SUSPEND = 9,
+    /* Reference, a: the message. Wakes the thread in it, if there is one. */
+    NIL_RESUME = 10,
+    /* T, timeout: the ticks to sleep. The answer is NIL_TIMEOUT. */
+    NIL_SLEEP_FOR = 11,
+    /* T, a: the system time to sleep until. The answer is NIL_TIMEOUT. */
+    NIL_SLEEP_UNTIL = 12,
+    /* The object is a thread, a: the flags. They become pending; a thread that
+       awaits one of them is woken. */
+    NIL_EVENT_SIGNAL = 13,
+    /* T, a: the mask, timeout. Takes the pending flags in the mask, or waits
+       for one; the datum is the flags taken. */
+    NIL_EVENT_WAIT = 14,
+    /* *, mailbox, a: the message, timeout. Puts it in last, or waits for room;
+       NIL_RESET in reset state. */
+    NIL_POST = 15,
+    /* *, mailbox, a: the message, timeout. The same, and puts it in first. */
+    NIL_POST_AHEAD = 16,
+    /* *, mailbox, timeout. Takes the first message, or waits for one; the
+       datum is the message. NIL_RESET in reset state. */
+    NIL_FETCH = 17,
+    /* Mailbox. Empties it, wakes all waiters with NIL_RESET, sets reset
+       state. */
+    NIL_MAILBOX_RESET = 18,
+    /* Mailbox. Ends the reset state. */
+    NIL_MAILBOX_RESUME = 19,
+    /* *, pool, timeout. Takes a free object, or waits for one; the datum is
+       the object. */
+    NIL_ALLOC = 20,
+    /* Pool, a: the object, which is out. It is free; wakes the first waiter. */
+    NIL_FREE = 21,
+    /* Pool, a: the object, which is absent. It is free; wakes the first
+       waiter. */
+    NIL_ADD = 22
 };
 
 /* Codes: 0, or the number of a refusal. */
@@ -131,6 +174,10 @@ enum {
     NIL_TRACE_HEAD = 13, /* at most: 9 bytes, and one a mailbox */
     NIL_STEP_RECORD = 13
 };
+
+/* Bytes of stack that are enough for any call, whatever the tables hold; what
+   a handler takes on the same stack is not counted. */
+enum { NIL_STACK = 53248 };
 
 /* What nil_read found. */
 enum { NIL_FOUND_NOTHING = 0, NIL_FOUND_SIZES = 1, NIL_FOUND_STEP = 2 };
@@ -237,6 +284,12 @@ typedef struct nil_read_result {
 
 /* ---- functions -------------------------------------------------------- */
 
+/* The number of the layout that the archive was built with. */
+uint32_t nil_layout(void);
+
+/* Whether archive and header belong together: a host asks when it starts. */
+#define NIL_LAYOUT_FITS() (nil_layout() == NIL_LAYOUT)
+
 /* Sets up fresh tables and a fresh clock, and returns 0; or NIL_BAD_SIZE, then
    NIL_BAD_VALUE for the frequency, with nothing written. */
 uint8_t nil_fresh(nil_tables *tables, nil_clock *clock, const nil_sizes *sizes,
@@ -247,8 +300,24 @@ uint8_t nil_fresh(nil_tables *tables, nil_clock *clock, const nil_sizes *sizes,
 void nil_step(nil_tables *tables, nil_clock *clock, const nil_request *request,
               nil_result *result);
 
+/* Which rule the tables break first, for a step that was refused with 1: 0 for
+   none, else nil_rule() of it is the rule's number in docs/RULES.md, and
+   nil_row() the thread, place, reference, mailbox or pool concerned. */
+uint32_t nil_broken(const nil_tables *tables, const nil_clock *clock);
+
+static inline uint32_t nil_rule(uint32_t broken)
+{
+    return broken / 256;
+}
+
+static inline uint32_t nil_row(uint32_t broken)
+{
+    return broken % 256;
+}
+
 /* Reads the record at a place of a trace of `length` bytes: the sizes at place
-   0, a step elsewhere. The next read goes to `next`. */
+   0, a step elsewhere. The next read goes to `next`. Any place gets an answer:
+   where no record begins, it is what the bytes there happen to say. */
 void nil_read(const uint8_t *trace, size_t length, size_t at,
               nil_read_result *result);
 
@@ -258,9 +327,28 @@ uint8_t nil_write_sizes(uint8_t *buffer, size_t length, const nil_sizes *sizes,
                         size_t *next);
 
 /* Writes the record of a step at a place, the place after it to `next`, and
-   returns 0; or NIL_TOO_LONG or NIL_NO_SPACE, with nothing written. */
+   returns 0; or NIL_TOO_LONG or NIL_NO_SPACE, with nothing written. It writes
+   that record alone, at place 0 too: the head is nil_write_sizes'. */
 uint8_t nil_write_step(uint8_t *buffer, size_t length, size_t at,
                        const nil_request *request, size_t *next);
+
+/* Time, as the manual's chTimeAddX, chTimeDiffX and chTimeIsInRangeX have it:
+   time plus interval, end minus start, both wrapped; and 1 for a time from
+   `start` on and before `end`, else 0. */
+uint32_t nil_time_add(uint32_t time, uint32_t interval);
+uint32_t nil_time_diff(uint32_t start, uint32_t end);
+uint8_t nil_time_in_range(uint32_t time, uint32_t start, uint32_t end);
+
+/* Seconds, milliseconds and microseconds in ticks, and ticks in these: the
+   manual's TIME_S2I to TIME_I2US, rounded upward. Each returns 0; or
+   NIL_BAD_VALUE, with 0 for the number, where the frequency is out of its
+   range, the ticks come to more than NIL_LONGEST, or are NIL_INFINITE. */
+uint8_t nil_s2i(uint32_t seconds, uint32_t frequency, uint32_t *ticks);
+uint8_t nil_ms2i(uint32_t milliseconds, uint32_t frequency, uint32_t *ticks);
+uint8_t nil_us2i(uint32_t microseconds, uint32_t frequency, uint32_t *ticks);
+uint8_t nil_i2s(uint32_t ticks, uint32_t frequency, uint64_t *seconds);
+uint8_t nil_i2ms(uint32_t ticks, uint32_t frequency, uint64_t *milliseconds);
+uint8_t nil_i2us(uint32_t ticks, uint32_t frequency, uint64_t *microseconds);
 
 /* The timeout here for a timeout of compiled firmware: its TIME_INFINITE (0)
    and TIME_IMMEDIATE (4294967295) change places, all others stay. */

@@ -2,7 +2,8 @@
 //! pointers: what the C caller has to promise of its pointers, Rust's own rules see to, so that every function here is safe.
 //!
 //! The model keeps nothing between two calls, and every function answers for any values. A refusal is a number, as in `nil.h`.
-//! It needs nothing but `core`, from Rust 1.63 on.
+//! It needs nothing but `core`, from Rust 1.63 on, in any edition from 2018 on.
+#![allow(dead_code)] // a host uses what it needs of it
 
 /// How many rows each table has; a plant uses the first of them, as many as its sizes say.
 pub const THREADS: usize = 16;
@@ -17,6 +18,12 @@ pub const POOLS: usize = 4;
 pub const OBJECTS: usize = 32;
 /// Where threads queue: semaphores 0, pools 16, queues 20, mailboxes' writers 28, their readers 32.
 pub const PLACES: usize = 36;
+
+/// The number of this file's layout, as `NIL_LAYOUT` of the header: it rises with every change of a struct.
+pub const LAYOUT: u32 = 1;
+
+/// Bytes of stack that are enough for any call, whatever the tables hold.
+pub const STACK: usize = 53248;
 
 /// Idle as the running thread, an interrupt as the caller, nobody in an empty reference.
 pub const NOBODY: u8 = 255;
@@ -225,7 +232,16 @@ struct RawRead {
     code: u32,
 }
 
-extern "C" {
+// From edition 2024 on the block has to be marked `unsafe`, which compilers before 1.82 do not take. An `expr` matches `const {}`
+// from edition 2024 on, and that chooses.
+macro_rules! declare {
+    ($edition:expr; $($functions:tt)*) => { unsafe extern "C" { $($functions)* } };
+    (const {}; $($functions:tt)*) => { extern "C" { $($functions)* } };
+}
+
+declare! {
+    const {};
+
     fn nil_fresh(tables: *mut Tables, clock: *mut Clock, sizes: *const Sizes, frequency: u32)
         -> u8;
     fn nil_step(
@@ -244,6 +260,17 @@ extern "C" {
         request: *const Request,
         next: *mut usize,
     ) -> u8;
+    fn nil_layout() -> u32;
+    fn nil_broken(tables: *const Tables, clock: *const Clock) -> u32;
+    fn nil_time_add(time: u32, interval: u32) -> u32;
+    fn nil_time_diff(start: u32, end: u32) -> u32;
+    fn nil_time_in_range(time: u32, start: u32, end: u32) -> u8;
+    fn nil_s2i(seconds: u32, frequency: u32, ticks: *mut u32) -> u8;
+    fn nil_ms2i(milliseconds: u32, frequency: u32, ticks: *mut u32) -> u8;
+    fn nil_us2i(microseconds: u32, frequency: u32, ticks: *mut u32) -> u8;
+    fn nil_i2s(ticks: u32, frequency: u32, seconds: *mut u64) -> u8;
+    fn nil_i2ms(ticks: u32, frequency: u32, milliseconds: *mut u64) -> u8;
+    fn nil_i2us(ticks: u32, frequency: u32, microseconds: *mut u64) -> u8;
 }
 
 impl Tables {
@@ -319,6 +346,97 @@ pub fn step(tables: &mut Tables, clock: &mut Clock, request: &Request) -> Outcom
     // SAFETY: as in `fresh`; the result is a local of its own.
     unsafe { nil_step(tables, clock, request, &mut result) };
     result
+}
+
+/// A rule of "tables that hang together" that is broken, by its number in docs/RULES.md, and the row that it concerns.
+#[derive(Clone, Copy, Debug, PartialEq, Eq)]
+pub struct Broken {
+    pub rule: u8,
+    pub row: u8,
+}
+
+/// Which rule the tables break first, for a step that was refused with 1.
+pub fn broken(tables: &Tables, clock: &Clock) -> Option<Broken> {
+    // SAFETY: the references are valid and aligned.
+    match unsafe { nil_broken(tables, clock) } {
+        0 => None,
+        number => Some(Broken {
+            rule: (number / 256) as u8,
+            row: (number % 256) as u8,
+        }),
+    }
+}
+
+/// Whether archive and wrapper belong together: a host asks when it starts.
+pub fn layout_fits() -> bool {
+    // SAFETY: it takes nothing and changes nothing.
+    unsafe { nil_layout() == LAYOUT }
+}
+
+/// Time plus interval, wrapped: `chTimeAddX`.
+pub fn time_add(time: u32, interval: u32) -> u32 {
+    // SAFETY: numbers go in and come out.
+    unsafe { nil_time_add(time, interval) }
+}
+
+/// End minus start, wrapped: `chTimeDiffX`.
+pub fn time_diff(start: u32, end: u32) -> u32 {
+    // SAFETY: as in `time_add`.
+    unsafe { nil_time_diff(start, end) }
+}
+
+/// Whether a time lies from `start` on and before `end`: `chTimeIsInRangeX`.
+pub fn time_in_range(time: u32, start: u32, end: u32) -> bool {
+    // SAFETY: as in `time_add`.
+    unsafe { nil_time_in_range(time, start, end) == 1 }
+}
+
+/// Seconds in ticks, rounded upward: `TIME_S2I`; or the refusal 6.
+pub fn s2i(seconds: u32, frequency: u32) -> Result<u32, u8> {
+    let mut ticks = 0;
+    // SAFETY: the place for the ticks is a local of its own, here and below.
+    let code = unsafe { nil_s2i(seconds, frequency, &mut ticks) };
+    accepted(code, ticks)
+}
+
+/// Milliseconds in ticks: `TIME_MS2I`.
+pub fn ms2i(milliseconds: u32, frequency: u32) -> Result<u32, u8> {
+    let mut ticks = 0;
+    // SAFETY: as in `s2i`.
+    let code = unsafe { nil_ms2i(milliseconds, frequency, &mut ticks) };
+    accepted(code, ticks)
+}
+
+/// Microseconds in ticks: `TIME_US2I`.
+pub fn us2i(microseconds: u32, frequency: u32) -> Result<u32, u8> {
+    let mut ticks = 0;
+    // SAFETY: as in `s2i`.
+    let code = unsafe { nil_us2i(microseconds, frequency, &mut ticks) };
+    accepted(code, ticks)
+}
+
+/// Ticks in seconds, rounded upward: `TIME_I2S`; or the refusal 6.
+pub fn i2s(ticks: u32, frequency: u32) -> Result<u64, u8> {
+    let mut seconds = 0;
+    // SAFETY: as in `s2i`.
+    let code = unsafe { nil_i2s(ticks, frequency, &mut seconds) };
+    accepted(code, seconds)
+}
+
+/// Ticks in milliseconds: `TIME_I2MS`.
+pub fn i2ms(ticks: u32, frequency: u32) -> Result<u64, u8> {
+    let mut milliseconds = 0;
+    // SAFETY: as in `s2i`.
+    let code = unsafe { nil_i2ms(ticks, frequency, &mut milliseconds) };
+    accepted(code, milliseconds)
+}
+
+/// Ticks in microseconds: `TIME_I2US`.
+pub fn i2us(ticks: u32, frequency: u32) -> Result<u64, u8> {
+    let mut microseconds = 0;
+    // SAFETY: as in `s2i`.
+    let code = unsafe { nil_i2us(ticks, frequency, &mut microseconds) };
+    accepted(code, microseconds)
 }
 
 /// Reads the record at a place of a trace: the sizes at place 0, a step or the end elsewhere.

@@ -4,7 +4,6 @@
 //! It has C's `main`: what Rust does before its own reads /proc/self/maps, at which the kit's emulator ends.
 #![no_main]
 
-#[allow(dead_code)] // a host uses what it needs of the wrapper
 #[path = "nil.rs"]
 mod nil;
 
@@ -153,12 +152,45 @@ fn translates_timeouts() {
     );
 }
 
+fn knows_its_archive() {
+    assert!(nil::layout_fits());
+    let (mut tables, mut clock) = (Tables::NONE, Clock::default());
+    assert_eq!(
+        nil::broken(&tables, &clock),
+        Some(nil::Broken { rule: 1, row: 0 })
+    );
+    nil::fresh(&mut tables, &mut clock, &SIZES, nil::FREQUENCY).unwrap();
+    assert_eq!(nil::broken(&tables, &clock), None);
+    tables.threads[1].remaining = 1;
+    assert_eq!(
+        nil::broken(&tables, &clock),
+        Some(nil::Broken { rule: 7, row: 1 })
+    );
+}
+
+/// The paper's own numbers, and a refusal each way.
+fn tells_the_time() {
+    assert_eq!(nil::time_add(4294967295, 1), 0);
+    assert_eq!(nil::time_diff(4294967290, 5), 11);
+    assert!(!nil::time_in_range(3, 3, 3) && nil::time_in_range(0, 4294967295, 1));
+    assert_eq!(nil::us2i(1500, 1000), Ok(2));
+    assert_eq!((nil::ms2i(1, 100), nil::ms2i(0, 1000)), (Ok(1), Ok(0)));
+    assert_eq!((nil::s2i(2, 1000), nil::s2i(1, 0)), (Ok(2000), Err(6)));
+    assert_eq!((nil::i2s(1, 1000), nil::i2ms(3, 2000)), (Ok(1), Ok(2)));
+    assert_eq!(
+        (nil::i2us(7, 1000000), nil::i2us(nil::INFINITE, 1000)),
+        (Ok(7), Err(6))
+    );
+}
+
 #[no_mangle]
 pub extern "C" fn main() -> i32 {
     plays_the_six_steps();
     refuses_and_keeps_every_byte();
     refuses_traces_and_buffers();
     translates_timeouts();
+    knows_its_archive();
+    tells_the_time();
     println!("nil_test: the wrapper does as the paper lists");
     0
 }

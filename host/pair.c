@@ -47,6 +47,21 @@ uint32_t both_fresh(struct where at, const struct sizes *z, uint32_t frequency,
     return code;
 }
 
+uint64_t broken_rules[RULES];
+
+/* Returns whether there is a rule that is broken. */
+static bool both_broken(struct where at, const struct plant *plant,
+                        const struct tables *t)
+{
+    uint32_t number = nil_broken(&plant->tables, &plant->clock);
+    struct broken b = broken_rule(t);
+
+    expect(nil_rule(number) == b.rule, at, "the broken rules differ");
+    expect(nil_row(number) == b.row, at, "the rows of the rule differ");
+    broken_rules[b.rule]++;
+    return number != 0;
+}
+
 uint32_t both_step(struct where at, struct plant *plant, const struct step *s)
 {
     nil_request request = nil_request_of(s);
@@ -54,13 +69,17 @@ uint32_t both_step(struct where at, struct plant *plant, const struct step *s)
     struct tables t;
     struct result q;
     nil_result r;
+    bool broken;
 
     memset(&r, 0x55, sizeof r); /* so that a field left unwritten shows */
     to_second(&plant->tables, &plant->clock, &t);
     expect_same_plant(at, plant, &t, "the bridge lost a byte");
+    broken = both_broken(at, plant, &t);
     nil_step(&plant->tables, &plant->clock, &request, &r);
     q = do_step(&t, s);
     expect(same_answer(&r, &q), at, "the answers differ");
+    expect(broken == (r.code == BROKEN_TABLES), at,
+           "a broken rule and refusal 1 do not go together");
     expect_same_plant(at, plant, &t, "the bytes differ");
     expect(r.code == 0 || memcmp(&before, plant, sizeof before) == 0, at,
            "a refused step changed a byte");

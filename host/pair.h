@@ -6,6 +6,7 @@
 #define PAIR_H
 
 #include "bridge.h"
+#include "broken.h"
 
 /* What a host keeps of one plant, in one piece and without padding. */
 struct plant {
@@ -32,7 +33,11 @@ uint32_t both_fresh(struct where at, const struct sizes *z, uint32_t frequency,
                     struct plant *plant);
 
 /* One step by both sides from the same tables, whatever they hold. The plant
-   is then as the archive leaves it, and the code is returned. */
+   is then as the archive leaves it, and the code is returned. Before it both
+   say which rule the tables break first: one exactly if the code is 1. */
 uint32_t both_step(struct where at, struct plant *plant, const struct step *s);
+
+/* How often each rule was the first to be broken; 0 for none. */
+extern uint64_t broken_rules[RULES];
 
 #endif

@@ -10,9 +10,31 @@ use ghost.Atoms.{Atoms}
 use contract.Lifetimes.{Lfts}
 use contract.Monad.{Fun, fact}
 use denote.Ref.{now}
+use borrow.Fn.Kinds.{Dens, resT, endedOf}
 use denote.Triple.Clauses.{AtExit}
 use denote.Triple.Entry.{Args, Res}
 use Rattle.kernel.proofs.Unique.{coincide, coincide-lent, Fixes}
+use Rattle.host.proofs.broken.nil_broken as broken-nil-broken
+use Rattle.host.proofs.layout.nil_layout.Reads as layout-nil-layout
+use Rattle.host.proofs.layout.nil_layout.Kinds as layout-nil-layout-kinds
+use Rattle.host.proofs.times.nil_time_add.Reads as times-nil-time-add
+use Rattle.host.proofs.times.nil_time_add.Kinds as times-nil-time-add-kinds
+use Rattle.host.proofs.times.nil_time_diff.Reads as times-nil-time-diff
+use Rattle.host.proofs.times.nil_time_diff.Kinds as times-nil-time-diff-kinds
+use Rattle.host.proofs.times.nil_time_in_range.Reads as times-nil-time-in-range
+use Rattle.host.proofs.times.nil_time_in_range.Kinds as times-nil-time-in-range-kinds
+use Rattle.host.proofs.times.nil_s2i.Reads as times-nil-s2i
+use Rattle.host.proofs.times.nil_s2i.Kinds as times-nil-s2i-kinds
+use Rattle.host.proofs.times.nil_ms2i.Reads as times-nil-ms2i
+use Rattle.host.proofs.times.nil_ms2i.Kinds as times-nil-ms2i-kinds
+use Rattle.host.proofs.times.nil_us2i.Reads as times-nil-us2i
+use Rattle.host.proofs.times.nil_us2i.Kinds as times-nil-us2i-kinds
+use Rattle.host.proofs.times.nil_i2s.Reads as times-nil-i2s
+use Rattle.host.proofs.times.nil_i2s.Kinds as times-nil-i2s-kinds
+use Rattle.host.proofs.times.nil_i2ms.Reads as times-nil-i2ms
+use Rattle.host.proofs.times.nil_i2ms.Kinds as times-nil-i2ms-kinds
+use Rattle.host.proofs.times.nil_i2us.Reads as times-nil-i2us
+use Rattle.host.proofs.times.nil_i2us.Kinds as times-nil-i2us-kinds
 use Rattle.host.proofs.request.step_of.Reads as request-step-of
 use Rattle.host.proofs.request.step_of.Kinds as request-step-of-kinds
 use Rattle.host.proofs.request.nil_step as request-nil-step
@@ -23,6 +45,54 @@ use Rattle.host.proofs.writes.nil_write_step as writes-nil-write-step
 
 pub request-step-of-one : Fixes 0 request-step-of-kinds.ps request-step-of-kinds.r request-step-of.Post
 request-step-of-one κs a e x y = coincide
+
+pub layout-nil-layout-one : Fixes 0 layout-nil-layout-kinds.ps layout-nil-layout-kinds.r layout-nil-layout.Post
+layout-nil-layout-one κs a e x y = coincide
+
+pub times-nil-time-add-one : Fixes 0 times-nil-time-add-kinds.ps times-nil-time-add-kinds.r times-nil-time-add.Post
+times-nil-time-add-one κs a e x y = coincide
+
+pub times-nil-time-diff-one : Fixes 0 times-nil-time-diff-kinds.ps times-nil-time-diff-kinds.r times-nil-time-diff.Post
+times-nil-time-diff-one κs a e x y = coincide
+
+pub times-nil-time-in-range-one : Fixes 0 times-nil-time-in-range-kinds.ps times-nil-time-in-range-kinds.r times-nil-time-in-range.Post
+times-nil-time-in-range-one κs a e x y = coincide
+
+module _ (κs : Lfts 1) (a : Dens κs times-nil-s2i-kinds.ps) (x y : resT times-nil-s2i-kinds.r κs .Denot)
+    (e f : AtExit (endedOf 1 times-nil-s2i-kinds.ps times-nil-s2i-kinds.r) κs) where
+  -- the code, and what stands in the end where the number was asked for
+  pub times-nil-s2i-one : times-nil-s2i.Post κs a x e → times-nil-s2i.Post κs a y f → (x ≡ y) × (now (e .1 .1 .0) ≡ now (f .1 .1 .0))
+  times-nil-s2i-one p q = (coincide (p .0) (q .0), coincide (p .1) (q .1))
+
+module _ (κs : Lfts 1) (a : Dens κs times-nil-ms2i-kinds.ps) (x y : resT times-nil-ms2i-kinds.r κs .Denot)
+    (e f : AtExit (endedOf 1 times-nil-ms2i-kinds.ps times-nil-ms2i-kinds.r) κs) where
+  -- the code, and what stands in the end where the number was asked for
+  pub times-nil-ms2i-one : times-nil-ms2i.Post κs a x e → times-nil-ms2i.Post κs a y f → (x ≡ y) × (now (e .1 .1 .0) ≡ now (f .1 .1 .0))
+  times-nil-ms2i-one p q = (coincide (p .0) (q .0), coincide (p .1) (q .1))
+
+module _ (κs : Lfts 1) (a : Dens κs times-nil-us2i-kinds.ps) (x y : resT times-nil-us2i-kinds.r κs .Denot)
+    (e f : AtExit (endedOf 1 times-nil-us2i-kinds.ps times-nil-us2i-kinds.r) κs) where
+  -- the code, and what stands in the end where the number was asked for
+  pub times-nil-us2i-one : times-nil-us2i.Post κs a x e → times-nil-us2i.Post κs a y f → (x ≡ y) × (now (e .1 .1 .0) ≡ now (f .1 .1 .0))
+  times-nil-us2i-one p q = (coincide (p .0) (q .0), coincide (p .1) (q .1))
+
+module _ (κs : Lfts 1) (a : Dens κs times-nil-i2s-kinds.ps) (x y : resT times-nil-i2s-kinds.r κs .Denot)
+    (e f : AtExit (endedOf 1 times-nil-i2s-kinds.ps times-nil-i2s-kinds.r) κs) where
+  -- the code, and what stands in the end where the number was asked for
+  pub times-nil-i2s-one : times-nil-i2s.Post κs a x e → times-nil-i2s.Post κs a y f → (x ≡ y) × (now (e .1 .1 .0) ≡ now (f .1 .1 .0))
+  times-nil-i2s-one p q = (coincide (p .0) (q .0), coincide (p .1) (q .1))
+
+module _ (κs : Lfts 1) (a : Dens κs times-nil-i2ms-kinds.ps) (x y : resT times-nil-i2ms-kinds.r κs .Denot)
+    (e f : AtExit (endedOf 1 times-nil-i2ms-kinds.ps times-nil-i2ms-kinds.r) κs) where
+  -- the code, and what stands in the end where the number was asked for
+  pub times-nil-i2ms-one : times-nil-i2ms.Post κs a x e → times-nil-i2ms.Post κs a y f → (x ≡ y) × (now (e .1 .1 .0) ≡ now (f .1 .1 .0))
+  times-nil-i2ms-one p q = (coincide (p .0) (q .0), coincide (p .1) (q .1))
+
+module _ (κs : Lfts 1) (a : Dens κs times-nil-i2us-kinds.ps) (x y : resT times-nil-i2us-kinds.r κs .Denot)
+    (e f : AtExit (endedOf 1 times-nil-i2us-kinds.ps times-nil-i2us-kinds.r) κs) where
+  -- the code, and what stands in the end where the number was asked for
+  pub times-nil-i2us-one : times-nil-i2us.Post κs a x e → times-nil-i2us.Post κs a y f → (x ≡ y) × (now (e .1 .1 .0) ≡ now (f .1 .1 .0))
+  times-nil-i2us-one p q = (coincide (p .0) (q .0), coincide (p .1) (q .1))
 
 -- The statements of functions that are lent structs are of the logic: whatever satisfies one twice is the same.
 module _ {M : Type 1} (𝓤 : URA M) (H : Heap 𝓤) (A : Atoms 𝓤) (at-mem : Memory → SProp 𝓤) (run : Routine → Fun 𝓤) where
@@ -65,3 +135,11 @@ module _ {M : Type 1} (𝓤 : URA M) (H : Heap 𝓤) (A : Atoms 𝓤) (at-mem : 
     -- the code, and what the lent buffer and the lent place hold in the end
     pub writes-nil-write-step-one : ent 𝓤 (sep 𝓤 (nil-write-step-gives x e) (nil-write-step-gives y f)) (fact 𝓤 ((x ≡ y) × (now (e .0) ≡ now (f .0)) × (now (e .1 .1 .1 .0) ≡ now (f .1 .1 .1 .0))))
     writes-nil-write-step-one = coincide-lent 𝓤 (λ p q. (coincide (p .0) (q .0), coincide (p .1) (q .1), coincide (p .2) (q .2)))
+
+  module _ (κs : Lfts 2) (a : Args broken-nil-broken.signature κs) (x y : Res broken-nil-broken.signature κs) (e f : AtExit broken-nil-broken.ended κs) where
+    abbrev nil-broken-gives : Res broken-nil-broken.signature κs → AtExit broken-nil-broken.ended κs → SProp 𝓤
+    nil-broken-gives = broken-nil-broken.clauses 𝓤 H A at-mem run κs a .ensures tt
+
+    -- the number
+    pub broken-nil-broken-one : ent 𝓤 (sep 𝓤 (nil-broken-gives x e) (nil-broken-gives y f)) (fact 𝓤 (x ≡ y))
+    broken-nil-broken-one = coincide-lent 𝓤 coincide

@@ -3,3 +3,6 @@ pub mod Request
 pub mod Setup
 pub mod Reads
 pub mod Writes
+pub mod Broken
+pub mod Times
+pub mod Layout

@@ -17,7 +17,6 @@ pub mod WaitersLaws
 pub mod QueueLaws
 pub mod SemaphoreLaws
 pub mod ReferenceLaws
-pub mod DelayLaws
 pub mod TickingLaws
 pub mod EventLaws
 pub mod Unique

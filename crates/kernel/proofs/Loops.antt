@@ -1,23 +1,14 @@
 -- Walks in the form in which loops meet them: i is the next index, n the end.
 use Prim.Native.Nat.{ℕ, suc, _+_, _-_, _≤_, _<_}
-use native.Mathlib.Nat.{le-antisymm}
 use native.Mathlib.Numerals.{add-one}
 use native.Mathlib.Omega.{arith}
-use mathlib.Core.Path.{_≡_, refl, sym, ap, _∙_}
+use mathlib.Core.Path.{_≡_, refl}
 use mathlib.Core.Bool.{Bool, true, false}
 use lib.Dec.{ltb}
 use borrow.Author.Tests.{ltb-true}
 use Rattle.kernel.specs.Numbers.{nobody}
-use Rattle.kernel.specs.Walk.{each, firstFrom, allFrom, bit, countOf}
+use Rattle.kernel.specs.Walk.{firstFrom, allFrom, bit, countOf}
 use Rattle.kernel.specs.Tables.{usedRows}
-
--- the state after turn i, where a turn's result is f of the state before it
-pub each-more : {A : Type 0} (f : ℕ → A → A) (a : A) (i : ℕ) (x y : A) → x ≡ each i f a → y ≡ f i x → y ≡ each (i + 1) f a
-each-more f a i x y e s = s ∙ ap (f i) e ∙ ap (λ (n : ℕ). each n f a) (sym (add-one i))
-
--- the state where the loop's test failed
-pub each-done : {A : Type 0} (f : ℕ → A → A) (a : A) (i n : ℕ) (x : A) → x ≡ each i f a → i ≤ n → n ≤ i → x ≡ each n f a
-each-done f a i n x e l g = e ∙ ap (λ (m : ℕ). each m f a) (le-antisymm l g)
 
 module _ (f : ℕ → Bool) (i n : ℕ) where
   -- a search that has come to i: i passes, i fails, or none is left

@@ -1,7 +1,7 @@
 -- A move changes one thread's row, and the one counter or reference that the thread leaves or joins; all else stands as it stood.
 use Prim.Native.Nat.{ℕ, _+_, _-_, _≤_, _<_}
 use native.Mathlib.Omega.{arith}
-use mathlib.Core.Path.{_≡_, refl, sym, ap, _∙_}
+use mathlib.Core.Path.{_≡_, refl, sym, ap}
 use mathlib.Core.Logic.{_≢_}
 use mathlib.Core.Bool.{Bool, true, false, cond, _&&_}
 use mathlib.Core.List.{List}
@@ -190,11 +190,6 @@ module _ (k : Kernel) (i : ℕ) (m : ℤ) where
       rw (off-counters k (threadAt k i .state) (threadAt k i .place))
       (unchanged k up (eqb (threadAt k i .state) queued) (threadAt k i .place) q z)
 
-  -- none changes if it was not queued
-  pub wake-counters : eqb (threadAt k i .state) queued ≡ false → woken k i m .counters ≡ k .counters
-  unfolding woken
-  wake-counters e = off-counters k (threadAt k i .state) (threadAt k i .place) ∙ rw e
-
   -- its place owes one waking less, and no other place does
   pub wake-debt : (q : ℕ) → debt (counterAt (woken k i m) q) ≡ debt (counterAt k q) - bit (queuedAt q (threadAt k i))
   unfolding woken
@@ -208,11 +203,6 @@ module _ (k : Kernel) (i : ℕ) (m : ℤ) where
   wake-holder r =
       rw (off-references k (threadAt k i .state) (threadAt k i .place))
       (emptied k (eqb (threadAt k i .state) suspended) (threadAt k i .place) r)
-
-  -- no reference changes if it was not suspended
-  pub wake-references : eqb (threadAt k i .state) suspended ≡ false → woken k i m .references ≡ k .references
-  unfolding woken
-  wake-references e = off-references k (threadAt k i .state) (threadAt k i .place) ∙ rw e
 
   -- one woken flag is set
   pub wake-woken : woken k i m .woken ≡ withWoken k i .woken
@@ -418,7 +408,3 @@ module _ (k : Kernel) (i s p : ℕ) (c : Call) where
       → P (blocked k i s p c)
   block-cases P f g =
       same-or (c .timeout) 0 (λ e. rw (block-immediate e) (f e)) (λ n. rw (block-sleeps n) (g n))
-
-  -- the tables keep their lengths
-  pub block-sizes : SameSizes k (blocked k i s p c)
-  block-sizes = block-cases (SameSizes k) (λ e. finish-sizes k i timedOut 0) (λ n. sleep-sizes k i s p c)

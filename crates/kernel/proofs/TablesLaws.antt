@@ -26,7 +26,6 @@ use Rattle.kernel.specs.Tables.{
   withAnswer,
 }
 use Rattle.kernel.proofs.Cases.{same-or, in-or-out}
-use Rattle.kernel.proofs.Loops.{used-le}
 
 -- whether thread i was made ready in this step
 abbrev pub wokenAt : Kernel → ℕ → Bool
@@ -39,10 +38,6 @@ finishedAt k i = getD (k .finished) i false
 -- how many of n threads have a row: all of them, up to 16
 pub used-all : (n : ℕ) → n ≤ 16 → usedRows n ≡ n
 used-all n h = in-or-out n 16 (λ l. rw (lt-ltb n 16 l)) (λ l. rw (le-ltb n 16 l) (omega arith))
-
--- never more than there are rows
-pub used-le-rows : (n : ℕ) → usedRows n ≤ 16
-used-le-rows n = used-le (usedRows n) n refl
 
 -- nor more than n
 pub used-le-given : (n : ℕ) → usedRows n ≤ n
@@ -101,11 +96,6 @@ module _ (k : Kernel) where
   counter-sizes p c =
       record { threads = refl; counters = length-set (k .counters) p c; references = refl; woken = refl; finished = refl }
 
-  -- a reference written
-  pub holder-sizes : (r i : ℕ) → SameSizes k (withHolder k r i)
-  holder-sizes r i =
-      record { threads = refl; counters = refl; references = length-set (k .references) r i; woken = refl; finished = refl }
-
   -- a woken flag set
   pub mark-woken-sizes : (i : ℕ) → SameSizes k (withWoken k i)
   mark-woken-sizes i =
@@ -130,10 +120,6 @@ module _ (k : Kernel) (i : ℕ) (t : Thread) where
   pub thread-other : (j : ℕ) → j ≢ i → threadAt (withThread k i t) j ≡ threadAt k j
   thread-other j n = getD-set-other (k .threads) i j t blank n
 
-  -- written past the end
-  pub thread-past : length (k .threads) ≤ i → withThread k i t ≡ k
-  thread-past h = rw (set-out (k .threads) i t h)
-
   -- what a written row keeps, every row keeps
   pub thread-kept : {A : Type 0} (f : Thread → A) → f t ≡ f (threadAt k i) → (j : ℕ) → f (threadAt (withThread k i t) j) ≡ f (threadAt k j)
   thread-kept f e j =
@@ -156,10 +142,6 @@ module _ (k : Kernel) (p : ℕ) (c : ℤ) where
   pub counter-other : (q : ℕ) → q ≢ p → counterAt (withCounter k p c) q ≡ counterAt k q
   counter-other q n = getD-set-other (k .counters) p q c (pos 0) n
 
-  -- written past the end
-  pub counter-past : length (k .counters) ≤ p → withCounter k p c ≡ k
-  counter-past h = rw (set-out (k .counters) p c h)
-
 -- past the end a counter is 0
 pub counter-zero : (k : Kernel) (p : ℕ) → length (k .counters) ≤ p → counterAt k p ≡ pos 0
 counter-zero k p h = List·getD-eq-default (k .counters) (pos 0) h
@@ -173,10 +155,6 @@ module _ (k : Kernel) (r i : ℕ) where
   -- read elsewhere
   pub holder-other : (q : ℕ) → q ≢ r → holderAt (withHolder k r i) q ≡ holderAt k q
   holder-other q n = getD-set-other (k .references) r q i nobody n
-
-  -- written past the end
-  pub holder-past : length (k .references) ≤ r → withHolder k r i ≡ k
-  holder-past h = rw (set-out (k .references) r i h)
 
 -- past the end a reference is empty
 pub holder-nobody : (k : Kernel) (r : ℕ) → length (k .references) ≤ r → holderAt k r ≡ nobody
@@ -192,10 +170,6 @@ module _ (k : Kernel) (i : ℕ) where
   pub mark-woken-other : (j : ℕ) → j ≢ i → wokenAt (withWoken k i) j ≡ wokenAt k j
   mark-woken-other j n = getD-set-other (k .woken) i j true false n
 
-  -- set past the end
-  pub mark-woken-past : length (k .woken) ≤ i → withWoken k i ≡ k
-  mark-woken-past h = rw (set-out (k .woken) i true h)
-
   -- read where it was set
   pub mark-finished-same : i < length (k .finished) → finishedAt (withFinished k i) i ≡ true
   mark-finished-same h = getD-set-same (k .finished) i true false h
@@ -203,7 +177,3 @@ module _ (k : Kernel) (i : ℕ) where
   -- read elsewhere
   pub mark-finished-other : (j : ℕ) → j ≢ i → finishedAt (withFinished k i) j ≡ finishedAt k j
   mark-finished-other j n = getD-set-other (k .finished) i j true false n
-
-  -- set past the end
-  pub mark-finished-past : length (k .finished) ≤ i → withFinished k i ≡ k
-  mark-finished-past h = rw (set-out (k .finished) i true h)

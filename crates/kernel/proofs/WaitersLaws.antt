@@ -1,10 +1,9 @@
 -- Who waits at a place, and who is first: the least index that passes, which is the highest in priority.
-use Prim.Native.Nat.{ℕ, _≤_, _<_}
+use Prim.Native.Nat.{ℕ, _≤_}
 use mathlib.Core.Path.{_≡_}
 use mathlib.Core.Logic.{_⊎_}
 use mathlib.Core.Bool.{Bool, true}
 use lib.Dec.{eqb}
-use lib.ListN.{length}
 use borrow.Author.Tests.{eqb-true}
 use Rattle.kernel.specs.declared.records.Thread.{Thread}
 use Rattle.kernel.specs.declared.records.Kernel.{Kernel}
@@ -12,9 +11,9 @@ use Rattle.kernel.specs.Numbers.{nobody, queued}
 use Rattle.kernel.specs.Walk.{countOf}
 use Rattle.kernel.specs.Tables.{usedRows, threadAt}
 use Rattle.kernel.specs.Waiters.{isReady, queuedAt, firstReady, firstWaiter}
-use Rattle.kernel.proofs.Cases.{in-or-out, contrary, both-means}
-use Rattle.kernel.proofs.WalkLaws.{First, None, first-cases, first-nobody, counted-first}
-use Rattle.kernel.proofs.TablesLaws.{used-all, thread-blank}
+use Rattle.kernel.proofs.Cases.{both-means}
+use Rattle.kernel.proofs.WalkLaws.{Least, None, first-cases, counted-first}
+use Rattle.kernel.proofs.TablesLaws.{used-all}
 
 -- thread i waits at the place p
 abbrev pub waits : Kernel → ℕ → ℕ → Bool
@@ -30,29 +29,20 @@ queued-place p q t e =
     let both = both-means (eqb (t .state) queued) (eqb (t .place) p) e in
     rw (both .0, eqb-true (t .place) p (both .1))
 
--- who waits has a row
-pub waits-within : (k : Kernel) (p i : ℕ) → waits k p i ≡ true → i < length (k .threads)
-waits-within k p i e = in-or-out i (length (k .threads)) (λ h. h) (λ h. contrary e (rw (thread-blank k i h)))
-
 -- "the running thread is the first ready one, or idle"
-pub first-ready-cases : (k : Kernel) (n : ℕ) → First (λ i. isReady (threadAt k i)) (usedRows n) (firstReady k n)
+pub first-ready-cases : (k : Kernel) (n : ℕ) → Least (λ i. isReady (threadAt k i)) (usedRows n) (firstReady k n)
     ⊎ ((firstReady k n ≡ nobody) × None (λ i. isReady (threadAt k i)) (usedRows n))
 unfolding firstReady
 first-ready-cases k n = first-cases (λ i. isReady (threadAt k i)) (usedRows n)
 
 module _ (k : Kernel) (n p : ℕ) where
   -- the first waiter is the one with the least index; or it is nobody, and none waits
-  pub first-waiter-cases : First (waits k p) (usedRows n) (firstWaiter k n p)
+  pub first-waiter-cases : Least (waits k p) (usedRows n) (firstWaiter k n p)
       ⊎ ((firstWaiter k n p ≡ nobody) × None (waits k p) (usedRows n))
   unfolding firstWaiter
   first-waiter-cases = first-cases (waits k p) (usedRows n)
 
   -- where any is counted there is a first
-  pub first-waiter-counted : n ≤ 16 → 1 ≤ waiters k n p → First (waits k p) n (firstWaiter k n p)
+  pub first-waiter-counted : n ≤ 16 → 1 ≤ waiters k n p → Least (waits k p) n (firstWaiter k n p)
   unfolding firstWaiter
   first-waiter-counted l h = rw (used-all n l) (counted-first (waits k p) n h)
-
-  -- where none waits the first is nobody
-  pub first-waiter-nobody : None (waits k p) (usedRows n) → firstWaiter k n p ≡ nobody
-  unfolding firstWaiter
-  first-waiter-nobody h = first-nobody (waits k p) (usedRows n) h

@@ -7,10 +7,10 @@ use mathlib.Core.Logic.{_≢_, _⊎_, inl, inr}
 use mathlib.Core.Bool.{Bool, true, false}
 use Rattle.kernel.specs.Numbers.{nobody}
 use Rattle.kernel.specs.Walk.{each, firstFrom, bit, countOf}
-use Rattle.kernel.proofs.Cases.{split, same-or, in-or-out, contrary}
+use Rattle.kernel.proofs.Cases.{split, same-or}
 
 -- r is the least of the indexes below n that pass
-pub record First (f : ℕ → Bool) (n r : ℕ) : Type 0 where
+pub record Least (f : ℕ → Bool) (n r : ℕ) : Type 0 where
   pub below : r < n
   pub passes : f r ≡ true
   pub least : (i : ℕ) → i < r → f i ≡ false
@@ -38,42 +38,12 @@ found f i (suc n) =
 
 module _ (f : ℕ → Bool) (n : ℕ) where
   -- the first of n is the least that passes; or it is nobody, and none passes
-  pub first-cases : First f n (firstFrom f 0 n) ⊎ ((firstFrom f 0 n ≡ nobody) × None f n)
+  pub first-cases : Least f n (firstFrom f 0 n) ⊎ ((firstFrom f 0 n ≡ nobody) × None f n)
   first-cases =
       elim (found f 0 n) [
         | inl h ↦ inl (record { below = omega arith; passes = h .2; least = λ i l. h .3 i (omega arith) l })
         | inr h ↦ inr (h .0, λ i l. h .1 i (omega arith) (omega arith))
       ]
-
-  -- what is found among at most 255 is the first
-  pub first-found : n ≤ 255 → firstFrom f 0 n < n → First f n (firstFrom f 0 n)
-  first-found s h = elim first-cases [ inl c ↦ c | inr c ↦ absurd (omega arith) ]
-
-  -- every index before the first fails
-  pub first-least : (i : ℕ) → i < n → i < firstFrom f 0 n → f i ≡ false
-  first-least i h l = elim first-cases [ inl c ↦ c .least i l | inr c ↦ c .1 i h ]
-
-  -- one that passes is not before the first
-  pub first-le : (i : ℕ) → i < n → f i ≡ true → firstFrom f 0 n ≤ i
-  first-le i h t = in-or-out i (firstFrom f 0 n) (λ l. contrary t (first-least i h l)) (λ l. l)
-
-  -- if none passes, the first is nobody
-  pub first-nobody : None f n → firstFrom f 0 n ≡ nobody
-  first-nobody e = elim first-cases [ inl c ↦ contrary (c .passes) (e (firstFrom f 0 n) (c .below)) | inr c ↦ c .0 ]
-
-  -- and if the first of at most 255 is nobody, none passes
-  pub nobody-none : n ≤ 255 → firstFrom f 0 n ≡ nobody → None f n
-  nobody-none s e = elim first-cases [ inl c ↦ absurd (omega (arith, c .below)) | inr c ↦ c .1 ]
-
--- tests that agree have the same first
-first-agree-from : (f g : ℕ → Bool) (i n : ℕ) → ((j : ℕ) → j < i + n → f j ≡ g j) → firstFrom f i n ≡ firstFrom g i n
-unfolding firstFrom
-first-agree-from f g i zero h = refl
-first-agree-from f g i (suc n) h = rw (h i (omega arith), first-agree-from f g (suc i) n (λ j l. h j (omega arith)))
-
--- tests that agree below n have the same first of n
-pub first-agree : (f g : ℕ → Bool) (n : ℕ) → ((i : ℕ) → i < n → f i ≡ g i) → firstFrom f 0 n ≡ firstFrom g 0 n
-first-agree f g n h = first-agree-from f g 0 n (λ j l. h j (omega arith))
 
 -- a test counts for at most 1
 pub bit-le : (b : Bool) → bit b ≤ 1
@@ -115,12 +85,8 @@ unfolding countOf
 count-none f zero e = refl
 count-none f (suc n) e = rw (e n (omega arith), count-none f n (λ i l. e i (omega arith)))
 
--- and if the count is 0, none passes
-pub none-counted : (f : ℕ → Bool) (n : ℕ) → countOf f n ≡ 0 → None f n
-none-counted f n e i h = split (f i) (λ t. absurd (omega (arith, count-some f n i h t))) (λ t. t)
-
 -- where any is counted there is a first
-pub counted-first : (f : ℕ → Bool) (n : ℕ) → 1 ≤ countOf f n → First f n (firstFrom f 0 n)
+pub counted-first : (f : ℕ → Bool) (n : ℕ) → 1 ≤ countOf f n → Least f n (firstFrom f 0 n)
 counted-first f n h = elim (first-cases f n) [ inl c ↦ c | inr c ↦ absurd (omega (arith, count-none f n (c .1))) ]
 
 -- what the body keeps, the walk keeps

@@ -1,5 +1,7 @@
 // Settling: while the running thread has an unfinished call, that call is continued and the running thread is chosen anew.
-// `settle` and `continue_call` call each other; the budget is the number that falls.
+// `settle` and `continue_call` call each other; the budget is the number that falls. After a call is continued, settling goes on
+// with half of the budget and then with the rest, so that calls are nested as often as the budget can be halved: the stack that
+// a step needs grows with the logarithm of the budget, and not with the budget.
 use crate::logic::either;
 use crate::mailbox::try_fetch;
 use crate::mailbox::try_post;
@@ -86,9 +88,13 @@ pub fn settle(p: Plant, budget: u16) -> Plant
     continue_call(p, i, budget - 1)
 }
 
-// Thread i's call is continued, and settling goes on.
+// Thread i's call is continued, and settling goes on: with half of the budget, then with the rest.
 pub fn continue_call(p: Plant, i: u8, budget: u16) -> Plant
     ensures { λ r. ⌜ r ≡ settled budget (continued p i) ⌝ }
 {
-    settle(go_on(p, i), budget)
+    let half = budget / 2;
+    let mut r = go_on(p, i);
+    r = settle(r, half);
+    r = settle(r, budget - half);
+    r
 }

@@ -5,25 +5,25 @@ use mathlib.Core.Path.{_≡_, refl, sym, ap, _∙_}
 use mathlib.Core.List.{List}
 use Rattle.trace.specs.declared.decoding.Read.{Read}
 use Rattle.trace.specs.Decoding.{nextRead}
-use Rattle.lines.specs.Ending.{placeAfter}
+use Rattle.lines.specs.Ending.{placeRead}
 
 -- a read that moves nothing is the last: reading on stays there
-pub stays : (n : ℕ) (s : List ℕ) (at : ℕ) → nextRead s at .next ≡ at → placeAfter n s at ≡ at
-unfolding placeAfter
+pub stays : (n : ℕ) (s : List ℕ) (at : ℕ) → nextRead s at .next ≡ at → placeRead n s at ≡ at
+unfolding placeRead
 stays zero s at e = refl
-stays (suc n) s at e = ap (placeAfter n s) e ∙ stays n s at e
+stays (suc n) s at e = ap (placeRead n s) e ∙ stays n s at e
 
-pub read-last : (n : ℕ) (s : List ℕ) (at : ℕ) (r : Read) → r ≡ nextRead s at → r .next ≡ at → placeAfter 0 s (r .next) ≡ placeAfter n s at
-unfolding placeAfter
+pub read-last : (n : ℕ) (s : List ℕ) (at : ℕ) (r : Read) → r ≡ nextRead s at → r .next ≡ at → placeRead 0 s (r .next) ≡ placeRead n s at
+unfolding placeRead
 read-last n s at r e same = same ∙ sym (stays n s at (ap (λ (x : Read). x .next) (sym e) ∙ same))
 
-pub read-more : (n : ℕ) (s : List ℕ) (at : ℕ) (r : Read) → r ≡ nextRead s at → 0 < n → placeAfter (n - 1) s (r .next) ≡ placeAfter n s at
-unfolding placeAfter
+pub read-more : (n : ℕ) (s : List ℕ) (at : ℕ) (r : Read) → r ≡ nextRead s at → 0 < n → placeRead (n - 1) s (r .next) ≡ placeRead n s at
+unfolding placeRead
 read-more zero s at r e h = omega arith
 read-more (suc n) s at r e h =
     let less : suc n - 1 ≡ n = omega arith in
-    rw less (ap (λ (x : Read). placeAfter n s (x .next)) e)
+    rw less (ap (λ (x : Read). placeRead n s (x .next)) e)
 
-pub read-none : (n : ℕ) (s : List ℕ) (at p : ℕ) → n ≡ 0 → placeAfter n s at ≡ p → at ≡ p
-unfolding placeAfter
-read-none n s at p none e = sym (ap (λ (m : ℕ). placeAfter m s at) none) ∙ e
+pub read-none : (n : ℕ) (s : List ℕ) (at p : ℕ) → n ≡ 0 → placeRead n s at ≡ p → at ≡ p
+unfolding placeRead
+read-none n s at p none e = sym (ap (λ (m : ℕ). placeRead m s at) none) ∙ e

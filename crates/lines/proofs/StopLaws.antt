@@ -15,7 +15,7 @@ use Rattle.trace.specs.Ordered.{getN}
 use Rattle.trace.specs.Decoding.{foundCode, headRefusal, stepRefusal, openedRead, nextRead}
 use Rattle.trace.proofs.Framing.{Head, head, stands}
 use Rattle.trace.proofs.ReadingLaws.{ends, steps-on, refuses}
-use Rattle.lines.specs.Ending.{placeAfter}
+use Rattle.lines.specs.Ending.{placeRead}
 use Rattle.lines.proofs.EndingLaws.{stays, read-more}
 
 -- a reader that begins at a place has read n records, each of which moved it on
@@ -29,24 +29,24 @@ pub record Stops (s : List ℕ) (at : ℕ) : Type 0 where
   pub found : (nextRead s at .found ≡ Ended) ⊎ (foundCode (nextRead s at .found) ≢ 0)
 
 -- so many records are read from a place on, and then the reader stops
-pub record Listed (s : List ℕ) (from to : ℕ) : Type 0 where
+pub record ListedTo (s : List ℕ) (from to : ℕ) : Type 0 where
   pub count : ℕ
   pub reads : Reads s from count to
   pub stops : Stops s to
 
 -- a read that stops is where reading on stays
-listed-here : (n : ℕ) (s : List ℕ) (at : ℕ) → Stops s at → Listed s at (placeAfter n s at)
+listed-here : (n : ℕ) (s : List ℕ) (at : ℕ) → Stops s at → ListedTo s at (placeRead n s at)
 listed-here n s at h = rw (stays n s at (h .unmoved)) (record { count = 0; reads = Reads.none; stops = h })
 
 -- one that does not goes on
-listed-on : (s : List ℕ) (at next to : ℕ) → nextRead s at .next ≡ next → next ≢ at → Listed s next to → Listed s at to
+listed-on : (s : List ℕ) (at next to : ℕ) → nextRead s at .next ≡ next → next ≢ at → ListedTo s next to → ListedTo s at to
 listed-on s at next to e d l =
     let rest : Reads s (nextRead s at .next) (l .count) to = rw e (l .reads) in
     record { count = suc (l .count); reads = Reads.more {at = at} (rw e d) rest; stops = l .stops }
 
 -- behind record 0, where the reads that are left are enough for the bytes that are left
-later-listed : (n : ℕ) (s : List ℕ) (at : ℕ) → 0 < at → at ≤ length s → length s < at + 13 * n → Listed s at (placeAfter n s at)
-unfolding placeAfter
+later-listed : (n : ℕ) (s : List ℕ) (at : ℕ) → 0 < at → at ≤ length s → length s < at + 13 * n → ListedTo s at (placeRead n s at)
+unfolding placeRead
 later-listed zero s at h l g = absurd (omega arith)
 later-listed (suc n) s at h l g =
     split (eqb at (length s))
@@ -59,7 +59,7 @@ later-listed (suc n) s at h l g =
     (λ t.
     let r : stepRefusal s at ≡ 0 = eqb-true (stepRefusal s at) 0 t in
     let e : nextRead s at .next ≡ at + 13 = ap (λ (r : Read). r .next) (steps-on s at h here r) in
-    rw e (listed-on s at (at + 13) (placeAfter n s (at + 13)) e (λ z. omega arith)
+    rw e (listed-on s at (at + 13) (placeRead n s (at + 13)) e (λ z. omega arith)
     (later-listed n s (at + 13) (omega arith) (stands s at r .within) (omega arith))))
     (λ g′.
     let no : stepRefusal s at ≢ 0 = eqb-false (stepRefusal s at) 0 g′ in
@@ -68,7 +68,7 @@ later-listed (suc n) s at h l g =
     (record { unmoved = ap (λ (r : Read). r .next) e; found = inr (λ z. no (sym (ap (λ (r : Read). foundCode (r .found)) e) ∙ z)) })))
 
 -- the 5000 reads of a listing stop where the reader stops
-pub listing-stops : (s : List ℕ) → Listed s 0 (placeAfter 5000 s 0)
+pub listing-stops : (s : List ℕ) → ListedTo s 0 (placeRead 5000 s 0)
 unfolding nextRead openedRead
 listing-stops s =
     split (eqb (headRefusal s) 0)
@@ -76,9 +76,9 @@ listing-stops s =
     let h : Head s = head s (eqb-true (headRefusal s) 0 t) in
     let long : getN 2 s 1 ≡ 6 + getD s 7 0 = h .opens .sized in
     let e : nextRead s 0 .next ≡ 3 + getN 2 s 1 = rw t in
-    let go : placeAfter 5000 s 0 ≡ placeAfter 4999 s (3 + getN 2 s 1) =
-    sym (read-more 5000 s 0 (nextRead s 0) refl (omega arith)) ∙ ap (placeAfter 4999 s) e in
-    listed-on s 0 (3 + getN 2 s 1) (placeAfter 5000 s 0) e (λ z. omega arith)
+    let go : placeRead 5000 s 0 ≡ placeRead 4999 s (3 + getN 2 s 1) =
+    sym (read-more 5000 s 0 (nextRead s 0) refl (omega arith)) ∙ ap (placeRead 4999 s) e in
+    listed-on s 0 (3 + getN 2 s 1) (placeRead 5000 s 0) e (λ z. omega arith)
     (rw go (later-listed 4999 s (3 + getN 2 s 1) (omega arith) (h .opens .within) (omega (arith, h .opens .short)))))
     (λ f.
     let no : headRefusal s ≢ 0 = eqb-false (headRefusal s) 0 f in
@@ -121,3 +121,14 @@ listed-few Reads.none = omega arith
 listed-few {s} (Reads.more {n = n} d rest) =
     let on = head-moved s d in
     omega (arith, on .0, on .1 .1, later-room (omega (arith, on .0)) (on .1 .0) rest)
+
+-- ---- there is one place where the reader stops
+
+one-stop : {s : List ℕ} {from m n a b : ℕ} → Reads s from m a → Stops s a → Reads s from n b → Stops s b → a ≡ b
+one-stop Reads.none h Reads.none g = refl
+one-stop Reads.none h (Reads.more d rest) g = absurd (d (h .unmoved))
+one-stop (Reads.more d rest) h Reads.none g = absurd (d (g .unmoved))
+one-stop (Reads.more d rest) h (Reads.more e others) g = one-stop rest h others g
+
+pub listed-one : {s : List ℕ} {from a b : ℕ} → ListedTo s from a → ListedTo s from b → a ≡ b
+listed-one x y = one-stop (x .reads) (x .stops) (y .reads) (y .stops)

@@ -4,6 +4,6 @@ use mathlib.Core.List.{List}
 use Rattle.trace.specs.Decoding.{nextRead}
 
 -- the reader's place after n reads from a place
-unfoldable pub placeAfter : ℕ → List ℕ → ℕ → ℕ
-placeAfter zero s at = at
-placeAfter (suc n) s at = placeAfter n s (nextRead s at .next)
+unfoldable pub placeRead : ℕ → List ℕ → ℕ → ℕ
+placeRead zero s at = at
+placeRead (suc n) s at = placeRead n s (nextRead s at .next)

@@ -26,7 +26,7 @@ use trace::cursor::read_at;
 use trace::decoding::Found;
 use trace::decoding::number_at;
 ghost use mathlib.Core.Path.{_≡_};
-ghost use Rattle.lines.specs.Ending.{placeAfter};
+ghost use Rattle.lines.specs.Ending.{placeRead};
 
 // More reads than the longest trace has records.
 const READS: u16 = 5000;
@@ -136,7 +136,7 @@ fn list_found(
 // Prints the listing of a trace, with all tables after each step's line where `whole`.
 // The answer is the place in the trace where reading ended: its end, or the bad record.
 pub fn list_trace(s: &[u8], whole: bool) -> usize
-    ensures { λ r. ⌜ r ≡ placeAfter 5000 (now (s .entry)) 0 ⌝ }
+    ensures { λ r. ⌜ r ≡ placeRead 5000 (now (s .entry)) 0 ⌝ }
 {
     let mut space = io::large_buffer();
     let out: &mut [u8] = &mut space;

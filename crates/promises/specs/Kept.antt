@@ -4,7 +4,7 @@ pub mod CounterRule
 pub mod Accepting
 pub mod Holds
 pub mod ReferenceRule
-pub mod Story
+pub mod Rows
 pub mod Chain
 pub mod Moving
 pub mod RingKept
@@ -15,3 +15,4 @@ pub mod KernelActs
 pub mod BoxActs
 pub mod Acts
 pub mod Settles
+pub mod Steps

@@ -2,10 +2,6 @@
 pub mod Run
 pub mod Answers
 pub mod Refusals
-pub mod Flags
-pub mod History
-pub mod Lives
-pub mod Turns
 pub mod Keeping
 pub mod Sleepers
 pub mod OneStep

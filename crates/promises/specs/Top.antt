@@ -1,5 +1,6 @@
 -- The demands, the twelve facts, and runs that show that both speak of something.
 pub mod Demands
+pub mod RuledOut
 pub mod Facts
 pub mod Shown
 pub mod ShownArms

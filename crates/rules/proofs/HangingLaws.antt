@@ -9,9 +9,11 @@ use lib.Dec.{eqb, ltb}
 use lib.ListN.{length, getD, set, replicate, length-set, length-replicate}
 use lib.Seq.{getD-set-same, getD-set-other}
 use borrow.Author.Tests.{ltb-true, eqb-true, eqb-false, ne-eqb, not-true, not-false}
-use Rattle.kernel.specs.Walk.{allFrom, bit, countOf}
-use Rattle.kernel.proofs.Loops.{all-fails, all-next, count-more}
-use Rattle.rules.specs.Limits.{usedOf}
+use Rattle.kernel.specs.Numbers.{nobody}
+use Rattle.kernel.specs.Walk.{firstFrom, allFrom, bit, countOf}
+use Rattle.kernel.proofs.Cases.{split}
+use Rattle.kernel.proofs.Loops.{first-here, first-next, all-fails, all-next, count-more}
+use Rattle.rules.specs.Limits.{usedOf, firstBad}
 
 -- no more rows are in use than there are; e is what a callee gave
 pub used-of-le : (e rows n : ℕ) → e ≡ usedOf rows n → e ≤ rows
@@ -35,6 +37,25 @@ module _ (f : ℕ → Bool) (i n : ℕ) (r : Bool) (within : i < n) (tested : r 
 
   pub fails-here : not r ≡ true → allFrom f i (n - i) ≡ false
   fails-here test = all-fails f i n within (failed tested test)
+
+  -- .. and so has a search for the first index that fails
+  pub finds-later : not r ≡ false → firstFrom (λ j. not (f j)) i (n - i) ≡ firstFrom (λ j. not (f j)) (i + 1) (n - (i + 1))
+  finds-later test = first-next (λ j. not (f j)) i n within (ap not (sym tested) ∙ test)
+
+  pub finds-here : not r ≡ true → firstFrom (λ j. not (f j)) i (n - i) ≡ i
+  finds-here test = first-here (λ j. not (f j)) i n within (ap not (sym tested) ∙ test)
+
+-- a search for the first index that fails finds none exactly if all pass
+pub none-fails : (f : ℕ → Bool) (i n : ℕ) → i + n ≤ 255 → eqb (firstFrom (λ j. not (f j)) i n) nobody ≡ allFrom f i n
+unfolding firstFrom allFrom
+none-fails f i zero h = refl
+none-fails f i (suc n) h =
+    split (f i) (λ e. rw e (none-fails f (suc i) n (omega arith)))
+    (λ e. rw e (ne-eqb i nobody (λ q. omega arith)))
+
+-- r is what a search gave, and the code has compared it with nobody
+pub none-bad : (f : ℕ → Bool) (n r : ℕ) → n ≤ 255 → r ≡ firstBad f n → eqb r nobody ≡ allFrom f 0 n
+none-bad f n r h e = rw e (none-fails f 0 n (omega arith))
 
 -- one index more counts at most once more
 more-le : (b : Bool) (m n : ℕ) → m ≤ n → m + bit b ≤ suc n

@@ -1,3 +1,4 @@
 -- What the proofs share.
 pub mod HangingLaws
+pub mod FindingLaws
 pub mod Unique

@@ -6,3 +6,4 @@ pub mod ReferenceRules
 pub mod MailboxRules
 pub mod PoolRules
 pub mod Hanging
+pub mod Finding

@@ -5,7 +5,7 @@ use lib.Dec.{eqb, ltb, leb}
 use Rattle.kernel.specs.Walk.{allFrom}
 use Rattle.library.specs.declared.ring.Positions.{Positions}
 use Rattle.library.specs.declared.tables.Plant.{Plant}
-use Rattle.rules.specs.Limits.{usedOf}
+use Rattle.rules.specs.Limits.{usedOf, firstBad}
 use Rattle.library.specs.Sizes.{slotsAt}
 use Rattle.library.specs.Tables.{mailboxAt}
 
@@ -24,6 +24,10 @@ positionsFit q slots = inRing q slots && follows q slots
 -- mailbox m hangs together
 abbrev pub mailboxFits : Plant → ℕ → Bool
 mailboxFits p m = positionsFit (mailboxAt p m .positions) (slotsAt (p .sizes) m)
+
+-- the first mailbox that does not
+abbrev pub badMailbox : Plant → ℕ
+badMailbox p = firstBad (mailboxFits p) (usedOf 4 (p .sizes .mailboxes))
 
 -- each mailbox does so
 unfoldable pub mailboxesFit : Plant → Bool

@@ -12,6 +12,7 @@ use Rattle.kernel.specs.Waiters.{queuedAt}
 use Rattle.kernel.specs.Walk.{allFrom, countOf}
 use Rattle.library.specs.declared.sizes.Sizes.{Sizes}
 use Rattle.library.specs.Signs.{same, minus}
+use Rattle.rules.specs.Limits.{firstBad}
 
 -- the sizes put the place p to use: semaphores, pools, queues, and "a mailbox has a writers' and a readers' queue"
 abbrev pub inUse : Sizes → ℕ → Bool
@@ -44,6 +45,10 @@ placeFits z p c n = cond (inUse z p) (counterFits p c n) true
 -- the counter of the place p agrees with the threads queued there
 abbrev pub placeAgrees : Kernel → Sizes → ℕ → Bool
 placeAgrees k z p = placeFits z p (counterAt k p) (queuedCount k (z .threads) p)
+
+-- the first place whose counter does not
+abbrev pub badPlace : Kernel → Sizes → ℕ
+badPlace k z = firstBad (placeAgrees k z) 36
 
 -- each counter does so
 unfoldable pub countersFit : Kernel → Sizes → Bool

@@ -13,7 +13,7 @@ use Rattle.kernel.specs.Waiters.{isReady}
 use Rattle.kernel.specs.Walk.{allFrom, countOf}
 use Rattle.library.specs.declared.tables.Pool.{Pool}
 use Rattle.library.specs.declared.tables.Plant.{Plant}
-use Rattle.rules.specs.Limits.{usedOf}
+use Rattle.rules.specs.Limits.{usedOf, firstBad}
 use Rattle.library.specs.Signs.{same}
 use Rattle.library.specs.Tables.{poolAt}
 use Rattle.library.specs.Pool.{free, out, listedAt, markAt}
@@ -74,6 +74,10 @@ poolFits x c promised = leb (x .length) 32 && (lengthFits (x .length) c promised
 abbrev pub poolAgrees : Plant → ℕ → Bool
 poolAgrees p q =
     poolFits (poolAt p q) (counterAt (p .kernel) (poolPlace q)) (promisedCount (p .kernel) (p .sizes .threads) q)
+
+-- the first pool that does not
+abbrev pub badPool : Plant → ℕ
+badPool p = firstBad (poolAgrees p) (usedOf 4 (p .sizes .pools))
 
 -- each pool does so
 unfoldable pub poolsFit : Plant → Bool

@@ -8,7 +8,7 @@ use Rattle.kernel.specs.Numbers.{nobody, suspended}
 use Rattle.kernel.specs.Tables.{usedRows, threadAt, holderAt}
 use Rattle.kernel.specs.Walk.{allFrom}
 use Rattle.library.specs.declared.sizes.Sizes.{Sizes}
-use Rattle.rules.specs.Limits.{usedOf}
+use Rattle.rules.specs.Limits.{usedOf, firstBad}
 
 -- "i is suspended on r"
 abbrev pub suspendedAt : ℕ → Thread → Bool
@@ -29,6 +29,10 @@ threadAgrees k holder r i = holdsRightly holder r i (threadAt k i)
 -- reference r holds nobody but the one of n threads that is suspended on it
 unfoldable pub holderFits : Kernel → ℕ → ℕ → Bool
 holderFits k n r = isHolder (holderAt k r) n && allFrom (threadAgrees k (holderAt k r) r) 0 (usedRows n)
+
+-- the first reference that does not
+abbrev pub badReference : Kernel → Sizes → ℕ
+badReference k z = firstBad (holderFits k (z .threads)) (usedOf 8 (z .references))
 
 -- each reference does so
 unfoldable pub referencesFit : Kernel → Sizes → Bool

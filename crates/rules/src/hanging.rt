@@ -17,7 +17,7 @@ ghost use mathlib.Core.Path.{_≡_};
 ghost use Rattle.rules.specs.Hanging.{runningFree, hangsTogether};
 
 // Whether the running one of n threads has no unfinished call; idle has none.
-fn running_free(k: Kernel, n: u16) -> bool
+pub fn running_free(k: Kernel, n: u16) -> bool
     ensures { λ r. ⌜ r ≡ runningFree k n ⌝ }
 {
     let t = thread_at(k, first_ready(k, n));

@@ -1,5 +1,6 @@
 // Tables that hang together: document 01's section of that name, a module for each subject and a function for each sentence.
 // Only rows within the sizes are read.
+pub mod finding;
 pub mod hanging;
 pub mod limits;
 pub mod mailbox_rules;

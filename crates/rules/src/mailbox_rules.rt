@@ -1,10 +1,11 @@
 // Whether each mailbox's positions hang together.
+use crate::limits::NO_ROW;
 use crate::limits::used_of;
 use library::ring::Positions;
 use library::sizes::slots_at;
 use library::tables::Plant;
 ghost use mathlib.Core.Path.{_≡_};
-ghost use Rattle.rules.specs.MailboxRules.{inRing, follows, positionsFit, mailboxesFit};
+ghost use Rattle.rules.specs.MailboxRules.{inRing, follows, positionsFit, badMailbox, mailboxesFit};
 
 // Whether the count and both places are in range for a ring of `slots`.
 fn in_ring(q: Positions, slots: u16) -> bool
@@ -26,9 +27,9 @@ fn positions_fit(q: Positions, slots: u16) -> bool
     in_ring(q, slots) && follows(q, slots)
 }
 
-// Whether each mailbox's positions hang together.
-pub fn mailboxes_fit(p: Plant) -> bool
-    ensures { λ r. ⌜ r ≡ mailboxesFit p ⌝ }
+// The first mailbox whose positions do not hang together, or NO_ROW.
+pub fn first_bad_mailbox(p: Plant) -> u16
+    ensures { λ r. ⌜ r ≡ badMailbox p ⌝ }
 {
     let z = p.sizes;
     let end = used_of(4, z.mailboxes);
@@ -36,9 +37,16 @@ pub fn mailboxes_fit(p: Plant) -> bool
     while m < end {
         let b = p.mailboxes[m as usize];
         if !positions_fit(b.positions, slots_at(z, m)) {
-            return false;
+            return m;
         }
         m += 1;
     }
-    true
+    NO_ROW
+}
+
+// Whether each mailbox's positions hang together.
+pub fn mailboxes_fit(p: Plant) -> bool
+    ensures { λ r. ⌜ r ≡ mailboxesFit p ⌝ }
+{
+    first_bad_mailbox(p) == NO_ROW
 }

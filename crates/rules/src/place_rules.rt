@@ -1,5 +1,6 @@
 // Whether each counter agrees with the threads that are queued at its place.
 // One pass over the threads counts for all places at once.
+use crate::limits::NO_ROW;
 use kernel::numbers::QUEUED;
 use kernel::records::Kernel;
 use kernel::records::Thread;
@@ -10,7 +11,7 @@ use library::sizes::Sizes;
 ghost use Prim.Native.Nat.{ℕ, _<_};
 ghost use mathlib.Core.Path.{_≡_};
 ghost use lib.ListN.{getD};
-ghost use Rattle.rules.specs.PlaceRules.{inUse, queueOf, queuedCount, isIdle, counterFits, placeFits, countersFit};
+ghost use Rattle.rules.specs.PlaceRules.{inUse, queueOf, queuedCount, isIdle, counterFits, placeFits, badPlace, countersFit};
 
 // Whether the sizes put a place to use.
 fn in_use(z: Sizes, p: u16) -> bool
@@ -82,9 +83,9 @@ fn place_fits(z: Sizes, p: u16, c: i32, n: u16) -> bool
     }
 }
 
-// Whether each counter in use agrees with the threads queued at its place.
-pub fn counters_fit(k: Kernel, z: Sizes) -> bool
-    ensures { λ r. ⌜ r ≡ countersFit k z ⌝ }
+// The first place whose counter does not agree with the threads queued there, or NO_ROW.
+pub fn first_bad_place(k: Kernel, z: Sizes) -> u16
+    ensures { λ r. ⌜ r ≡ badPlace k z ⌝ }
 {
     let counts = count_queued(k, z.threads);
     let mut p: u16 = 0;
@@ -92,9 +93,16 @@ pub fn counters_fit(k: Kernel, z: Sizes) -> bool
         let c = k.counters[p as usize];
         let n = counts[p as usize];
         if !place_fits(z, p, c, n) {
-            return false;
+            return p;
         }
         p += 1;
     }
-    true
+    NO_ROW
+}
+
+// Whether each counter in use agrees with the threads queued at its place.
+pub fn counters_fit(k: Kernel, z: Sizes) -> bool
+    ensures { λ r. ⌜ r ≡ countersFit k z ⌝ }
+{
+    first_bad_place(k, z) == NO_ROW
 }

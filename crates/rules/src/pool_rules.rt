@@ -1,5 +1,6 @@
 // Whether each pool's free list agrees with its marks, its counter and the objects promised to woken threads.
 // One pass over the threads counts the promises of all pools, and one over a list the occurrences of all objects.
+use crate::limits::NO_ROW;
 use crate::limits::used_of;
 use kernel::kinds::KEPT_ALLOC;
 use kernel::numbers::OK;
@@ -28,6 +29,7 @@ ghost use Rattle.rules.specs.PoolRules.{
   larger,
   lengthFits,
   poolFits,
+  badPool,
   poolsFit,
 };
 
@@ -147,9 +149,9 @@ fn pool_fits(x: Pool, c: i32, promised: u16) -> bool
     x.length <= 32 && (length_fits(x.length, c, promised) && (entries_fit(x) && objects_fit(x)))
 }
 
-// Whether each pool hangs together.
-pub fn pools_fit(p: Plant) -> bool
-    ensures { λ r. ⌜ r ≡ poolsFit p ⌝ }
+// The first pool that does not hang together, or NO_ROW.
+pub fn first_bad_pool(p: Plant) -> u16
+    ensures { λ r. ⌜ r ≡ badPool p ⌝ }
 {
     let k = p.kernel;
     let z = p.sizes;
@@ -161,9 +163,16 @@ pub fn pools_fit(p: Plant) -> bool
         let c = k.counters[pool_place(q) as usize];
         let n = promised[q as usize];
         if !pool_fits(x, c, n) {
-            return false;
+            return q;
         }
         q += 1;
     }
-    true
+    NO_ROW
+}
+
+// Whether each pool hangs together.
+pub fn pools_fit(p: Plant) -> bool
+    ensures { λ r. ⌜ r ≡ poolsFit p ⌝ }
+{
+    first_bad_pool(p) == NO_ROW
 }

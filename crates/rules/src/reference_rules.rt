@@ -1,4 +1,5 @@
 // Whether each reference holds the thread that is suspended on it, and nobody else.
+use crate::limits::NO_ROW;
 use crate::limits::used_of;
 use kernel::numbers::NOBODY;
 use kernel::numbers::SUSPENDED;
@@ -7,7 +8,7 @@ use kernel::records::Thread;
 use kernel::tables::used_rows;
 use library::sizes::Sizes;
 ghost use mathlib.Core.Path.{_≡_};
-ghost use Rattle.rules.specs.ReferenceRules.{suspendedAt, holdsRightly, isHolder, referencesFit};
+ghost use Rattle.rules.specs.ReferenceRules.{suspendedAt, holdsRightly, isHolder, badReference, referencesFit};
 
 fn is_suspended_at(t: Thread, r: u16) -> bool
     ensures { λ s. ⌜ s ≡ suspendedAt r t ⌝ }
@@ -30,9 +31,9 @@ fn is_holder(holder: u8, n: u16) -> bool
     holder == NOBODY || (holder as u16) < n
 }
 
-// Whether each reference holds i exactly if i is suspended on it. The rows are read where they lie.
-pub fn references_fit(k: Kernel, z: Sizes) -> bool
-    ensures { λ s. ⌜ s ≡ referencesFit k z ⌝ }
+// The first reference that holds another thread than the one suspended on it, or NO_ROW. The rows are read where they lie.
+pub fn first_bad_reference(k: Kernel, z: Sizes) -> u16
+    ensures { λ s. ⌜ s ≡ badReference k z ⌝ }
 {
     let last = used_of(8, z.references);
     let end = used_rows(z.threads);
@@ -40,17 +41,24 @@ pub fn references_fit(k: Kernel, z: Sizes) -> bool
     while r < last {
         let holder = k.references[r as usize];
         if !is_holder(holder, z.threads) {
-            return false;
+            return r;
         }
         let mut i: u8 = 0;
         while i < end {
             let t = k.threads[i as usize];
             if !holds_rightly(holder, r, i, t) {
-                return false;
+                return r;
             }
             i += 1;
         }
         r += 1;
     }
-    true
+    NO_ROW
+}
+
+// Whether each reference holds i exactly if i is suspended on it.
+pub fn references_fit(k: Kernel, z: Sizes) -> bool
+    ensures { λ s. ⌜ s ≡ referencesFit k z ⌝ }
+{
+    first_bad_reference(k, z) == NO_ROW
 }

@@ -123,7 +123,7 @@ fn is_sound(call: Call, z: Sizes) -> bool
     call.object < limit && (1 <= call.timeout && (keeps || call.operand == 0))
 }
 
-fn call_fits(t: Thread, z: Sizes) -> bool
+pub fn call_fits(t: Thread, z: Sizes) -> bool
     ensures { λ r. ⌜ r ≡ callFits t z ⌝ }
 {
     let call = t.call;
@@ -173,7 +173,7 @@ fn wait_place(kind: u16, object: u16) -> u16
 }
 
 // A ready thread waits nowhere; any other waits as its call does.
-fn wait_fits(t: Thread) -> bool
+pub fn wait_fits(t: Thread) -> bool
     ensures { λ r. ⌜ r ≡ waitFits t ⌝ }
 {
     let call = t.call;
@@ -185,7 +185,7 @@ fn wait_fits(t: Thread) -> bool
 }
 
 // Ticks are left exactly if the thread waits for a finite time, and no more than its call's timeout.
-fn ticks_fit(t: Thread) -> bool
+pub fn ticks_fit(t: Thread) -> bool
     ensures { λ r. ⌜ r ≡ ticksFit t ⌝ }
 {
     let call = t.call;
@@ -199,7 +199,7 @@ fn ticks_fit(t: Thread) -> bool
 }
 
 // The awaited flags are an unfinished event wait's mask.
-fn awaited_fit(t: Thread) -> bool
+pub fn awaited_fit(t: Thread) -> bool
     ensures { λ r. ⌜ r ≡ awaitedFit t ⌝ }
 {
     let call = t.call;
@@ -211,7 +211,7 @@ fn awaited_fit(t: Thread) -> bool
 }
 
 // A thread that awaits events has none of its flags pending.
-fn none_pending(t: Thread) -> bool
+pub fn none_pending(t: Thread) -> bool
     ensures { λ r. ⌜ r ≡ nonePending t ⌝ }
 {
     t.state != AWAITING || t.pending & t.awaited == 0

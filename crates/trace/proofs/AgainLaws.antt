@@ -99,13 +99,13 @@ steps-again (suc n) s at b h e =
     (λ g. absurd (not-ended (stepRefusal s at) (numberAt at) (rw (refuses s at h before (eqb-false (stepRefusal s at) 0 g)) at e))))
 
 -- what is known of a trace that was read up to its end
-pub record Accepted (s : List ℕ) : Type 0 where
+pub record ReadToItsEnd (s : List ℕ) : Type 0 where
   pub start : Head s
   pub sizes : readAll s .sizes ≡ headSizes s
   pub steps : readAll s .steps ≡ readFrom (length s) s (3 + getN 2 s 1) .steps
   pub stop : readFrom (length s) s (3 + getN 2 s 1) .stop ≡ Ended
 
-pub read-whole : (s : List ℕ) → readAll s .stop ≡ Ended → Accepted s
+pub read-whole : (s : List ℕ) → readAll s .stop ≡ Ended → ReadToItsEnd s
 unfolding readAll readFrom nextRead openedRead
 read-whole s e =
     split (eqb (headRefusal s) 0)
@@ -117,7 +117,7 @@ read-whole s e =
     })
     (λ f. absurd (not-ended (headRefusal s) 0 (rw f at e)))
 
-pub trace-again : (s : List ℕ) → Bytes s → Accepted s → traceOf (readAll s .sizes) (readAll s .steps) ≡ s
+pub trace-again : (s : List ℕ) → Bytes s → ReadToItsEnd s → traceOf (readAll s .sizes) (readAll s .steps) ≡ s
 unfolding traceOf
 trace-again s b k =
     let n : ℕ = 3 + getN 2 s 1 in

@@ -8,7 +8,6 @@ pub mod Runs
 pub mod BodyLaws
 pub mod WritingLaws
 pub mod ReadingLaws
-pub mod MovedLaws
 pub mod AgainLaws
 pub mod TraceLaws
 pub mod Unique

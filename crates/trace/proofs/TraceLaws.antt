@@ -15,9 +15,9 @@ use Rattle.trace.specs.declared.writer.Written.the-variants.{Upto}
 use Rattle.library.specs.Sizes.{sizesFit}
 use Rattle.trace.specs.TraceBytes.{longest, headOf, recordOf, recordsOf, traceOf}
 use Rattle.trace.specs.Decoding.{foundCode, numberAt, headRefusal, stepRefusal, refusedRead, refusalAt, openedRead, steppedRead, nextRead}
-use Rattle.trace.specs.Writer.{writtenCode, answerOf, roomRefusal, sizesRefusal, sizesWritten, stepWritten}
+use Rattle.trace.specs.Writer.{writtenCode, writeAnswer, roomRefusal, sizesRefusal, sizesWritten, stepWritten}
 use Rattle.trace.specs.Traces.{readAll, writtenAll, AllEncode, Tabled, Bytes}
-use Rattle.trace.proofs.AgainLaws.{Accepted, read-whole, trace-again, head-tabled}
+use Rattle.trace.proofs.AgainLaws.{ReadToItsEnd, read-whole, trace-again, head-tabled}
 use Rattle.trace.proofs.Cases.{split}
 use Rattle.trace.proofs.ReadingLaws.{all-read}
 use Rattle.trace.proofs.SizesLaws.{Limits, limits}
@@ -49,7 +49,7 @@ read-again s b e = trace-again s b (read-whole s e)
 pub written-again : (s l : List ℕ) → Bytes s → readAll s .stop ≡ Ended → length s ≤ length l
     → writtenAll (readAll s .sizes) (readAll s .steps) l ≡ record { answer = Upto (length s); buffer = s ++ drop (length s) l }
 written-again s l b e h =
-    let k : Accepted s = read-whole s e in
+    let k : ReadToItsEnd s = read-whole s e in
     let same : traceOf (readAll s .sizes) (readAll s .steps) ≡ s = trace-again s b k in
     let fit : sizesFit (readAll s .sizes) ≡ true = rw (k .sizes) (k .start .fit) in
     let four : length (readAll s .sizes .slots) ≡ 4 = rw (k .sizes) (head-tabled s (k .start) .four) in
@@ -98,7 +98,7 @@ code-read s (suc at) =
 -- ---- "The writer refuses, writing nothing"
 
 -- an answer gives the refusal's number
-pub code-answered : (code next : ℕ) → writtenCode (answerOf code next) ≡ code
+pub code-answered : (code next : ℕ) → writtenCode (writeAnswer code next) ≡ code
 code-answered code next = split (eqb code 0) (λ t. rw t (sym (eqb-true code 0 t))) (λ f. rw f)
 
 pub sizes-unwritten : (z : Sizes) (l : List ℕ) → (sizesRefusal z l ≡ 0 → ⊥) → sizesWritten z l ≡ l

@@ -4,9 +4,9 @@ use native.Mathlib.Nat.{add-zero, zero-add, div-add-mod', div-lt-iff-lt-mul, zer
 use native.Mathlib.Numerals.{add-one}
 use native.Mathlib.Omega.{arith}
 use mathlib.Core.Path.{_≡_, refl, sym, ap, ap₂, _∙_}
-use mathlib.Core.List.{List, [], _∷_, _++_, append-assoc}
+use mathlib.Core.List.{List, [], _∷_, _++_}
 use lib.ListN.{length, getD, set, take, drop, length-append, length-drop, List·getD-eq-default, List·getD-append}
-use lib.Seq.{sets, sets-eq, getD-append-seam, getD-append-add, getD-drop, length-take-le, take-suc}
+use lib.Seq.{sets, getD-append-seam, getD-append-add, getD-drop, take-suc}
 use borrow.Author.Tests.{le-leb, lt-leb}
 use Rattle.trace.specs.Ordered.{bytesN, getN, putN}
 
@@ -78,16 +78,6 @@ put-some k l at x h = simp (le-leb (at + k) (length l) h)
 pub put-none : (k : ℕ) (l : List ℕ) (at x : ℕ) → length l < at + k → l ≡ putN k l at x
 unfolding putN
 put-none k l at x h = simp (lt-leb (at + k) (length l) h)
-
--- what is put is got back, at any width
-pub get-put : (k : ℕ) (l : List ℕ) (at x : ℕ) → at + k ≤ length l → x < 256 ^ k → getN k (putN k l at x) at ≡ x
-get-put k l at x h b =
-    let size : length (bytesN k x) ≡ k = length-bytes k x in
-    let before : List ℕ = take at l in
-    let after : List ℕ = drop (at + length (bytesN k x)) l in
-    ap (λ (m : List ℕ). getN k m at)
-    (sym (put-some k l at x h) ∙ sets-eq (bytesN k x) l at (omega arith) ∙ append-assoc before (bytesN k x) after)
-    ∙ get-bytes k before x after at (length-take-le at l (omega arith)) b
 
 -- ---- the two widths, in the form in which code meets them: a, b, c, d are the bytes that the callees gave
 module _ (l : List ℕ) (at a b : ℕ) (ea : a ≡ getD l at 0) (eb : b ≡ getD l (at + 1) 0) where

@@ -19,8 +19,8 @@ writtenCode (Upto next) = 0
 writtenCode (Refused code) = code
 
 -- the answer of a number: 0 is the place after the record, any other a refusal
-abbrev pub answerOf : ℕ → ℕ → Written
-answerOf code next = cond (eqb code 0) (Upto next) (Refused code)
+abbrev pub writeAnswer : ℕ → ℕ → Written
+writeAnswer code next = cond (eqb code 0) (Upto next) (Refused code)
 
 -- "15 above 60,000 bytes, 16 if its buffer is too short": n bytes from a place on, in a buffer of so many
 abbrev pub roomRefusal : ℕ → ℕ → ℕ → ℕ
@@ -36,7 +36,7 @@ sizesRefusal z l = cond (sizesFit z) (roomRefusal (length l) 0 (9 + z .mailboxes
 
 -- the answer to sizes: the place of record 1, or a refusal
 unfoldable pub sizesAnswer : Sizes → List ℕ → Written
-sizesAnswer z l = answerOf (sizesRefusal z l) (9 + z .mailboxes)
+sizesAnswer z l = writeAnswer (sizesRefusal z l) (9 + z .mailboxes)
 
 -- the buffer with the version byte and record 0 at its start; a refusal writes nothing
 unfoldable pub sizesWritten : Sizes → List ℕ → List ℕ
@@ -44,7 +44,7 @@ sizesWritten z l = cond (eqb (sizesRefusal z l) 0) (sets l 0 (headOf z)) l
 
 -- the answer to a step at a place: the place behind its record, or a refusal
 unfoldable pub stepAnswer : ℕ → List ℕ → Written
-stepAnswer at l = answerOf (roomRefusal (length l) at 13) (at + 13)
+stepAnswer at l = writeAnswer (roomRefusal (length l) at 13) (at + 13)
 
 -- the buffer with the step's record at a place; a refusal writes nothing
 unfoldable pub stepWritten : Step → ℕ → List ℕ → List ℕ

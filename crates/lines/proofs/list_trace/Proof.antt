@@ -2,13 +2,13 @@
 use native.Mathlib.Omega.{arith}
 use mathlib.Core.Path.{_≡_, refl, _∙_}
 use borrow.Author.Needs.{needs}
-use Rattle.lines.specs.Ending.{placeAfter}
+use Rattle.lines.specs.Ending.{placeRead}
 use Rattle.lines.proofs.EndingLaws.{read-last, read-more, read-none}
 use Rattle.lines.proofs.list_trace.Statement.{statement}
 use Rattle.lines.proofs.list_trace.Tie as tie
 
 abbrev Inv-loop : tie.InvT-loop
-Inv-loop s whole out₀ heading x₀ at₀ left₀ out x at left = placeAfter left s at ≡ placeAfter 5000 s 0
+Inv-loop s whole out₀ heading x₀ at₀ left₀ out x at left = placeRead left s at ≡ placeRead 5000 s 0
 
 abbrev μ-loop : tie.MeasureT-loop
 μ-loop s whole out₀ heading x₀ at₀ left₀ out x at left = left

@@ -5,7 +5,7 @@ use mathlib.Core.Path.{_≡_, refl}
 use mathlib.Core.Logic.{_≢_}
 use mathlib.Core.Bool.{Bool, true, false, cond}
 use lib.Dec.{leb}
-use borrow.Author.Tests.{eq-eqb, leb-false, lt-leb}
+use borrow.Author.Tests.{eq-eqb, leb-false}
 use Rattle.kernel.specs.declared.clock.Clock.{Clock}
 use Rattle.kernel.specs.Numbers.{nobody}
 use Rattle.kernel.proofs.Cases.{contrary}
@@ -63,20 +63,6 @@ module _ (p : Plant) (c : Clock) (s : Step) where
         value = h .0;
         state = i .0;
       }
-
-  -- and one that has passed all of them is accepted
-  pub none-refused : Accepted p c s → refusalOf p c s ≡ 0
-  unfolding refusalOf
-  none-refused a =
-      rw (
-        a .hangs,
-        a .kind,
-        a .caller,
-        a .context,
-        lt-leb (objectLimit (p .sizes) (s .kind)) (s .object) (a .object),
-        a .value,
-        a .state,
-      )
 
   -- who calls where an interrupt may not is a thread
   pub waits-thread : Accepted p c s → kernelWaits (s .kind) ≡ true → s .caller ≢ nobody

@@ -70,14 +70,6 @@ module _ (k : Kernel) (i : ℕ) (m : ℤ) (n r : ℕ) where
           → cond (suspendedAt r (threadAt k i)) nobody (holderAt k r) < n
       some = chosen (λ (x : ℕ). x ≢ nobody → x < n) (suspendedAt r (threadAt k i)) (λ e d. absurd (d refl)) (λ e. g .within)
 
-  -- one who is not suspended, or not there
-  pub wake-unsuspended-holds : eqb (threadAt k i .state) suspended ≡ false → Holds n r k → Holds n r (woken k i m)
-  wake-unsuspended-holds e =
-      let none = first-fails (eqb (threadAt k i .place) r) e in
-      same-holds k (woken k i m) n r
-      (λ j. same-or j i (λ s. rw s (wake-unsuspended k i m r ∙ sym none)) (λ d. ap (suspendedAt r) (wake-others k i m j d)))
-      (rw (wake-holder k i m r, none))
-
 -- ---- a sleep, of a ready thread
 
 module _ (k : Kernel) (i p : ℕ) (c : Call) (n r : ℕ) (is-ready : threadAt k i .state ≡ ready) where

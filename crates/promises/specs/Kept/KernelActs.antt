@@ -1,10 +1,10 @@
 -- Every accepted step of kinds 1 to 14 is a chain of moves that leaves the tables whole.
-use Prim.Native.Nat.{ℕ, suc, _+_, _≤_, _<_}
+use Prim.Native.Nat.{ℕ, suc, _≤_, _<_}
 use native.Mathlib.Omega.{arith}
-use mathlib.Core.Path.{_≡_, refl, sym, ap, _∙_}
+use mathlib.Core.Path.{_≡_, refl, sym, _∙_}
 use mathlib.Core.Logic.{_≢_, inl, inr}
 use mathlib.Core.Bool.{Bool, true, false, cond, _||_}
-use mathlib.Core.List.{List, [], _∷_, _++_}
+use mathlib.Core.List.{List, [], _∷_}
 use lib.Dec.{eqb, leb, ltb}
 use lib.Bits.{bitAnd}
 use lib.IntN.{pos}
@@ -23,6 +23,7 @@ use Rattle.kernel.specs.Moves.{slept, finished, awaitedBy}
 use Rattle.kernel.specs.Waiters.{firstReady}
 use Rattle.kernel.specs.Queue.{enqueued, releasedFirst, releasedAll}
 use Rattle.kernel.specs.Semaphore.{waited, signalled, resetTo}
+use Rattle.kernel.specs.Ticking.{ticked}
 use Rattle.kernel.specs.Event.{eventSignalled, eventWaited}
 use Rattle.kernel.specs.Reference.{suspendedOn, resumed}
 use Rattle.kernel.specs.Delay.{sleptFor, sleptUntil}
@@ -45,27 +46,11 @@ use Rattle.promises.specs.Together.Hanging.{test-hangs}
 use Rattle.promises.specs.Kept.Tallies.{Tallies}
 use Rattle.promises.specs.Kept.CounterRule.{semaphore-place, queue-place}
 use Rattle.promises.specs.Kept.Accepting.{Accepted, waits-thread}
-use Rattle.promises.specs.Kept.Story.{
-  Event,
-  tick,
-  signalAt,
-  takeAt,
-  sleepIn,
-  woke,
-  endWith,
-  countOff,
-  endStep,
-  countIn,
-  isSlept,
-  Idle,
-  CallFits,
-}
-use Rattle.promises.specs.Kept.Chain.{Sleeper}
+use Rattle.promises.specs.Kept.Rows.{Idle, CallSound}
+use Rattle.promises.specs.Kept.Chain.{Sleeper, Mark, sleepOf, signalAt, takeAt, Chained, after, nil-right, countIn, isSlept}
 use Rattle.promises.specs.Kept.Owed.{isSignal, isTake}
 use Rattle.promises.specs.Kept.Moving.{
-  Chained,
   Caller,
-  after,
   finish-chained,
   tick-chained,
   sleep-chained,
@@ -82,55 +67,15 @@ use Rattle.promises.specs.Kept.Moving.{
 }
 use Rattle.promises.specs.Kept.Whole.{Whole, Done, kernel-done, Stepper, idle-free, stepper-caller, stepper-kept}
 
--- the ticks, signals and ends of steps among marks, before what comes after
-abbrev pub callThen : Event → List Event → List Event
-callThen (woke i m) r = r
-callThen (sleepIn i c) r = r
-callThen (endWith i m d) r = r
-callThen tick r = tick ∷ r
-callThen (countOff i) r = r
-callThen (signalAt p) r = signalAt p ∷ r
-callThen (takeAt p) r = r
-callThen endStep r = endStep ∷ r
-
-abbrev pub callsOf : List Event → List Event
-callsOf [] = []
-callsOf (e ∷ es) = callThen e (callsOf es)
-
-call-append : (e : Event) (r s : List Event) → callThen e (r ++ s) ≡ callThen e r ++ s
-call-append (woke i m) r s = refl
-call-append (sleepIn i c) r s = refl
-call-append (endWith i m d) r s = refl
-call-append tick r s = refl
-call-append (countOff i) r s = refl
-call-append (signalAt p) r s = refl
-call-append (takeAt p) r s = refl
-call-append endStep r s = refl
-
-pub calls-append : (es fs : List Event) → callsOf (es ++ fs) ≡ callsOf es ++ callsOf fs
-calls-append [] fs = refl
-calls-append (e ∷ es) fs = ap (callThen e) (calls-append es fs) ∙ call-append e (callsOf es) (callsOf fs)
-
--- the tick or the signal that an accepted step is: "Binary signals that act count as signals", and a pool's free and add signal
-abbrev pub calledFor : Plant → Step → List Event
-calledFor p s =
-    cond (eqb (s .kind) 1) (tick ∷ [])
-    (cond (eqb (s .kind) 3) (signalAt (s .object) ∷ [])
-    (cond (eqb (s .kind) 5) (cond (ltZ (counterAt (p .kernel) (s .object)) (pos 1)) (signalAt (s .object) ∷ []) [])
-    (cond (eqb (s .kind) 21) (signalAt (poolPlace (s .object)) ∷ [])
-    (cond (eqb (s .kind) 22) (signalAt (poolPlace (s .object)) ∷ []) []))))
-
 -- what an accepted step does before settling
 pub record Acts (z : Sizes) (p : Plant) (s : Step) (h : Plant) : Type 0 where
-  pub marks : List Event
+  pub marks : List Mark
   pub done : Done z p h marks
-  pub calls : callsOf marks ≡ calledFor p s
 
 -- the same of the kernel's tables: marks that put nobody but a caller to sleep, and touch no pool
 pub record KernelActs (z : Sizes) (p : Plant) (s : Step) (k : Kernel) : Type 0 where
-  pub marks : List Event
+  pub marks : List Mark
   pub chained : Chained z (p .kernel) k marks
-  pub calls : callsOf marks ≡ calledFor p s
   pub takes : (q : ℕ) → countIn (isTake (poolPlace q)) marks ≡ 0
   pub signals : (q : ℕ) → countIn (isSignal (poolPlace q)) marks ≡ 0
 
@@ -138,10 +83,6 @@ pub record KernelActs (z : Sizes) (p : Plant) (s : Step) (k : Kernel) : Type 0 w
 pub record Effects (z : Sizes) (p : Plant) (s : Step) (k : Kernel) : Type 0 where
   pub acts : KernelActs z p s k
   pub awake : (i : ℕ) → countIn (isSlept i) (acts .marks) ≡ 0
-
-pub nil-right : (l : List Event) → l ++ [] ≡ l
-nil-right [] = refl
-nil-right (e ∷ l) = ap (λ (r : List Event). e ∷ r) (nil-right l)
 
 -- a semaphore is no pool
 no-pool : (o q : ℕ) → o < 16 → eqb o (poolPlace q) ≡ false
@@ -222,26 +163,24 @@ module _ (p : Plant) (c : Clock) (s : Step) (a : Accepted p c s) (w : Whole (p .
   -- ---- 1, 3, 4, 5, 7, 8, 10, 13
 
   -- nothing but wakings
-  plainly : (h : Kernel) → Chained z k h [] → [] ≡ calledFor p s → Effects z p s h
+  plainly : (h : Kernel) → Chained z k h [] → Effects z p s h
   unfolding countIn
-  plainly h x e =
+  plainly h x =
       record {
-        acts = record { marks = []; chained = x; calls = e; takes = λ q. refl; signals = λ q. refl };
+        acts = record { marks = []; chained = x; takes = λ q. refl; signals = λ q. refl };
         awake = λ i. refl;
       }
 
   -- a signal at a semaphore
-  signalling : (h : Kernel) → s .object < 16 → Chained z k h (signalAt (s .object) ∷ []) → signalAt (s .object) ∷ [] ≡ calledFor p s
-      → Effects z p s h
+  signalling : (h : Kernel) → s .object < 16 → Chained z k h (signalAt (s .object) ∷ []) → Effects z p s h
   unfolding countIn
-  signalling h l x e =
+  signalling h l x =
       record {
         acts =
             record {
               marks =
                   signalAt (s .object) ∷ [];
               chained = x;
-              calls = e;
               takes = λ q. refl;
               signals = λ q. rw (no-pool (s .object) q l);
             };
@@ -261,7 +200,7 @@ module _ (p : Plant) (c : Clock) (s : Step) (a : Accepted p c s) (w : Whole (p .
   signal-acts e =
       let l = object-of 3 e in
       signalling (signalled k n (s .object)) (low l)
-      (signal-chained z g k (s .object) (omega (arith, low l)) (tally l) (rw e at (a .state))) (rw e)
+      (signal-chained z g k (s .object) (omega (arith, low l)) (tally l) (rw e at (a .state)))
 
   -- 5
   binary-acts : s .kind ≡ 5 → Effects z p s (binarySignalled k n (s .object))
@@ -269,8 +208,8 @@ module _ (p : Plant) (c : Clock) (s : Step) (a : Accepted p c s) (w : Whole (p .
       let l = object-of 5 e in
       let x = binary-chained z g k (s .object) (omega (arith, low l)) (tally l) in
       split (ltZ (counterAt k (s .object)) (pos 1))
-      (λ b. signalling (binarySignalled k n (s .object)) (low l) (rw b at x) (rw (e, b)))
-      (λ b. plainly (binarySignalled k n (s .object)) (rw b at x) (rw (e, b)))
+      (λ b. signalling (binarySignalled k n (s .object)) (low l) (rw b at x))
+      (λ b. plainly (binarySignalled k n (s .object)) (rw b at x))
 
   -- 4: "reset above 2147483647" is refused
   reset-acts : s .kind ≡ 4 → Effects z p s (resetTo k n (s .object) (messageOf s))
@@ -278,7 +217,6 @@ module _ (p : Plant) (c : Clock) (s : Step) (a : Accepted p c s) (w : Whole (p .
       plainly (resetTo k n (s .object) (messageOf s))
       (reset-chained z g k (s .object) (messageOf s) (low (object-of 4 e))
       (not-negative (s .a) (leb-true (s .a) 2147483647 (rw e at (a .value)))))
-      (rw e)
 
   far : (o : ℕ) → queuePlace o < 20 → ⊥
   far o h = omega arith
@@ -294,33 +232,21 @@ module _ (p : Plant) (c : Clock) (s : Step) (a : Accepted p c s) (w : Whole (p .
       (both-means (eqb (threadAt k (holderAt k (s .object)) .state) suspended)
       (eqb (threadAt k (holderAt k (s .object)) .place) (s .object))
       (sym (r .holds (holderAt k (s .object)) (r .within d)) ∙ eq-eqb (holderAt k (s .object)) (holderAt k (s .object)) refl) .0)))
-      (rw e)
 
   effect : s .kind ≤ 14 → kernelWaits (s .kind) ≡ false → Effects z p s (effected k n s)
   unfolding effected countIn
   effect h x =
       chosen (Effects z p s) (eqb (s .kind) 1)
-      (λ e. record {
-        acts = record {
-          marks = tick ∷ [];
-          chained = tick-chained z g k;
-          calls = rw (eqb-true (s .kind) 1 e);
-          takes = λ q. refl;
-          signals = λ q. refl;
-        };
-        awake = λ i. refl;
-      })
+      (λ e. plainly (ticked k n) (tick-chained z g k))
       (λ e1. chosen (Effects z p s) (eqb (s .kind) 3) (λ e. signal-acts (eqb-true (s .kind) 3 e))
       (λ e3. chosen (Effects z p s) (eqb (s .kind) 4) (λ e. reset-acts (eqb-true (s .kind) 4 e))
       (λ e4. chosen (Effects z p s) (eqb (s .kind) 5) (λ e. binary-acts (eqb-true (s .kind) 5 e))
       (λ e5. chosen (Effects z p s) (eqb (s .kind) 7)
       (λ e. plainly (releasedFirst k n (queuePlace (s .object)) (messageOf s))
-      (release-first-chained z g k (w .kernel .rules .sized) (queuePlace (s .object)) (messageOf s) (λ l. absurd (far (s .object) l)))
-      (rw (eqb-true (s .kind) 7 e)))
+      (release-first-chained z g k (w .kernel .rules .sized) (queuePlace (s .object)) (messageOf s) (λ l. absurd (far (s .object) l))))
       (λ e7. chosen (Effects z p s) (eqb (s .kind) 8)
       (λ e. plainly (releasedAll k n (queuePlace (s .object)) (messageOf s))
-      (release-all-chained z g k (queuePlace (s .object)) (messageOf s) (λ l. absurd (far (s .object) l)))
-      (rw (eqb-true (s .kind) 8 e)))
+      (release-all-chained z g k (queuePlace (s .object)) (messageOf s) (λ l. absurd (far (s .object) l))))
       (λ e8. chosen (Effects z p s) (eqb (s .kind) 10) (λ e. resume-acts (eqb-true (s .kind) 10 e))
       (λ e10.
       let is =
@@ -329,19 +255,18 @@ module _ (p : Plant) (c : Clock) (s : Step) (a : Accepted p c s) (w : Whole (p .
       (eqb-false (s .kind) 7 e7) (eqb-false (s .kind) 8 e8) (eqb-false (s .kind) 10 e10) in
       let l = object-of 13 is in
       plainly (eventSignalled k (s .object) (s .a))
-      (event-signal-chained z g k (s .object) (s .a) (w .kernel .rules .sized) l (w .kernel .rows (s .object) l)) (rw is))))))))
+      (event-signal-chained z g k (s .object) (s .a) (w .kernel .rules .sized) l (w .kernel .rows (s .object) l)))))))))
 
   -- ---- 2, 6, 9, 11, 12, 14
 
   -- a call that sleeps, or is answered at once
-  waiting : (h : Kernel) (i : ℕ) (call : Call) (b : Bool) → Chained z k h (cond b [] (sleepIn i call ∷ [])) → [] ≡ calledFor p s
-      → KernelActs z p s h
+  waiting : (h : Kernel) (i : ℕ) (b : Bool) → Chained z k h (cond b [] (sleepOf i ∷ [])) → KernelActs z p s h
   unfolding countIn
-  waiting h i call true x e = record { marks = []; chained = x; calls = e; takes = λ q. refl; signals = λ q. refl }
-  waiting h i call false x e = record { marks = sleepIn i call ∷ []; chained = x; calls = e; takes = λ q. refl; signals = λ q. refl }
+  waiting h i true x = record { marks = []; chained = x; takes = λ q. refl; signals = λ q. refl }
+  waiting h i false x = record { marks = sleepOf i ∷ []; chained = x; takes = λ q. refl; signals = λ q. refl }
 
   -- the call that a step keeps fits
-  pub kept-fits : CallKind (s .kind) → objectOf s < callLimit z (s .kind) → s .timeout ≢ 0 → CallFits z (callOf s)
+  pub kept-fits : CallKind (s .kind) → objectOf s < callLimit z (s .kind) → s .timeout ≢ 0 → CallSound z (callOf s)
   kept-fits f o t = record { kind = f; object = o; timeout = some (s .timeout) t; operand = λ e. rw e }
     where
       some : (t : ℕ) → t ≢ 0 → 1 ≤ t
@@ -358,7 +283,7 @@ module _ (p : Plant) (c : Clock) (s : Step) (a : Accepted p c s) (w : Whole (p .
     asks = stepper-caller z k (s .caller) stepper
 
     -- what it takes to sleep, in each state
-    sleeper-in : (call : Call) → CallFits z call
+    sleeper-in : (call : Call) → CallSound z call
         → (waitState (call .kind) ≡ queued → ltZ (pos 0) (counterAt k (waitPlace (call .kind) (call .object))) ≡ false)
         → (waitState (call .kind) ≡ suspended → holderAt k (waitPlace (call .kind) (call .object)) ≡ nobody)
         → (waitState (call .kind) ≡ awaiting → bitAnd (threadAt k (s .caller) .pending) (awaitedBy call) ≡ 0)
@@ -372,7 +297,6 @@ module _ (p : Plant) (c : Clock) (s : Step) (a : Accepted p c s) (w : Whole (p .
           holder = r;
           flags = e;
           unpromised = idle-free (threadAt k (s .caller)) idle .unpromised;
-          again = λ d. absurd (d (idle .no-call));
         }
 
     wait-acts : s .kind ≡ 2 → KernelActs z p s (waited k (s .caller) (s .object) (callOf s))
@@ -387,12 +311,10 @@ module _ (p : Plant) (c : Clock) (s : Step) (a : Accepted p c s) (w : Whole (p .
         (λ b. record {
           marks = takeAt (s .object) ∷ [];
           chained = rw b at x;
-          calls = rw e;
           takes = λ q. unfold countIn in rw (no-pool (s .object) q (low l));
           signals = λ q. unfold countIn in refl;
         })
-        (λ b. waiting (waited k (s .caller) (s .object) (callOf s)) (s .caller) (callOf s) (eqb (s .timeout) immediate) (rw b at x)
-        (rw e))
+        (λ b. waiting (waited k (s .caller) (s .object) (callOf s)) (s .caller) (eqb (s .timeout) immediate) (rw b at x))
 
     queue-acts : s .kind ≡ 6 → KernelActs z p s (enqueued k (s .caller) (queuePlace (s .object)) (callOf s))
     unfolding enqueued
@@ -400,12 +322,11 @@ module _ (p : Plant) (c : Clock) (s : Step) (a : Accepted p c s) (w : Whole (p .
         let l = object-of 6 e in
         let x = queue-place k z g (s .object) l (queuePlace (s .object)) refl in
         let level = w .kernel .rules .places (queuePlace (s .object)) (omega (arith, x .1 .0)) (x .1 .1) .level (x .0) in
-        waiting _ (s .caller) (callOf s) (eqb (s .timeout) immediate)
+        waiting _ (s .caller) (eqb (s .timeout) immediate)
         (block-chained z g k (s .caller) queued (queuePlace (s .object)) (callOf s) (rw e) (rw e)
         (λ t. sleeper-in (callOf s) (kept-fits (inr (inl e)) (rw e l) t) (λ v. rw e level) (λ v. absurd (omega (arith, rw e at v)))
         (λ v. absurd (omega (arith, rw e at v))))
         asks)
-        (rw e)
 
     -- 9: "suspend on a held reference" is refused
     suspend-acts : s .kind ≡ 9 → KernelActs z p s (suspendedOn k (s .caller) (s .object) (callOf s))
@@ -413,26 +334,23 @@ module _ (p : Plant) (c : Clock) (s : Step) (a : Accepted p c s) (w : Whole (p .
     suspend-acts e =
         let l = object-of 9 e in
         let empty = eqb-true (holderAt k (s .object)) nobody (rw e at (a .state)) in
-        waiting _ (s .caller) (callOf s) (eqb (s .timeout) immediate)
+        waiting _ (s .caller) (eqb (s .timeout) immediate)
         (block-chained z g k (s .caller) suspended (s .object) (callOf s) (rw e) (rw e)
         (λ t. sleeper-in (callOf s) (kept-fits (inr (inr (inl e))) (rw e l) t) (λ v. absurd (omega (arith, rw e at v)))
         (λ v. rw e empty) (λ v. absurd (omega (arith, rw e at v))))
         asks)
-        (rw e)
 
     -- 11 and 12: "sleep, for or until, of 0 or 4294967295 ticks" is refused
     span : (t : ℕ) → isSpan t ≡ true → 1 ≤ t
     span t e = leb-true 1 t (both-means (leb 1 t) (ltb t infinite) e .0)
 
-    nap-acts : (call : Call) → CallFits z call → waitState (call .kind) ≡ sleeping → waitPlace (call .kind) (call .object) ≡ nowhere
-        → [] ≡ calledFor p s
+    nap-acts : (call : Call) → CallSound z call → waitState (call .kind) ≡ sleeping → waitPlace (call .kind) (call .object) ≡ nowhere
         → KernelActs z p s (slept k (s .caller) sleeping nowhere call)
-    nap-acts call f st pl e =
-        waiting _ (s .caller) call false
+    nap-acts call f st pl =
+        waiting _ (s .caller) false
         (sleep-chained z g k (s .caller) sleeping nowhere call (sym st) (sym pl)
         (sleeper-in call f (λ v. absurd (omega (arith, st ∙ refl, v))) (λ v. absurd (omega (arith, st, v)))
         (λ v. absurd (omega (arith, st, v)))))
-        e
 
     sleep-for-acts : s .kind ≡ 11 → KernelActs z p s (sleptFor k (s .caller) (record { 0 = s .timeout }))
     unfolding sleptFor
@@ -445,7 +363,7 @@ module _ (p : Plant) (c : Clock) (s : Step) (a : Accepted p c s) (w : Whole (p .
               (rw e at (a .value));
           operand = λ v. refl;
         })
-        refl refl (rw e)
+        refl refl
 
     sleep-until-acts : s .kind ≡ 12 → KernelActs z p s (sleptUntil k (s .caller) (c .time) (record { 0 = s .a }))
     unfolding sleptUntil
@@ -457,7 +375,7 @@ module _ (p : Plant) (c : Clock) (s : Step) (a : Accepted p c s) (w : Whole (p .
           timeout = span (differed (c .time) (record { 0 = s .a }) .0) (rw e at (a .value));
           operand = λ v. contrary refl v;
         })
-        refl refl (rw e)
+        refl refl
 
     event-acts : s .kind ≡ 14 → KernelActs z p s (eventWaited k (s .caller) (callOf s))
     event-acts e =
@@ -467,8 +385,8 @@ module _ (p : Plant) (c : Clock) (s : Step) (a : Accepted p c s) (w : Whole (p .
         (kept-fits (inr (inr (inr (inr (inr (inl (rw e (omega arith, omega arith)))))))) (rw e (omega arith)) t)
         (λ v. absurd (omega (arith, rw e at v))) (λ v. absurd (omega (arith, rw e at v))) (λ v. rw e (rw e at b))) in
         split (eqb (bitAnd (threadAt k (s .caller) .pending) (operandOf s)) 0)
-        (λ b. waiting _ (s .caller) (callOf s) (eqb (s .timeout) immediate) (rw b at x) (rw e))
-        (λ b. waiting _ (s .caller) (callOf s) true (rw b at x) (rw e))
+        (λ b. waiting _ (s .caller) (eqb (s .timeout) immediate) (rw b at x))
+        (λ b. waiting _ (s .caller) true (rw b at x))
 
     wait-begun : kernelWaits (s .kind) ≡ true → KernelActs z p s (waitBegun k (c .time) s)
     unfolding waitBegun
@@ -491,7 +409,6 @@ module _ (p : Plant) (c : Clock) (s : Step) (a : Accepted p c s) (w : Whole (p .
             (after (x .acts .chained)
             (finish-chained z g h i ok 0
             (stepper-caller z h i (stepper-kept z k h i m g (w .kernel) (x .acts .chained) (x .awake i) stepper))));
-        calls = x .acts .calls;
         takes = x .acts .takes;
         signals = x .acts .signals;
       }
@@ -506,5 +423,4 @@ module _ (p : Plant) (c : Clock) (s : Step) (a : Accepted p c s) (w : Whole (p .
       record {
         marks = x .marks;
         done = kernel-done z p (actedOnKernel k n (c .time) s) (x .marks) w (x .chained) (λ q there. x .takes q ∙ sym (x .signals q));
-        calls = x .calls;
       }

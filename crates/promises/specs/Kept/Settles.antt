@@ -1,15 +1,14 @@
 -- Settling: every continued call is a chain that leaves the tables whole, and finishes a call or puts its thread to sleep. So settling
 -- ends, within twice the threads, with a running thread that has no unfinished call.
 use Prim.Native.Nat.{ℕ, zero, suc, _+_, _*_, _≤_, _<_}
-use native.Mathlib.Nat.{zero-add, suc-add}
 use native.Mathlib.Omega.{arith}
-use mathlib.Core.Path.{_≡_, refl, sym, ap, _∙_, subst}
+use mathlib.Core.Path.{_≡_, refl, sym, ap, subst}
 use mathlib.Core.Logic.{_≢_, inl, inr}
-use mathlib.Core.Bool.{Bool, true, false, not, _&&_, and-false, or-false, or-assoc}
-use mathlib.Core.List.{[], _∷_, _++_}
+use mathlib.Core.Bool.{Bool, true, false, not, _&&_, and-false}
+use mathlib.Core.List.{[], _++_}
 use lib.Dec.{eqb}
 use lib.ListN.{length}
-use lib.IntN.{ℤ, pos}
+use lib.IntN.{ℤ}
 use borrow.Author.Tests.{eqb-true, eqb-false, eq-eqb, ne-eqb}
 use Rattle.kernel.specs.declared.records.Call.{Call}
 use Rattle.kernel.specs.declared.records.Thread.{Thread}
@@ -36,16 +35,13 @@ use Rattle.library.specs.Mailbox.{messageAt, placedFor, postTried, postDone, fe
 use Rattle.library.specs.Pool.{topOf, handedOver}
 use Rattle.library.specs.Settling.{isBoxCall, answeredOnly, continued, runningIn, isSettled, settled}
 use Rattle.library.specs.Tables.{mailboxAt, poolAt, withKernel}
-use Rattle.rules.specs.RowRules.{isMailing}
 use Rattle.rules.specs.PoolRules.{isPromised}
 use Rattle.steps.specs.Stepping.{budgetOf}
 use Rattle.promises.specs.Together.Good.{GoodThread}
-use Rattle.promises.specs.Together.Tests.{same-means}
-use Rattle.promises.specs.Kept.Story.{endWith, countIn, CallFits}
-use Rattle.promises.specs.Kept.Chain.{finishes, stop}
-use Rattle.promises.specs.Kept.Moving.{Free, after, rested}
+use Rattle.promises.specs.Kept.Rows.{CallSound}
+use Rattle.promises.specs.Kept.Chain.{Move, one, rested, after, countIn}
+use Rattle.promises.specs.Kept.Moving.{Free}
 use Rattle.promises.specs.Kept.Whole.{Whole, kernel-done}
-use Rattle.promises.specs.Kept.KernelActs.{calls-append}
 use Rattle.promises.specs.Kept.BoxActs.{Tries, Tryer, post-tries, fetch-tries, hand-tries, released-row}
 
 -- a thread that runs with an unfinished call
@@ -76,20 +72,8 @@ module _ (p : Plant) (w : Whole (p .sizes) p) (i : ℕ) (d : Due (p .sizes) (p .
       record {
         marks = [];
         done = kernel-done z p (finished k i (t .message) 0) [] w
-            (record {
-              events = endWith i (t .message) 0 ∷ [];
-              chain = finishes i (t .message) 0
-                  (record {
-                    within = d .within;
-                    is-ready = d .is-ready;
-                    follows = record { others = λ a b. refl; no-datum = λ a b c. refl; boxes = λ a b. (refl, refl) };
-                    unpromised = none;
-                  })
-                  stop;
-              marks = refl;
-            })
+            (one (Move.finishes i (t .message) 0 (record { within = d .within; is-ready = d .is-ready; unpromised = none })))
             (λ q l. refl);
-        calls = refl;
       }
     where
       none : isPromised t ≡ false
@@ -109,7 +93,7 @@ module _ (p : Plant) (w : Whole (p .sizes) p) (i : ℕ) (d : Due (p .sizes) (p .
     woken-ok = split (same (t .message) ok) (λ b. b) (λ b. contrary (rw (box, b)) e)
 
     -- it keeps what it slept with: "it may sleep again with its FULL timeout"
-    fits : CallFits z (t .call)
+    fits : CallSound z (t .call)
     fits =
         record {
           kind = row .kind (d .unfinished);
@@ -120,29 +104,11 @@ module _ (p : Plant) (w : Whole (p .sizes) p) (i : ℕ) (d : Due (p .sizes) (p .
 
     free : t .call .kind ≢ 20 → Free t
     free n =
-        record {
-          is-ready = d .is-ready;
-          answers = λ m x.
-              record {
-                others = λ a b. contrary box b;
-                no-datum = λ a b. contrary box b;
-                boxes = λ a b. absurd (b (same-means (t .message) (pos 0) woken-ok));
-              };
-          unpromised = rw (ne-eqb (t .call .kind) 20 n) (and-false (isReady t));
-        }
+        record { is-ready = d .is-ready; unpromised = rw (ne-eqb (t .call .kind) 20 n) (and-false (isReady t)) }
 
     tryer : t .call .kind ≢ 20 → Tryer z k i (t .call)
     tryer n =
-        record {
-          asks = inr (d .within, free n);
-          sleeps = λ x. (d .within, (free n, (fits, λ y. (refl, (mailing n, same-means (t .message) (pos 0) woken-ok)))));
-        }
-      where
-        -- of the four kinds only the pool's is no mailbox call
-        mailing : t .call .kind ≢ 20 → isMailing (t .call .kind) ≡ true
-        mailing n =
-            or-assoc (eqb (t .call .kind) 15) (eqb (t .call .kind) 16) (eqb (t .call .kind) 17)
-            ∙ (rw (ne-eqb (t .call .kind) 20 n, or-false (eqb (t .call .kind) 17)) at box)
+        record { asks = inr (d .within, free n); sleeps = λ x. (d .within, (free n, fits)) }
 
     fetch-again : t .call .kind ≡ 17 → Tries z p (fetchTried p i (t .call))
     fetch-again f =
@@ -354,11 +320,10 @@ tries-then a b =
     record {
       marks = a .marks ++ b .marks;
       done = record { chained = after (a .done .chained) (b .done .chained); whole = b .done .whole };
-      calls = calls-append (a .marks) (b .marks) ∙ rw (a .calls, b .calls);
     }
 
 tries-none : {z : Sizes} {p : Plant} → Whole z p → Tries z p p
-tries-none w = record { marks = []; done = record { chained = rested; whole = w }; calls = refl }
+tries-none w = record { marks = []; done = record { chained = rested; whole = w } }
 
 -- one call continued, of tables whose sizes are z
 continue-at : (z : Sizes) (p : Plant) → Whole z p → isSettled p ≡ false
@@ -383,27 +348,6 @@ spent-none b p e = rw (e, settled)
 spent-one : (b : ℕ) (p : Plant) → isSettled p ≡ false → settled (suc b) p ≡ settled b (continued p (runningIn p))
 unfolding settled
 spent-one b p e = rw (e, settled)
-
--- settled tables stay as they are, whatever budget is left
-settled-stays : (n : ℕ) (p : Plant) → isSettled p ≡ true → settled n p ≡ p
-settled-stays zero p e = spent-all p
-settled-stays (suc n) p e = spent-none n p e
-
-more-after : (b : ℕ) → ((n : ℕ) (p : Plant) → isSettled (settled b p) ≡ true → settled (b + n) p ≡ settled b p)
-    → (n : ℕ) (p : Plant) → isSettled (settled (suc b) p) ≡ true → settled (suc b + n) p ≡ settled (suc b) p
-more-after b f n p e =
-    rw (suc-add b n)
-    (split (isSettled p)
-    (λ a. spent-none (b + n) p a ∙ sym (spent-none b p a))
-    (λ a. spent-one (b + n) p a ∙ f n (continued p (runningIn p)) (rw (spent-one b p a) at e) ∙ sym (spent-one b p a)))
-
--- a budget with which settling ended is as good as any larger one
-pub settled-whole : (b : ℕ) (p : Plant) → isSettled (settled b p) ≡ true → (n : ℕ) → settled (b + n) p ≡ settled b p
-settled-whole b p e n = by b n p e
-  where
-    by : (b n : ℕ) (p : Plant) → isSettled (settled b p) ≡ true → settled (b + n) p ≡ settled b p
-    by zero n p e = rw (zero-add n) (settled-stays n p (rw (spent-all p) at e) ∙ sym (spent-all p))
-    by (suc b) n p e = more-after b (by b) n p e
 
 -- settling ends with a budget of b, for tables that weigh no more
 abbrev EndsWithin : Sizes → ℕ → Type 0

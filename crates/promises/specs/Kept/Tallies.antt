@@ -23,7 +23,6 @@ use Rattle.kernel.proofs.TablesLaws.{thread-blank, thread-kept, counter-zero}
 use Rattle.kernel.proofs.CountersLaws.{debt, debt-below, up-not-above}
 use Rattle.kernel.proofs.WaitersLaws.{waits, waiters}
 use Rattle.kernel.proofs.MovesLaws.{
-  wake-others,
   wake-counter,
   wake-counter-others,
   wake-debt,
@@ -37,7 +36,7 @@ use Rattle.kernel.proofs.MovesLaws.{
   finish-kept,
   finish-counters,
 }
-use Rattle.kernel.proofs.QueueLaws.{release-all-keeps, wake-unqueued, wake-waiters, sleep-level}
+use Rattle.kernel.proofs.QueueLaws.{release-all-keeps, wake-waiters, sleep-level}
 use Rattle.kernel.proofs.TickingLaws.{tick-keeps}
 
 -- of n threads as many are queued at the place p as its counter owes; from place 20 on, a queue's, the counter is never above 0
@@ -69,14 +68,6 @@ module _ (k : Kernel) (i : ℕ) (m : ℤ) (n p : ℕ) where
             (λ b. rw (counter-zero (woken k i m) p (rw (wake-sizes k i m .counters) b))))
             (λ e. rw (wake-counter-others k i m p e) (g .level l));
       }
-
-  -- one who is not queued, or not there
-  pub wake-unqueued-tallies : eqb (threadAt k i .state) queued ≡ false → Tallies n p k → Tallies n p (woken k i m)
-  wake-unqueued-tallies e =
-      let none = first-fails (eqb (threadAt k i .place) p) e in
-      same-tallies k (woken k i m) n p
-      (λ j. same-or j i (λ s. rw s (wake-unqueued k i m p ∙ sym none)) (λ d. ap (queuedAt p) (wake-others k i m j d)))
-      (wake-counter-others k i m p none)
 
 -- ---- a sleep, of a ready thread
 

@@ -12,7 +12,7 @@ use borrow.Author.Tests.{eq-eqb, ne-eqb, ltb-true, lt-ltb}
 use Rattle.kernel.specs.declared.records.Call.{Call}
 use Rattle.kernel.specs.declared.records.Thread.{Thread}
 use Rattle.kernel.specs.declared.records.Kernel.{Kernel}
-use Rattle.kernel.specs.Numbers.{ready, queued, awaiting, ok, wasReset, timedOut}
+use Rattle.kernel.specs.Numbers.{queued, awaiting, ok, wasReset, timedOut}
 use Rattle.kernel.specs.Places.{poolPlace, writersPlace, readersPlace}
 use Rattle.kernel.specs.Walk.{each}
 use Rattle.kernel.specs.Tables.{usedRows, threadAt, counterAt, holderAt, withThread, withCounter}
@@ -25,7 +25,7 @@ use Rattle.kernel.specs.Event.{withPending, flagged, tookFlags, eventSignalled,
 use Rattle.kernel.proofs.Cases.{split, same-or, in-or-out, contrary}
 use Rattle.kernel.proofs.TablesLaws.{Sized, sized-kept, used-all, counter-sizes, thread-sizes, thread-same}
 use Rattle.kernel.proofs.CountersLaws.{up-exact, down-exact}
-use Rattle.kernel.proofs.WalkLaws.{First as FirstOf}
+use Rattle.kernel.proofs.WalkLaws.{Least as FirstOf}
 use Rattle.kernel.proofs.WaitersLaws.{waits, first-waiter-cases}
 use Rattle.kernel.proofs.MovesLaws.{wake-sizes, wake-past}
 use Rattle.kernel.proofs.QueueLaws.{release-first-sizes}
@@ -42,9 +42,7 @@ use Rattle.promises.specs.Kept.Tallies.{Tallies, wake-tallies}
 use Rattle.promises.specs.Kept.CounterRule.{pool-place, writers-place, readers-place}
 use Rattle.promises.specs.Kept.RingKept.{after-mod}
 use Rattle.promises.specs.Kept.Whole.{Whole, whole-good}
-use Rattle.promises.specs.Meant.Words.{waiting-waits, waits-waiting}
-use Rattle.promises.specs.Meant.Queues.{rule-below, rule-high}
-use Rattle.promises.specs.Meant.Semaphores.{not-most, signal-finds}
+use Rattle.promises.specs.Meant.Waiters.{waiting-waits, waits-waiting, rule-below, rule-high, not-most, signal-finds}
 use Rattle.promises.specs.Meant.Mailboxes.{BoxThere, good-box, full-waits, room-done, empty-waits, message-done}
 use Rattle.promises.specs.Meant.Pools.{counter-stocked}
 use Rattle.promises.specs.Paper.World.{World, boxTo, poolTo, madeReady, ended}

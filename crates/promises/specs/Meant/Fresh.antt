@@ -16,7 +16,7 @@ use Rattle.library.specs.declared.fresh.Made.{Made}
 use Rattle.library.specs.Sizes.{sizesFit}
 use Rattle.library.specs.Fresh.{freshTables, freshClock, made}
 use Rattle.promises.specs.Paper.Time.{ticksInSecond}
-use Rattle.promises.specs.Paper.Fresh.{FreshTables, FreshClock, nothing, Holds, MadeOf}
+use Rattle.promises.specs.Paper.Fresh.{FreshTables, FreshClock, nothing, MadeWith, MadeOf}
 use Rattle.promises.specs.Meant.Time.{same-rate, possible-fits, fits-possible}
 use Rattle.promises.specs.Meant.Sizes.{fit-limits, out-of-limits}
 
@@ -59,7 +59,7 @@ same-clock {f} {c} {d} a b =
     (record { time = record { 0 = d .time .0 }; frequency = d .frequency }) = rw (a .time, a .frequency, b .time, b .frequency) in
     parts
 
-same-held : {n : ℕ} {z : Sizes} {f : ℕ} {m k : Made} → Holds n z f m → Holds n z f k → m ≡ k
+same-held : {n : ℕ} {z : Sizes} {f : ℕ} {m k : Made} → MadeWith n z f m → MadeWith n z f k → m ≡ k
 same-held {n} {z} {f} {m} {k} a b =
     let parts : _≡_ {A = Made} (record { code = m .code; tables = m .tables; clock = m .clock })
     (record { code = k .code; tables = k .tables; clock = k .clock }) =

@@ -1,5 +1,5 @@
 -- The moves of the meanings, in the words of `StepOf`.
-use Prim.Native.Nat.{ℕ, _+_, _<_}
+use Prim.Native.Nat.{ℕ, _<_}
 use native.Mathlib.Omega.{arith}
 use mathlib.Core.Path.{_≡_, refl, sym, _∙_}
 use mathlib.Core.Logic.{_≢_, _⊎_, inl, inr}
@@ -13,7 +13,7 @@ use borrow.Author.Tests.{eqb-true, eq-eqb, ne-eqb}
 use Rattle.kernel.specs.declared.records.Call.{Call}
 use Rattle.kernel.specs.declared.records.Thread.{Thread}
 use Rattle.kernel.specs.declared.records.Kernel.{Kernel}
-use Rattle.kernel.specs.Numbers.{nobody, queued}
+use Rattle.kernel.specs.Numbers.{nobody}
 use Rattle.kernel.specs.Tables.{threadAt, counterAt, holderAt, withThread, withCounter}
 use Rattle.kernel.specs.Moves.{woken, slept, finished}
 use Rattle.kernel.proofs.Cases.{split, same-or, first-fails, second-fails}

@@ -3,8 +3,8 @@
 use Prim.Native.Nat.{ℕ, suc, _%_, _≤_, _<_}
 use native.Mathlib.Nat.{mod-eq-of-lt}
 use native.Mathlib.Omega.{arith}
-use mathlib.Core.Path.{_≡_, refl, sym, _∙_}
-use mathlib.Core.Logic.{_≢_, _⊎_, inl, inr, _↔_}
+use mathlib.Core.Path.{_≡_, refl, _∙_}
+use mathlib.Core.Logic.{_≢_, _⊎_, inl, inr}
 use mathlib.Core.Bool.{Bool, true, false, cond, not, _||_}
 use lib.Dec.{eqb, leb}
 use lib.ListN.{length}
@@ -12,11 +12,11 @@ use borrow.Author.Tests.{eqb-true, eqb-false, ne-eqb, leb-true, leb-false, le-le
 use Rattle.kernel.specs.declared.clock.Clock.{Clock}
 use Rattle.kernel.specs.Numbers.{nobody, infinite}
 use Rattle.kernel.specs.Time.{differed}
-use Rattle.kernel.specs.Tables.{counterAt, holderAt}
+use Rattle.kernel.specs.Tables.{holderAt}
 use Rattle.kernel.specs.Waiters.{firstReady}
-use Rattle.kernel.specs.Walk.{firstFrom, allFrom, countOf}
+use Rattle.kernel.specs.Walk.{firstFrom}
 use Rattle.kernel.proofs.Cases.{split, same-or, in-or-out, contrary, both-true, both-means, second-fails}
-use Rattle.kernel.proofs.WalkLaws.{First as WalkFirst, first-cases}
+use Rattle.kernel.proofs.WalkLaws.{Least, first-cases}
 use Rattle.library.specs.declared.calls.Step.{Step}
 use Rattle.library.specs.declared.sizes.Sizes.{Sizes}
 use Rattle.library.specs.declared.tables.Plant.{Plant}
@@ -25,14 +25,7 @@ use Rattle.library.specs.Tables.{opened, poolAt}
 use Rattle.library.specs.Pool.{absent, out, markAt}
 use Rattle.library.specs.Acting.{kernelWaits}
 use Rattle.library.specs.Settling.{isBoxCall}
-use Rattle.library.specs.Sizes.{sizesFit}
-use Rattle.library.specs.Fresh.{freshClock}
-use Rattle.rules.specs.RowRules.{callFits, waitFits, ticksFit, flagsFit, rowFits, rowsFit}
-use Rattle.rules.specs.PlaceRules.{queuedCount, countersFit}
-use Rattle.rules.specs.ReferenceRules.{holderFits, referencesFit}
-use Rattle.rules.specs.MailboxRules.{positionsFit, mailboxesFit}
-use Rattle.rules.specs.PoolRules.{promisedCount, occurrences, entriesFit, objectsFit, poolFits, poolsFit}
-use Rattle.rules.specs.Hanging.{runningFree, hangsTogether}
+use Rattle.rules.specs.Hanging.{hangsTogether}
 use Rattle.steps.specs.Refusal.{kindFits, callerFits, contextFits, objectLimit, isSpan, valueFits, stateFits, refusalOf}
 use Rattle.promises.specs.Together.Tests.{either-means, neither-means}
 use Rattle.promises.specs.Together.Hanging.{test-hangs, hangs-test}
@@ -41,7 +34,6 @@ use Rattle.promises.specs.Paper.Refusals.{KernelWait, BoxWait, NoSpan, B
 use Rattle.promises.specs.Meant.Together.{rules-together, together-rules}
 use Rattle.promises.specs.Meant.Settling.{running-first}
 use Rattle.promises.specs.Meant.Only.{first-only}
-use Rattle.promises.specs.Meant.Mailboxes.{freshPlant}
 
 -- by whether a number is k or beyond
 next : {A : Type 0} (n k : ℕ) → k ≤ n → (n ≡ k → A) → (suc k ≤ n → A) → A
@@ -336,7 +328,7 @@ module _ (t : Tables) (c : Clock) (s : Step) (rows : length (t .kernel .threads)
       some : {r : ℕ} → r ≡ 0 → passes t c s r ≡ false → ⊥
       some e h = contrary refl (rw e at h)
 
-      at-first : (r : ℕ) → WalkFirst (λ n. not (passes t c s n)) 8 r → FirstBroken t c s (cond (eqb r nobody) 0 r)
+      at-first : (r : ℕ) → Least (λ n. not (passes t c s n)) 8 r → FirstBroken t c s (cond (eqb r nobody) 0 r)
       at-first r f =
           let apart : r ≢ nobody = omega (arith, f .below) in
           let earlier : (m : ℕ) → m < r → passes t c s m ≡ true = λ m l. not-false (passes t c s m) (f .least m l) in
@@ -347,22 +339,3 @@ module _ (t : Tables) (c : Clock) (s : Step) (rows : length (t .kernel .threads)
             before = λ n l b. contrary (earlier n l) (broken-fails t c s (λ x. few-then (earlier 1 (omega (arith, x, l)))) b);
             none = λ e. absurd (some e fails);
           })
-
--- ---- examples
-
--- a step by its five fields
-abbrev pub stepOf : ℕ → ℕ → ℕ → ℕ → ℕ → Step
-stepOf k i o x t = record { kind = k; caller = i; object = o; a = x; timeout = t }
-
--- fresh tables have one semaphore: a signal of a second breaks rule 5, and none before
-pub refusal-example : refusalOf freshPlant (freshClock 1000) (stepOf 3 255 1 0 0) ≡ 5
-unfolding firstFrom allFrom countOf firstReady sizesFit callFits waitFits ticksFit flagsFit rowFits rowsFit queuedCount countersFit holderFits referencesFit positionsFit mailboxesFit promisedCount occurrences entriesFit objectsFit poolFits poolsFit runningFree hangsTogether refusalOf
-refusal-example = refl
-
--- an interrupt's signal of the first, thread 0's post of 7 and its adding of object 5 are accepted
-pub accepted-example :
-    (refusalOf freshPlant (freshClock 1000) (stepOf 3 255 0 0 0) ≡ 0)
-    × (refusalOf freshPlant (freshClock 1000) (stepOf 15 0 0 7 0) ≡ 0)
-    × (refusalOf freshPlant (freshClock 1000) (stepOf 22 0 0 5 0) ≡ 0)
-unfolding firstFrom allFrom countOf firstReady sizesFit callFits waitFits ticksFit flagsFit rowFits rowsFit queuedCount countersFit holderFits referencesFit positionsFit mailboxesFit promisedCount occurrences entriesFit objectsFit poolFits poolsFit runningFree hangsTogether refusalOf
-accepted-example = (refl, refl, refl)

@@ -1,5 +1,5 @@
 -- What `stepped` gives back is what document 01 tells of the step: for any tables, any clock and any step of a host.
-use Prim.Native.Nat.{ℕ, zero, suc, _-_, _≤_, _<_}
+use Prim.Native.Nat.{ℕ, zero, suc, _≤_, _<_}
 use native.Mathlib.Omega.{arith}
 use mathlib.Core.Path.{_≡_, refl, sym, ap, _∙_, subst}
 use mathlib.Core.Logic.{_≢_, _⊎_, inl, inr}
@@ -32,16 +32,16 @@ use Rattle.steps.specs.Stepping.{clockAfter, budgetOf, outcomeOf, doneWith, ref
 use Rattle.steps.proofs.StepLaws.{step-code}
 use Rattle.promises.specs.Runs.Answers.{step-done, step-stopped}
 use Rattle.promises.specs.Together.Tests.{same-means}
-use Rattle.promises.specs.Runs.Flags.{mask-digit}
+use Rattle.promises.specs.Meant.Masks.{mask-digit}
 use Rattle.promises.specs.Together.Hanging.{test-hangs}
 use Rattle.promises.specs.Kept.Accepting.{refusal-none}
 use Rattle.promises.specs.Kept.Acts.{step-acts}
 use Rattle.promises.specs.Kept.Whole.{PlantSized, Whole, good-whole}
 use Rattle.promises.specs.Kept.Settles.{continue-tries}
-use Rattle.promises.specs.Runs.History.{Hangs, settles}
-use Rattle.promises.specs.Meant.Tick.{tick-time, tick-time-wraps, other-time}
+use Rattle.promises.specs.Kept.Steps.{Hangs, settles}
+use Rattle.promises.specs.Meant.Clock.{tick-time, tick-time-wraps, other-time}
 use Rattle.promises.specs.Meant.Pools.{promise-stocked}
-use Rattle.promises.specs.Meant.Settling.{running-first, post-again, fetch-again, alloc-again, settle-on, settle-ends}
+use Rattle.promises.specs.Meant.Settling.{running-first, post-again, fetch-again, alloc-again, settle-on, settle-stops}
 use Rattle.promises.specs.Meant.Refusals.{first-broken}
 use Rattle.promises.specs.Paper.World.{World, Left, ended, First, Running}
 use Rattle.promises.specs.Paper.Rows.{Post, Fetch}
@@ -196,7 +196,7 @@ pub settles-is : (b : ℕ) → SettlesWith b
 settles-is zero p w e = Settles.ends (quiet p w (rw (spent-all p) at e)) (ap worldOf (spent-all p))
 settles-is (suc b) p w e =
     split (isSettled p)
-    (λ q. Settles.ends (quiet p w q) (ap worldOf (settle-ends p (suc b) (eqb-true (threadAt (p .kernel) (runningIn p) .call .kind) 0 q))))
+    (λ q. Settles.ends (quiet p w q) (ap worldOf (settle-stops p (suc b) (eqb-true (threadAt (p .kernel) (runningIn p) .call .kind) 0 q))))
     (settles-on b (settles-is b) p w e)
 
 -- what each continued call keeps, settling keeps
@@ -206,7 +206,7 @@ pub settled-keeps : (P : World → Type 0)
     → (b : ℕ) (p : Plant) → Whole (p .sizes) p → P (worldOf p) → P (worldOf (settled b p))
 settled-keeps P f zero p w h = rw (spent-all p) h
 settled-keeps P f (suc b) p w h =
-    split (isSettled p) (λ q. rw (settle-ends p (suc b) (eqb-true (threadAt (p .kernel) (runningIn p) .call .kind) 0 q)) h)
+    split (isSettled p) (λ q. rw (settle-stops p (suc b) (eqb-true (threadAt (p .kernel) (runningIn p) .call .kind) 0 q)) h)
     (λ q.
     let r = runningIn p in
     let g = due p w q in

@@ -3,18 +3,17 @@ use Prim.Native.Nat.{ℕ, zero, suc, _+_, _%_, _≤_, _<_}
 use native.Mathlib.Nat.{mod-eq-of-lt}
 use native.Mathlib.Omega.{arith}
 use mathlib.Core.Path.{_≡_, refl, sym, ap, _∙_, subst}
-use mathlib.Core.Logic.{_≢_, _⊎_, inl, inr, _↔_}
-use mathlib.Core.Bool.{Bool, true, false, cond, _&&_}
+use mathlib.Core.Logic.{_≢_, _⊎_, inl, inr}
+use mathlib.Core.Bool.{Bool, false, cond}
 use lib.Dec.{eqb}
 use lib.ListN.{length, getD}
-use lib.IntN.{ℤ, pos, negsuc, _+ℤ_, _-ℤ_}
-use lib.Signed.{ltZ}
-use borrow.Author.Tests.{eq-eqb, ne-eqb, lt-ltb, le-ltb}
+use lib.IntN.{ℤ, pos, negsuc}
+use borrow.Author.Tests.{ne-eqb, lt-ltb, le-ltb}
 use Rattle.kernel.specs.declared.clock.Clock.{Clock}
 use Rattle.kernel.specs.declared.records.Call.{Call}
 use Rattle.kernel.specs.declared.records.Thread.{Thread}
 use Rattle.kernel.specs.declared.records.Kernel.{Kernel}
-use Rattle.kernel.specs.Walk.{bit, countOf}
+use Rattle.kernel.specs.Walk.{countOf}
 use Rattle.kernel.specs.Tables.{threadAt, counterAt}
 use Rattle.kernel.specs.Waiters.{firstReady}
 use Rattle.kernel.proofs.Cases.{split, same-or, contrary}
@@ -29,7 +28,7 @@ use Rattle.library.specs.Tables.{opened}
 use Rattle.rules.specs.RowRules.{callLimit, waitState, waitPlace}
 use Rattle.rules.specs.PlaceRules.{queuedCount}
 use Rattle.rules.specs.PoolRules.{promisedCount, occurrences}
-use Rattle.promises.specs.Paper.World.{World, noCall, found, First}
+use Rattle.promises.specs.Paper.World.{World, found}
 use Rattle.promises.specs.Paper.Together.{
   SizesFit,
   CallFits,
@@ -41,7 +40,6 @@ use Rattle.promises.specs.Paper.Together.{
   isQueued,
   SemaphoreFits,
   QueueFits,
-  MailboxFits,
   larger,
   isZero,
   isPromised,
@@ -50,16 +48,7 @@ use Rattle.promises.specs.Paper.Together.{
   HangTogether,
 }
 use Rattle.promises.specs.Together.Tests.{used-all}
-use Rattle.promises.specs.Together.Good.{
-  GoodSizes,
-  CallKind,
-  GoodThread,
-  SemaphoreCounter,
-  QueueCounter,
-  GoodPool,
-  Good,
-  RulesHold,
-}
+use Rattle.promises.specs.Together.Good.{GoodSizes, CallKind, GoodThread, SemaphoreCounter, QueueCounter, GoodPool, RulesHold}
 use Rattle.promises.specs.Kept.PoolKept.{stock, good-length, length-promises}
 use Rattle.promises.specs.Meant.Settling.{running-first}
 use Rattle.promises.specs.Meant.Only.{first-only}

@@ -44,13 +44,13 @@ nothing =
     record { threads = 0; semaphores = 0; queues = 0; references = 0; mailboxes = 0; pools = 0; slots = 0 ∷ 0 ∷ 0 ∷ 0 ∷ [] }
 
 -- a number, and fresh tables and a clock with it
-pub record Holds (n : ℕ) (z : Sizes) (f : ℕ) (m : Made) : Type 0 where
+pub record MadeWith (n : ℕ) (z : Sizes) (f : ℕ) (m : Made) : Type 0 where
   pub code : m .code ≡ n
   pub tables : FreshTables z (m .tables)
   pub clock : FreshClock f (m .clock)
 
 -- "14 a size out of its limits", then 6 for "a frequency outside its range": a refusal holds tables of no sizes and a clock of frequency 0
 pub data MadeOf (z : Sizes) (rate : Rate) (m : Made) : Type 0 where
-  no-size : (SizesFit z → ⊥) → Holds 14 nothing 0 m → MadeOf z rate m
-  no-frequency : SizesFit z → (Possible (ticksInSecond rate) → ⊥) → Holds 6 nothing 0 m → MadeOf z rate m
-  fresh : SizesFit z → Possible (ticksInSecond rate) → Holds 0 z (ticksInSecond rate) m → MadeOf z rate m
+  no-size : (SizesFit z → ⊥) → MadeWith 14 nothing 0 m → MadeOf z rate m
+  no-frequency : SizesFit z → (Possible (ticksInSecond rate) → ⊥) → MadeWith 6 nothing 0 m → MadeOf z rate m
+  fresh : SizesFit z → Possible (ticksInSecond rate) → MadeWith 0 z (ticksInSecond rate) m → MadeOf z rate m

@@ -1,5 +1,5 @@
 -- THE WORLD OF A STEP: all that document 01 speaks of, read by index, and the words for what becomes of it.
-use Prim.Native.Nat.{ℕ, _+_, _-_, _<_}
+use Prim.Native.Nat.{ℕ, _-_, _<_}
 use mathlib.Core.Path.{_≡_}
 use mathlib.Core.Logic.{_≢_}
 use mathlib.Core.Bool.{Bool, true, false, cond}

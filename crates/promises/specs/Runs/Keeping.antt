@@ -27,7 +27,6 @@ use Rattle.promises.specs.Paper.World.{
   signed,
   kept,
   Highest,
-  First,
 }
 use Rattle.promises.specs.Paper.Rows.{
   Ticks,
@@ -110,18 +109,6 @@ both-on t s P Q k l =
       wakes = λ w j m n c h. (k .wakes w j m n c (h .0), l .wakes w j m n c (h .1));
       ends-on = λ w r m d g z n e h. (k .ends-on w r m d g z n e (h .0), l .ends-on w r m d g z n e (h .1));
       sleeps-on = λ w r q g z b m e h. (k .sleeps-on w r q g z b m e (h .0), l .sleeps-on w r q g z b m e (h .1));
-    }
-
-pub both-keeps : (t : Tables) (s : Step) (P Q : World → Type 0) → Keeps t s P → Keeps t s Q → Keeps t s (λ w. P w × Q w)
-both-keeps t s P Q k l =
-    record {
-      moves = both-on t s P Q (k .moves) (l .moves);
-      begins = λ a b. (k .begins a b, l .begins a b);
-      ticks = λ v e h. (k .ticks v e h, l .ticks v e h);
-      events = λ v e h. (k .events v e h, l .events v e h);
-      ends = λ w m d h. (k .ends w m d (h .0), l .ends w m d (h .1));
-      takes = λ a h. (k .takes a (h .0), l .takes a (h .1));
-      sleeps = λ w st pl c o d h. (k .sleeps w st pl c o d (h .0), l .sleeps w st pl c o d (h .1));
     }
 
 module _ (t : Tables) (s : Step) (P : World → Type 0) (k : KeepsOn t s P) where

@@ -1,35 +1,34 @@
 -- Runs, step by step: from tables that hang together every step leaves such tables, a sleep that is not woken goes on, one tick shorter at
 -- each accepted tick, and a waiter has fewer before it with each signal. So the one ends by its last tick and the other by its turn.
-use Prim.Native.Nat.{ℕ, zero, suc, _+_, _-_, _/_, _%_, _^_, _≤_, _<_}
+use Prim.Native.Nat.{ℕ, _+_, _^_, _≤_, _<_}
 use native.Mathlib.Omega.{arith}
 use native.Mathlib.Nat.{zero-div}
-use mathlib.Core.Path.{_≡_, refl, sym, ap, _∙_, subst}
-use mathlib.Core.Logic.{_≢_, _⊎_, inl, inr}
-use mathlib.Core.Bool.{Bool, true, false, cond, _&&_, _||_}
+use mathlib.Core.Path.{_≡_, sym, ap, _∙_, subst}
+use mathlib.Core.Logic.{_≢_, inl, inr}
+use mathlib.Core.Bool.{Bool, true, false, cond, _&&_}
 use mathlib.Core.List.{List, [], _∷_}
 use lib.Dec.{eqb}
 use lib.IntN.{ℤ}
-use borrow.Author.Tests.{eqb-true, eqb-false, eq-eqb, ne-eqb}
+use borrow.Author.Tests.{eq-eqb, ne-eqb}
 use Rattle.kernel.specs.declared.clock.Clock.{Clock}
 use Rattle.kernel.specs.declared.records.Thread.{Thread}
 use Rattle.kernel.proofs.Cases.{split, same-or, contrary}
 use Rattle.library.specs.declared.calls.Step.{Step}
 use Rattle.library.specs.declared.tables.Tables.{Tables}
-use Rattle.library.specs.Tables.{opened}
 use Rattle.steps.specs.Stepping.{stepped}
 use Rattle.steps.proofs.StepLaws.{Untouched, step-refused}
 use Rattle.promises.specs.Paper.World.{found}
-use Rattle.promises.specs.Paper.Together.{TicksFit, ThreadFits, HangTogether}
+use Rattle.promises.specs.Paper.Together.{TicksFit, HangTogether}
 use Rattle.promises.specs.Paper.Host.{HostTables, HostStep, Host, HostSteps}
 use Rattle.promises.specs.Paper.Waking.{rowOf, inMask, WokenBy, sleptOn, SleeperAfter, WakerAfter}
 use Rattle.promises.specs.Paper.Step.{ClockAfter, StepOf}
 use Rattle.promises.specs.Paper.Run.{Moment, isTick, ticksIn, signalsAt, signalsIn, joinsAt, joinsIn, higher, WokenIn, TurnOf}
 use Rattle.promises.specs.Together.Tests.{neither-means}
-use Rattle.promises.specs.Runs.History.{Hangs, step-hangs}
+use Rattle.promises.specs.Kept.Steps.{Hangs, step-hangs}
 use Rattle.promises.specs.Runs.OneStep.{sizes-after, sleeper-after, waker-after}
 use Rattle.promises.specs.Runs.Waiters.{turns-on, waits-on, turn-of}
 use Rattle.promises.specs.Meant.Together.{rules-together, together-rules}
-use Rattle.promises.specs.Meant.Step.{host-sized, sized-host, clock-is, step-is}
+use Rattle.promises.specs.Meant.Step.{host-sized, sized-host, step-is}
 
 -- a step with the tables that it finds and leaves
 abbrev pub momentOf : Tables → Clock → Step → Moment

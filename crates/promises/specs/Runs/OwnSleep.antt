@@ -3,11 +3,11 @@
 use Prim.Native.Nat.{ℕ, _+_, _-_, _%_, _<_}
 use native.Mathlib.Omega.{arith}
 use mathlib.Core.Path.{_≡_, refl, sym, ap, _∙_, subst}
-use mathlib.Core.Logic.{_≢_, _⊎_, inl, inr}
+use mathlib.Core.Logic.{_≢_}
 use mathlib.Core.Bool.{cond}
 use lib.Dec.{eqb}
 use lib.IntN.{ℤ, pos}
-use borrow.Author.Tests.{eq-eqb, ne-eqb}
+use borrow.Author.Tests.{ne-eqb}
 use Rattle.kernel.specs.declared.clock.Clock.{Clock}
 use Rattle.kernel.specs.declared.time.SystemTime.{SystemTime}
 use Rattle.kernel.specs.declared.records.Call.{Call}
@@ -16,11 +16,11 @@ use Rattle.kernel.proofs.Cases.{same-or}
 use Rattle.library.specs.declared.calls.Step.{Step}
 use Rattle.library.specs.declared.tables.Tables.{Tables}
 use Rattle.steps.specs.Stepping.{stepped}
-use Rattle.promises.specs.Paper.World.{World, found, readyWith, madeReady, callEnded, ended, asleep, fallAsleep, kept}
+use Rattle.promises.specs.Paper.World.{World, found, readyWith, madeReady, ended, asleep, fallAsleep, kept}
 use Rattle.promises.specs.Paper.Host.{Host}
 use Rattle.promises.specs.Paper.Rows.{Waits, SemaphoreWait, EventWait, Post, Fetch, Alloc, Act}
-use Rattle.promises.specs.Paper.Waking.{rowOf, IsMailing, CalledOut, spanOf, FellAsleep}
-use Rattle.promises.specs.Runs.Keeping.{put-same, put-other, Ends, SideOf, KeepsOn}
+use Rattle.promises.specs.Paper.Waking.{rowOf, spanOf, FellAsleep}
+use Rattle.promises.specs.Runs.Keeping.{put-same, put-other, KeepsOn}
 use Rattle.promises.specs.Runs.Sleepers.{ended-other, ended-own}
 use Rattle.promises.specs.Runs.OneStep.{act, few, rows-after}
 

@@ -17,19 +17,19 @@ use Rattle.steps.proofs.StepLaws.{Untouched, step-refused}
 use Rattle.promises.specs.Runs.Run.{ranOn, ran}
 
 -- an accepted step's result
-abbrev pub isAccepted : Outcome → Bool
-isAccepted o = eqb (o .code) 0
+abbrev pub isTaken : Outcome → Bool
+isTaken o = eqb (o .code) 0
 
 -- the results of the accepted steps
 abbrev pub acceptedOutcomes : List Outcome → List Outcome
 acceptedOutcomes [] = []
-acceptedOutcomes (o ∷ os) = cond (isAccepted o) (o ∷ acceptedOutcomes os) (acceptedOutcomes os)
+acceptedOutcomes (o ∷ os) = cond (isTaken o) (o ∷ acceptedOutcomes os) (acceptedOutcomes os)
 
 -- the accepted ones of a run's steps
 unfoldable pub acceptedSteps : Tables → Clock → List Step → List Step
 acceptedSteps t c [] = []
 acceptedSteps t c (s ∷ ss) =
-    cond (isAccepted (stepped t c s .outcome))
+    cond (isTaken (stepped t c s .outcome))
     (s ∷ acceptedSteps (stepped t c s .tables) (stepped t c s .clock) ss)
     (acceptedSteps (stepped t c s .tables) (stepped t c s .clock) ss)
 
@@ -68,9 +68,9 @@ pub run-accepted : (t : Tables) (c : Clock) (ss : List Step)
 unfolding ran acceptedSteps
 run-accepted t c [] = refl
 run-accepted t c (s ∷ ss) =
-    split (isAccepted (stepped t c s .outcome))
+    split (isTaken (stepped t c s .outcome))
     (λ e. rw e (ap (ranOn (stepped t c s .outcome)) (run-accepted (stepped t c s .tables) (stepped t c s .clock) ss)))
     (λ e. rw (e, refused e .tables, refused e .clock) (run-accepted t c ss))
   where
-    refused : isAccepted (stepped t c s .outcome) ≡ false → Untouched t c (stepped t c s)
+    refused : isTaken (stepped t c s .outcome) ≡ false → Untouched t c (stepped t c s)
     refused e = step-refused t c s (eqb-false (stepped t c s .outcome .code) 0 e)

@@ -1,10 +1,10 @@
 -- What one accepted step makes of a thread that slept before it, and of one that did not. Every move of the paper's step touches one
 -- thread's record; the record of thread i is touched only in the ways that `SleeperAfter` and `WakerAfter` name.
-use Prim.Native.Nat.{ℕ, zero, suc, _+_, _-_, _≤_, _<_}
+use Prim.Native.Nat.{ℕ, zero, suc, _-_, _≤_, _<_}
 use native.Mathlib.Omega.{arith}
 use mathlib.Core.Path.{_≡_, refl, sym, ap, _∙_, subst}
 use mathlib.Core.Logic.{_≢_, _⊎_, inl, inr}
-use mathlib.Core.Bool.{Bool, true, false, cond, _&&_, true≢false}
+use mathlib.Core.Bool.{Bool, true, false, cond, true≢false}
 use lib.Dec.{eqb}
 use lib.Bits.{bitAnd, bitOr}
 use lib.IntN.{ℤ, pos, negsuc}
@@ -12,9 +12,8 @@ use borrow.Author.Tests.{eq-eqb, ne-eqb}
 use Rattle.kernel.specs.declared.records.Answer.{Answer}
 use Rattle.kernel.specs.declared.records.Call.{Call}
 use Rattle.kernel.specs.declared.records.Thread.{Thread}
-use Rattle.kernel.proofs.Cases.{split, same-or, in-or-out, contrary, second-fails}
+use Rattle.kernel.proofs.Cases.{split, same-or}
 use Rattle.library.specs.declared.calls.Step.{Step}
-use Rattle.library.specs.declared.sizes.Sizes.{Sizes}
 use Rattle.library.specs.declared.tables.Tables.{Tables}
 use Rattle.promises.specs.Paper.World.{
   World,
@@ -34,22 +33,17 @@ use Rattle.promises.specs.Paper.World.{
   fallAsleep,
 }
 use Rattle.promises.specs.Paper.Rows.{TickOf, Ticks, pendingTo, tookFlags, flagged, EventSignal}
-use Rattle.promises.specs.Paper.Settling.{IsOther}
-use Rattle.promises.specs.Paper.Together.{CallFits, WaitFits, TicksFit, AwaitedFit, ThreadFits}
+use Rattle.promises.specs.Paper.Together.{WaitFits, AwaitedFit, ThreadFits}
 use Rattle.promises.specs.Paper.Waking.{
   rowOf,
-  IsPost,
   IsMailing,
   Tried,
   CalledOut,
   WokenBy,
   heard,
   sleptOn,
-  IsPlain,
   AnswerOf,
   wokenRow,
-  doneRow,
-  againRow,
   SleeperAfter,
   OwnWait,
   WakerAfter,

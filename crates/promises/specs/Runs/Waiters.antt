@@ -3,19 +3,19 @@
 use Prim.Native.Nat.{ℕ, zero, suc, _+_, _≤_, _<_}
 use native.Mathlib.Omega.{arith}
 use mathlib.Core.Path.{_≡_, refl, sym, ap, _∙_, subst}
-use mathlib.Core.Logic.{_≢_, _⊎_, inl, inr}
-use mathlib.Core.Bool.{Bool, true, false, cond, not, _&&_, _||_}
+use mathlib.Core.Logic.{_≢_, inl, inr}
+use mathlib.Core.Bool.{Bool, true, false, cond, _&&_, _||_}
 use lib.Dec.{eqb, ltb}
 use lib.IntN.{ℤ, pos, negsuc}
 use lib.Signed.{ltZ}
-use borrow.Author.Tests.{eqb-true, eqb-false, eq-eqb, ne-eqb, lt-ltb, le-ltb}
+use borrow.Author.Tests.{eqb-true, eq-eqb, ne-eqb, lt-ltb, le-ltb}
 use Rattle.kernel.specs.declared.clock.Clock.{Clock}
 use Rattle.kernel.specs.declared.records.Thread.{Thread}
-use Rattle.kernel.proofs.Cases.{split, same-or, in-or-out, contrary, both-true, both-means}
+use Rattle.kernel.proofs.Cases.{split, same-or, in-or-out, contrary, both-means}
 use Rattle.library.specs.declared.calls.Step.{Step}
 use Rattle.library.specs.declared.tables.Tables.{Tables}
 use Rattle.steps.specs.Stepping.{stepped}
-use Rattle.promises.specs.Paper.World.{World, found, madeReady, ended, Highest}
+use Rattle.promises.specs.Paper.World.{World, found, madeReady, Highest}
 use Rattle.promises.specs.Paper.Host.{Host}
 use Rattle.promises.specs.Paper.Rows.{Signal, BinarySignal, Act}
 use Rattle.promises.specs.Paper.Together.{WaitFits, number, isQueued, SemaphoreFits, HangTogether}
@@ -26,7 +26,7 @@ use Rattle.promises.specs.Together.Tests.{either-means}
 use Rattle.promises.specs.Meant.Together.{rules-together}
 use Rattle.promises.specs.Meant.Step.{hangs}
 use Rattle.promises.specs.Runs.Keeping.{put-same}
-use Rattle.promises.specs.Runs.OneStep.{accepted, unbroken, few, fits, x₀, act, woken-seen, sleeper-after, waker-after}
+use Rattle.promises.specs.Runs.OneStep.{accepted, unbroken, fits, x₀, act, woken-seen, sleeper-after, waker-after}
 
 -- ---- counting
 

@@ -28,7 +28,7 @@ use Rattle.promises.specs.Paper.Step.{StepOf}
 use Rattle.promises.specs.Paper.Waking.{rowOf}
 use Rattle.promises.specs.Paper.Run.{ticksIn, signalsIn, joinsIn, higher, WokenIn}
 use Rattle.promises.specs.Runs.Run.{ran}
-use Rattle.promises.specs.Runs.History.{made-hang}
+use Rattle.promises.specs.Kept.Steps.{made-hang}
 use Rattle.promises.specs.Runs.Moments.{
   moments,
   Going,

@@ -1,14 +1,14 @@
--- The cycle of `settle` and `continue_call`: `settle` at the budget b calls `continue_call` at b - 1, which calls `settle` at b - 1.
--- The measures are 2 b for `settle` and 2 b + 1 for `continue_call`. Each way out is a turn of the meaning.
+-- The cycle of `settle` and `continue_call`: `settle` at the budget b calls `continue_call` at b - 1, which calls `settle` at no
+-- more than b - 1, twice. The measures are 2 b for `settle` and 2 b + 1 for `continue_call`. Each way out is a turn of the meaning.
 use Prim.Native.Nat.{ℕ, _<_, _+_, _*_}
 use native.Mathlib.Omega.{arith}
-use mathlib.Core.Path.{ap, _∙_}
+use mathlib.Core.Path.{_∙_}
 use borrow.Fn.Kinds.{In}
 use borrow.Fn.PlainCycle.{Measures, is, falls, and}
 use Rattle.kernel.proofs.tables.thread_at.Reads as thread-at
 use Rattle.kernel.proofs.waiters.first_ready.Reads as first-ready
 use Rattle.library.specs.Settling.{settled}
-use Rattle.library.proofs.SettlingLaws.{settled-none, settled-quiet, settled-on}
+use Rattle.library.proofs.SettlingLaws.{settled-none, settled-quiet, settled-on, settled-halves}
 use Rattle.library.proofs.settling.go_on.Reads as go-on
 use Rattle.library.proofs.settling.continue_call.Reads as continue-call
 use Rattle.library.proofs.settling.continue_call.Kinds as continue-call-kinds
@@ -54,8 +54,17 @@ module _ (t : ℕ) where
   continue-call-settle-requires : continue-call-lts.Need-settle-requires (for-continue-call t) (continue-call-at t) continue-call.Post
   continue-call-settle-requires c κs = (omega arith, tt)
 
+  continue-call-sub-settle : continue-call-lts.Need-sub-settle (for-continue-call t) (continue-call-at t) continue-call.Post
+  continue-call-sub-settle c = omega arith
+
+  continue-call-settle-requires-2 : continue-call-lts.Need-settle-requires-2 (for-continue-call t) (continue-call-at t) continue-call.Post
+  continue-call-settle-requires-2 c κs = (omega arith, tt)
+
   continue-call-returns : continue-call-lts.Need-returns (for-continue-call t) (continue-call-at t) continue-call.Post
-  continue-call-returns c = c .settle .ensures ∙ ap (settled _) (c .before .go-on .ensures)
+  continue-call-returns c =
+      let first = c .before in
+      c .settle2 .ensures
+      ∙ settled-halves _ _ _ _ _ (omega arith) (first .before .go-on .ensures) (first .settle .ensures)
 
   settle-returns : settle-lts.Need-returns (for-settle t) (settle-at t) settle.Post
   settle-returns c = settled-none _ _ (c .if1 .taken)
@@ -79,7 +88,7 @@ pub +continue-call+settle-spec : {M : Type 1} → statement M
 +continue-call+settle-spec =
     close μ-continue-call μ-settle
     (λ t. continue-call-lts.spec (for-continue-call t) (continue-call-at t) continue-call.Post
-    (λ c κs. tt) (continue-call-settle-requires t) (continue-call-returns t))
+    (λ c κs. tt) (continue-call-settle-requires t) (continue-call-sub-settle t) (continue-call-settle-requires-2 t) (continue-call-returns t))
     (λ t. settle-lts.spec (for-settle t) (settle-at t) settle.Post
     (settle-returns t) (λ c κs. tt) (λ c κs. tt) (settle-returns-2 t)
     (λ c. omega arith) (settle-continue-call-requires t) (settle-returns-3 t))

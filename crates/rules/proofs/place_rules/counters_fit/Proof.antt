@@ -1,58 +1,15 @@
--- The invariant: all places fit exactly if those from p on do. Each turn settles place p by its test.
-use Prim.Native.Nat.{_≤_, _-_}
+-- A search finds none exactly if all fit.
 use native.Mathlib.Omega.{arith}
-use mathlib.Core.Path.{_≡_, refl, sym, _∙_}
-use mir.Syntax.{w32}
-use mir.Val.{toZ, ofZ}
-use borrow.Author.Needs.{needs}
-use Rattle.kernel.proofs.Loops.{all-done}
-use Rattle.kernel.specs.Tables.{counterAt}
-use Rattle.kernel.specs.Walk.{allFrom}
-use Rattle.rules.proofs.HangingLaws.{passes-on, fails-here}
+use Rattle.rules.proofs.HangingLaws.{none-bad}
 use Rattle.rules.specs.PlaceRules.{placeAgrees, countersFit}
 use Rattle.rules.proofs.place_rules.counters_fit.Statement.{statement}
 use Rattle.rules.proofs.place_rules.counters_fit.Tie as tie
 
-abbrev Inv-loop : tie.InvT-loop
-Inv-loop z k counts p₀ p = (p ≤ 36) × (allFrom (placeAgrees k z) 0 36 ≡ allFrom (placeAgrees k z) p (36 - p))
-
-abbrev μ-loop : tie.MeasureT-loop
-μ-loop z k counts p₀ p = 36 - p
-
-loop-holds : tie.Need-loop-holds Inv-loop μ-loop
-loop-holds c = (omega arith, refl)
-
--- the callee's test is the meaning's
-tested : (c : tie.After-place-fits Inv-loop μ-loop) →
-    c .place-fits .result
-    ≡ placeAgrees (c .before .before .before .before .before .args .t1) (c .before .before .before .before .before .args .z) (c .before .before .before .loop .p)
-tested c =
-    let turn = c .before .before in
-    let k = turn .before .before .before .args .t1 in
-    let p = turn .before .loop .p in
-    let same : toZ w32 (ofZ w32 (counterAt k p)) ≡ counterAt k p = search needs in
-    rw (same, turn .before .before .count-queued .ensures p (turn .loop-test .taken)) at (c .place-fits .ensures)
-
-loop-again : tie.Need-loop-again Inv-loop μ-loop
-loop-again c =
-    let turn = c .before .before .before in (
-      omega arith,
-      turn .before .loop .inv .1 ∙ passes-on _ _ _ _ (turn .loop-test .taken) (tested (c .before)) (c .if1 .left),
-    )
-
-returns : tie.Need-returns Inv-loop μ-loop
+returns : tie.Need-returns
 unfolding countersFit
 returns c =
-    let turn = c .before .before .before in
-    sym (turn .before .loop .inv .1 ∙ fails-here _ _ _ _ (turn .loop-test .taken) (tested (c .before)) (c .if1 .taken))
-
-returns-2 : tie.Need-returns-2 Inv-loop μ-loop
-unfolding countersFit
-returns-2 c = sym (c .before .loop .inv .1 ∙ all-done _ _ _ (c .loop-test .left))
+    let args = c .before .args in
+    none-bad (placeAgrees (args .k) (args .z)) 36 _ (omega arith) (c .first-bad-place .ensures)
 
 pub counters-fit-spec : {M : Type 1} → statement M
-counters-fit-spec =
-    tie.close
-    (tie.spec Inv-loop μ-loop (λ c κs. tt) loop-holds (λ c. omega arith) (λ c. omega arith) (λ c. omega arith)
-    (λ c. omega arith) (λ c. omega arith) (λ c. omega arith) (λ c κs. tt) returns (λ c. omega arith)
-    (λ c. omega arith) loop-again returns-2)
+counters-fit-spec = tie.close (tie.spec (λ c κs. tt) returns)

@@ -1,0 +1,67 @@
+-- What the statements of the demands rule out, each in a line or two: answers and wakings that no step gives.
+use Prim.Native.Nat.{ℕ, _+_, _≤_, _<_}
+use native.Mathlib.Omega.{arith}
+use mathlib.Core.Path.{_≡_, refl, sym, ap, _∙_}
+use mathlib.Core.Logic.{_≢_, inl, inr}
+use mathlib.Core.Bool.{Bool, false, true≢false}
+use lib.IntN.{ℤ, pos, negsuc}
+use Rattle.kernel.specs.declared.records.Thread.{Thread}
+use Rattle.library.specs.declared.calls.Step.{Step}
+use Rattle.library.specs.declared.tables.Tables.{Tables}
+use Rattle.promises.specs.Paper.Waking.{rowOf, AnswerOf, SleeperAfter, WakerAfter}
+use Rattle.promises.specs.Paper.Run.{TurnOf}
+
+-- how far below 0 a message is
+abbrev depth : ℤ → ℕ
+depth (pos n) = 0
+depth (negsuc n) = n + 1
+
+-- -1 and -2 are not 0
+below : {n : ℕ} → _≡_ {A = ℤ} (negsuc n) (pos 0) → ⊥
+below e = omega (arith, ap depth e)
+
+-- an event wait that timed out answers -1 and no flags, and takes none
+pub late-flags : {a : Thread} {f e d : ℕ} {x : ℤ} → AnswerOf a f (negsuc 0) x d e → (x ≡ negsuc 0) × (d ≡ 0) × (e ≡ f)
+late-flags (AnswerOf.message h) = (refl, refl, refl)
+late-flags (AnswerOf.events k z) = absurd (below z)
+late-flags (AnswerOf.object k z o l) = absurd (below z)
+late-flags (AnswerOf.in-reset k z) = absurd (below z)
+late-flags (AnswerOf.posted k z) = absurd (below z)
+late-flags (AnswerOf.fetched k z y) = absurd (below z)
+
+-- an alloc that was woken with 0 answers 0
+pub promise-kept : {a : Thread} {f e d : ℕ} {x : ℤ} → a .call .kind ≡ 20 → AnswerOf a f (pos 0) x d e → x ≡ pos 0
+promise-kept k (AnswerOf.message h) = refl
+promise-kept k (AnswerOf.events q z) = refl
+promise-kept k (AnswerOf.object q z o l) = refl
+promise-kept k (AnswerOf.in-reset (inl (inl q)) z) = absurd (omega (arith, k, q))
+promise-kept k (AnswerOf.in-reset (inl (inr q)) z) = absurd (omega (arith, k, q))
+promise-kept k (AnswerOf.in-reset (inr q) z) = absurd (omega (arith, k, q))
+promise-kept k (AnswerOf.posted q z) = refl
+promise-kept k (AnswerOf.fetched q z y) = refl
+
+-- a pool's waiter is never released with -2
+pub no-pool-reset : {p : ℕ} {a : Thread} {s : Step} {m : ℤ} → 16 ≤ p → TurnOf p a s m → m ≢ negsuc 1
+no-pool-reset l (TurnOf.signal k o) e = below (sym e)
+no-pool-reset l (TurnOf.object k o) e = below (sym e)
+no-pool-reset l (TurnOf.last-tick k r) e = one-two (sym e)
+  where
+    one-two : _≡_ {A = ℤ} (negsuc 1) (negsuc 0) → ⊥
+    one-two x = omega (arith, ap depth x)
+no-pool-reset l (TurnOf.reset k o h) e = omega (arith, l, h)
+
+-- a tick wakes nobody who was ready: no sleep, waking and end is made up on the way
+pub no-fake-waking : {t : Tables} {s : Step} {i : ℕ} {b : Thread} {w : Bool} → s .caller ≡ 255 → i < 16 → rowOf t i .call .kind ≡ 0
+    → WakerAfter t s i b w → (w ≡ false) × (b .state ≡ 0)
+no-fake-waking c l k (WakerAfter.unwoken z u) = (u, z)
+no-fake-waking c l k (WakerAfter.own-sleep x st pl o h) = absurd (omega (arith, c, x, l))
+no-fake-waking c l k (WakerAfter.tried-again (inl (inl x)) m h) = absurd (omega (arith, k, x))
+no-fake-waking c l k (WakerAfter.tried-again (inl (inr x)) m h) = absurd (omega (arith, k, x))
+no-fake-waking c l k (WakerAfter.tried-again (inr x) m h) = absurd (omega (arith, k, x))
+
+-- who sleeps and is not in the woken mask finishes nothing
+pub unwoken-unfinished : {t : Tables} {s : Step} {i : ℕ} {b : Thread} {w f : Bool} → SleeperAfter t s i b w f → w ≡ false → f ≡ false
+unwoken-unfinished (SleeperAfter.on e p q) z = q
+unwoken-unfinished (SleeperAfter.ready m b k l g e p q) z = absurd (true≢false (sym p ∙ z))
+unwoken-unfinished (SleeperAfter.done m x d f b g e p q) z = absurd (true≢false (sym p ∙ z))
+unwoken-unfinished (SleeperAfter.again g b e p q) z = q

@@ -1,0 +1,67 @@
+-- Which rule of "tables that hang together" is broken first, and where: the rules by their numbers, in the order of the paper's
+-- section. docs/RULES.md has their words.
+use Prim.Native.Nat.{ℕ}
+use mathlib.Core.Bool.{Bool, cond, not}
+use lib.Dec.{eqb}
+use Rattle.kernel.specs.declared.clock.Clock.{Clock}
+use Rattle.kernel.specs.declared.records.Kernel.{Kernel}
+use Rattle.kernel.specs.declared.records.Thread.{Thread}
+use Rattle.kernel.specs.Numbers.{nobody}
+use Rattle.kernel.specs.Tables.{usedRows, threadAt}
+use Rattle.kernel.specs.Units.{frequencyFits}
+use Rattle.kernel.specs.Waiters.{firstReady}
+use Rattle.kernel.specs.Walk.{firstFrom}
+use Rattle.library.specs.declared.sizes.Sizes.{Sizes}
+use Rattle.library.specs.declared.tables.Plant.{Plant}
+use Rattle.library.specs.Sizes.{sizesFit}
+use Rattle.rules.specs.declared.finding.Broken.{Broken}
+use Rattle.rules.specs.Limits.{firstBad}
+use Rattle.rules.specs.RowRules.{callFits, waitFits, ticksFit, awaitedFit, nonePending}
+use Rattle.rules.specs.PlaceRules.{badPlace}
+use Rattle.rules.specs.ReferenceRules.{badReference}
+use Rattle.rules.specs.MailboxRules.{badMailbox}
+use Rattle.rules.specs.PoolRules.{badPool}
+use Rattle.rules.specs.Hanging.{runningFree}
+
+-- a rule about the tables as a whole has one row, 0
+abbrev pub wholly : Bool → ℕ
+wholly fits = cond fits nobody 0
+
+-- the rules of a thread's record: 7 remaining ticks, 8 its call, 9 its wait, 10 its awaited flags, 11 its pending flags
+abbrev pub rowKeeps : Sizes → ℕ → Thread → Bool
+rowKeeps z rule t =
+    cond (eqb rule 7) (ticksFit t)
+    (cond (eqb rule 8) (callFits t z)
+    (cond (eqb rule 9) (waitFits t) (cond (eqb rule 10) (awaitedFit t) (nonePending t))))
+
+-- the first thread whose record breaks one of them
+abbrev pub badRow : Kernel → Sizes → ℕ → ℕ
+badRow k z rule = firstBad (λ i. rowKeeps z rule (threadAt k i)) (usedRows (z .threads))
+
+-- the running thread, where it has an unfinished call
+abbrev pub badRunning : Kernel → ℕ → ℕ
+badRunning k n = cond (runningFree k n) nobody (firstReady k n)
+
+-- the first row that breaks a rule, or nobody
+unfoldable pub badAt : Plant → Clock → ℕ → ℕ
+badAt p clock rule =
+    cond (eqb rule 1) (wholly (sizesFit (p .sizes)))
+    (cond (eqb rule 2) (wholly (frequencyFits (clock .frequency)))
+    (cond (eqb rule 3) (badPlace (p .kernel) (p .sizes))
+    (cond (eqb rule 4) (badReference (p .kernel) (p .sizes))
+    (cond (eqb rule 5) (badMailbox p)
+    (cond (eqb rule 6) (badPool p)
+    (cond (eqb rule 12) (badRunning (p .kernel) (p .sizes .threads)) (badRow (p .kernel) (p .sizes) rule)))))))
+
+-- whether no row breaks a rule
+abbrev pub isKept : Plant → Clock → ℕ → Bool
+isKept p clock rule = eqb (badAt p clock rule) nobody
+
+-- a rule and the row that breaks it; 0 and 0 for nobody
+abbrev pub brokenAs : Plant → Clock → ℕ → Broken
+brokenAs p clock rule =
+    cond (eqb rule nobody) (record { rule = 0; row = 0 }) (record { rule = rule; row = badAt p clock rule })
+
+-- the first of the rules 1 to 12 that is broken
+unfoldable pub broken : Plant → Clock → Broken
+broken p clock = brokenAs p clock (firstFrom (λ rule. not (isKept p clock rule)) 1 12)
