@@ -1,14 +1,20 @@
--- What the five functions of the boundary are proved to leave is what the paper's relations tell, and they leave no choice. Of each function
+-- What the functions of the boundary are proved to leave is what the paper's relations tell, and they leave no choice. Of each function
 -- it is said of the meanings that its contract cites.
-use Prim.Native.Nat.{ℕ}
+use Prim.Native.Nat.{ℕ, _<_}
 use native.Mathlib.Omega.{arith}
 use mathlib.Core.Path.{_≡_, refl, sym, ap, _∙_}
 use mathlib.Core.List.{List, [], _∷_}
 use lib.Dec.{eqb}
 use borrow.Author.Tests.{eqb-true, eqb-false}
 use Rattle.kernel.specs.declared.clock.Clock.{Clock}
+use Rattle.kernel.specs.declared.time.SystemTime.{SystemTime}
+use Rattle.kernel.specs.declared.time.Interval.{Interval}
+use Rattle.kernel.specs.declared.units.Unit.{Unit}
 use Rattle.kernel.specs.declared.units.Rate.the-variants.{Given}
-use Rattle.kernel.proofs.Cases.{split}
+use Rattle.kernel.specs.declared.units.Ticks.{Ticks}
+use Rattle.kernel.specs.declared.units.Units.{Units}
+use Rattle.kernel.specs.Time.{inRange}
+use Rattle.kernel.proofs.Cases.{split, contrary}
 use Rattle.library.specs.declared.sizes.Sizes.{Sizes}
 use Rattle.library.specs.declared.tables.Tables.{Tables}
 use Rattle.library.specs.declared.fresh.Made.{Made}
@@ -27,12 +33,25 @@ use Rattle.host.specs.declared.reads.ReadResult.{ReadResult}
 use Rattle.host.specs.Request.{stepOf, resultOf}
 use Rattle.host.specs.Setup.{madeFor, prepared, tablesSet, clockSet}
 use Rattle.host.specs.Reads.{requestIn, foundNumber, readAt}
+use Rattle.host.specs.Times.{addedTime, differedTime, inRangeNumber, ticksCode, ticksIn, unitsCode, unitsOf}
 use Rattle.host.specs.Writes.{placeWritten}
 use Rattle.promises.specs.Paper.Answers.{Said, foundSaid, writtenSaid}
-use Rattle.promises.specs.Paper.Boundary.{asked, StepCall, FreshCall, StepGiven, ReadCall, PlaceKept, SizesCall, RecordCall}
+use Rattle.promises.specs.Paper.Boundary.{asked, StepCall, FreshCall, StepGiven, ReadCall, PlaceKept, SizesCall, RecordCall, AddCall, DifferenceCall, RangeCall, TicksCall, UnitsCall}
 use Rattle.promises.specs.Meant.Step.{demand-two}
 use Rattle.promises.specs.Paper.Host.{Host}
 use Rattle.promises.specs.Meant.Only.{step-only}
+use Rattle.promises.specs.Meant.Time.{
+  sum-is,
+  sum-one,
+  difference-is,
+  difference-one,
+  range-is,
+  range-one,
+  ticks-is,
+  ticks-one,
+  units-is,
+  units-one,
+}
 use Rattle.promises.specs.Meant.Fresh.{made-is, made-one}
 use Rattle.promises.specs.Meant.Reader.{number-is, number-one, read-is, read-one}
 use Rattle.promises.specs.Meant.Writer.{step-write-is, step-write-one, sizes-write-is, sizes-write-one}
@@ -200,3 +219,49 @@ record-call-one {place = place} {m = m} {n = n} a b =
       a .coded ∙ ap (λ (w : Written). writtenSaid w .code) (same .0) ∙ sym (b .coded),
       (same .1, kept-one (writtenSaid (b .done)) place m n placed (b .placed)),
     )
+
+-- ---- time for a host
+
+pub add-call-is : (time interval : ℕ) → time < 4294967296 → interval < 4294967296 → AddCall time interval (addedTime time interval)
+add-call-is time interval h g = sum-is (record { 0 = time }) (record { 0 = interval }) h g
+
+pub add-call-one : {time interval r q : ℕ} → AddCall time interval r → AddCall time interval q → r ≡ q
+add-call-one a b = ap (λ (x : SystemTime). x .0) (sum-one a b)
+
+pub difference-call-is : (start end : ℕ) → start < 4294967296 → end < 4294967296 → DifferenceCall start end (differedTime start end)
+difference-call-is start end h g = difference-is (record { 0 = start }) (record { 0 = end }) h g
+
+pub difference-call-one : {start end r q : ℕ} → DifferenceCall start end r → DifferenceCall start end q → r ≡ q
+difference-call-one a b = ap (λ (x : Interval). x .0) (difference-one a b)
+
+pub range-call-is : (time start end : ℕ) → time < 4294967296 → start < 4294967296 → end < 4294967296
+    → RangeCall time start end (inRangeNumber time start end)
+range-call-is time start end h g i =
+    let is = range-is (record { 0 = time }) (record { 0 = start }) (record { 0 = end }) h g i in
+    split (inRange (record { 0 = time }) (record { 0 = start }) (record { 0 = end }))
+    (λ e. rw e (RangeCall.inside (rw e at is)))
+    (λ e. rw e (RangeCall.outside (rw e at is)))
+
+pub range-call-one : {time start end r q : ℕ} → RangeCall time start end r → RangeCall time start end q → r ≡ q
+range-call-one (RangeCall.inside a) (RangeCall.inside b) = refl
+range-call-one (RangeCall.inside a) (RangeCall.outside b) = contrary refl (range-one a b)
+range-call-one (RangeCall.outside a) (RangeCall.inside b) = contrary refl (range-one b a)
+range-call-one (RangeCall.outside a) (RangeCall.outside b) = refl
+
+pub ticks-call-is : (u : Unit) (x frequency : ℕ) → TicksCall u x frequency (ticksCode u x frequency) (ticksIn u x frequency)
+ticks-call-is u x frequency = ticks-is u x (Given frequency)
+
+pub ticks-call-one : {u : Unit} {x frequency c d m n : ℕ} → TicksCall u x frequency c m → TicksCall u x frequency d n → (c ≡ d) × (m ≡ n)
+ticks-call-one a b =
+    let same = ticks-one a b in
+    (ap (λ (r : Ticks). r .code) same, ap (λ (r : Ticks). r .interval .0) same)
+
+pub units-call-is : (u : Unit) (ticks frequency : ℕ) → ticks < 4294967296
+    → UnitsCall u ticks frequency (unitsCode u ticks frequency) (unitsOf u ticks frequency)
+units-call-is u ticks frequency h = units-is u (record { 0 = ticks }) (Given frequency) h
+
+pub units-call-one : {u : Unit} {ticks frequency c d m n : ℕ} → UnitsCall u ticks frequency c m → UnitsCall u ticks frequency d n
+    → (c ≡ d) × (m ≡ n)
+units-call-one a b =
+    let same = units-one a b in
+    (ap (λ (r : Units). r .code) same, ap (λ (r : Units). r .value) same)

@@ -1,10 +1,12 @@
--- THE BOUNDARY TO A HOST: what each of the five functions that a host calls leaves of what it was lent, told over the paper's relations.
+-- THE BOUNDARY TO A HOST: what each function that a host calls leaves of what it was lent, told over the paper's relations.
 -- Where a function is refused, what it was lent stays as it was.
 use Prim.Native.Nat.{ℕ}
 use mathlib.Core.Path.{_≡_}
 use mathlib.Core.Logic.{_≢_}
+use mathlib.Core.Bool.{true, false}
 use mathlib.Core.List.{List, [], _∷_}
 use Rattle.kernel.specs.declared.clock.Clock.{Clock}
+use Rattle.kernel.specs.declared.units.Unit.{Unit}
 use Rattle.kernel.specs.declared.units.Rate.the-variants.{Given}
 use Rattle.library.specs.declared.calls.Step.{Step}
 use Rattle.library.specs.declared.sizes.Sizes.{Sizes}
@@ -17,6 +19,7 @@ use Rattle.host.specs.declared.request.Request.{Request}
 use Rattle.host.specs.declared.request.StepResult.{StepResult}
 use Rattle.host.specs.declared.reads.ReadResult.{ReadResult}
 use Rattle.promises.specs.Paper.Step.{StepOf}
+use Rattle.promises.specs.Paper.Time.{SumOf, DifferenceOf, RangeOf, TicksOf, UnitsOf}
 use Rattle.promises.specs.Paper.Fresh.{MadeOf}
 use Rattle.promises.specs.Paper.Answers.{Said, foundSaid, writtenSaid}
 use Rattle.promises.specs.Paper.Reader.{NumberOf, ReadOf}
@@ -80,3 +83,26 @@ pub record RecordCall (q : Request) (at : ℕ) (l : List ℕ) (place code : ℕ)
   pub is-write : WriteOfStep (asked q) at l done k
   pub coded : code ≡ writtenSaid done .code
   pub placed : PlaceKept (writtenSaid done) place after
+
+-- ---- time for a host: its times, intervals and frequencies are plain numbers
+
+-- nil_time_add: "Time plus interval .. wrap"
+abbrev pub AddCall : ℕ → ℕ → ℕ → Type 0
+AddCall time interval r = SumOf (record { 0 = time }) (record { 0 = interval }) (record { 0 = r })
+
+-- nil_time_diff: ".. and end minus start wrap"
+abbrev pub DifferenceCall : ℕ → ℕ → ℕ → Type 0
+DifferenceCall start end r = DifferenceOf (record { 0 = start }) (record { 0 = end }) (record { 0 = r })
+
+-- nil_time_in_range: 1 for a time in range, else 0
+pub data RangeCall (time start end : ℕ) : ℕ → Type 0 where
+  inside : RangeOf (record { 0 = time }) (record { 0 = start }) (record { 0 = end }) true → RangeCall time start end 1
+  outside : RangeOf (record { 0 = time }) (record { 0 = start }) (record { 0 = end }) false → RangeCall time start end 0
+
+-- nil_s2i, nil_ms2i, nil_us2i: so much of a unit, as a code and ticks
+abbrev pub TicksCall : Unit → ℕ → ℕ → ℕ → ℕ → Type 0
+TicksCall u x frequency code ticks = TicksOf u x (Given frequency) (record { code = code; interval = record { 0 = ticks } })
+
+-- nil_i2s, nil_i2ms, nil_i2us: so many ticks, as a code and a number of a unit
+abbrev pub UnitsCall : Unit → ℕ → ℕ → ℕ → ℕ → Type 0
+UnitsCall u ticks frequency code value = UnitsOf u (record { 0 = ticks }) (Given frequency) (record { code = code; value = value })

@@ -31,6 +31,7 @@ use Rattle.trace.specs.Traces.{readAll, writtenAll, none, more}
 use Rattle.host.specs.declared.request.Request.{Request}
 use Rattle.host.specs.declared.reads.ReadResult.{ReadResult}
 use Rattle.host.specs.Setup.{prepared, clockSet}
+use Rattle.host.specs.Times.{addedTime, differedTime, inRangeNumber, ticksCode, ticksIn, unitsCode, unitsOf}
 use Rattle.host.specs.Reads.{readAt}
 use Rattle.host.specs.Request.{stepOf}
 use Rattle.host.specs.Writes.{placeWritten}
@@ -348,3 +349,17 @@ reads-shown = refl
 pub places-shown : placeWritten (stepAnswer 10 (replicate 24 7)) 99 ∷ placeWritten (stepAnswer 10 (replicate 22 7)) 99 ∷ [] ≡ 23 ∷ 99 ∷ []
 unfolding stepAnswer
 places-shown = refl
+
+-- time for a host: a sum, a difference, in range and not, and conversions each way, refused and not
+pub host-times-shown : addedTime 4294967295 2
+    ∷ differedTime 10 3
+    ∷ inRangeNumber 5 3 10
+    ∷ inRangeNumber 10 3 10
+    ∷ ticksCode Seconds 1 0
+    ∷ ticksIn Milliseconds 1 3
+    ∷ unitsCode Seconds 4294967295 1000
+    ∷ unitsOf Seconds 1001 1000
+    ∷ []
+    ≡ 1 ∷ 4294967289 ∷ 1 ∷ 0 ∷ 6 ∷ 1 ∷ 6 ∷ 2 ∷ []
+unfolding inTicks ofTicks
+host-times-shown = refl
