@@ -12,23 +12,23 @@ use Rattle.steps.proofs.StepLaws.{Untouched, step-code, step-refused}
 use Rattle.host.specs.declared.request.Request.{Request}
 use Rattle.host.specs.declared.request.Answered.{Answered}
 use Rattle.host.proofs.Told.{told, told-not}
-use Rattle.host.specs.Request.{stepOf, resultOf, answered}
+use Rattle.host.specs.Request.{stepOf, resultOf, stepAnswered}
 
-module _ (t : Tables) (c : Clock) (q : Request) (r : Answered) (e : r ≡ answered t c q) where
+module _ (t : Tables) (c : Clock) (q : Request) (r : Answered) (e : r ≡ stepAnswered t c q) where
   accepted-is : r .accepted ≡ eqb (stepped t c (stepOf q) .outcome .code) 0
-  unfolding answered
+  unfolding stepAnswered
   accepted-is = ap (λ (z : Answered). z .accepted) e
 
   ticks-is : r .ticks ≡ eqb (stepped t c (stepOf q) .outcome .code) 0 && eqb (q .kind) 1
-  unfolding answered
+  unfolding stepAnswered
   ticks-is = ap (λ (z : Answered). z .ticks) e
 
   pub tables-is : r .tables ≡ stepped t c (stepOf q) .tables
-  unfolding answered
+  unfolding stepAnswered
   tables-is = ap (λ (z : Answered). z .tables) e
 
   pub result-is : r .result ≡ resultOf (stepped t c (stepOf q) .outcome)
-  unfolding answered
+  unfolding stepAnswered
   result-is = ap (λ (z : Answered). z .result) e
 
   -- a refused step leaves both as they were

@@ -27,8 +27,8 @@ resultOf o =
     }
 
 -- what a step leaves of the tables, its result, whether it was accepted, and whether it was a tick's
-unfoldable pub answered : Tables → Clock → Request → Answered
-answered t c q =
+unfoldable pub stepAnswered : Tables → Clock → Request → Answered
+stepAnswered t c q =
     record {
       tables = stepped t c (stepOf q) .tables;
       result = resultOf (stepped t c (stepOf q) .outcome);

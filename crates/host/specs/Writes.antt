@@ -4,6 +4,6 @@ use Rattle.trace.specs.declared.writer.Written.{Written}
 use Rattle.trace.specs.declared.writer.Written.the-variants.{Upto, Refused}
 
 -- the place after what was written; a refusal leaves the place that stood there
-abbrev pub placeAfter : Written → ℕ → ℕ
-placeAfter (Upto next) place = next
-placeAfter (Refused code) place = place
+abbrev pub placeWritten : Written → ℕ → ℕ
+placeWritten (Upto next) place = next
+placeWritten (Refused code) place = place

@@ -9,7 +9,7 @@ use steps::stepping::Outcome;
 use steps::stepping::step;
 ghost use mathlib.Core.Path.{_≡_};
 ghost use Rattle.steps.specs.Stepping.{stepped};
-ghost use Rattle.host.specs.Request.{stepOf, resultOf, answered};
+ghost use Rattle.host.specs.Request.{stepOf, resultOf, stepAnswered};
 
 // A step as a host hands it over; `unused` fills the place before `a`.
 #[repr(C)]
@@ -68,7 +68,7 @@ fn result_of(o: Outcome) -> StepResult
 
 // The step, by value.
 fn answer(tables: Tables, clock: Clock, q: Request) -> Answered
-    ensures { λ r. ⌜ r ≡ answered tables clock q ⌝ }
+    ensures { λ r. ⌜ r ≡ stepAnswered tables clock q ⌝ }
 {
     let s = step_of(q);
     let done = step(tables, clock, s);

@@ -8,7 +8,7 @@ use trace::writer::write_step;
 ghost use mathlib.Core.Path.{_≡_};
 ghost use Rattle.trace.specs.Writer.{writtenCode, sizesAnswer, sizesWritten, stepAnswer, stepWritten};
 ghost use Rattle.host.specs.Request.{stepOf};
-ghost use Rattle.host.specs.Writes.{placeAfter};
+ghost use Rattle.host.specs.Writes.{placeWritten};
 
 fn written_code(w: Written) -> u8
     ensures { λ r. ⌜ r ≡ writtenCode w ⌝ }
@@ -20,7 +20,7 @@ fn written_code(w: Written) -> u8
 }
 
 fn place_after(w: Written, place: usize) -> usize
-    ensures { λ r. ⌜ r ≡ placeAfter w place ⌝ }
+    ensures { λ r. ⌜ r ≡ placeWritten w place ⌝ }
 {
     match w {
         Written::Upto(next) => next,
@@ -32,7 +32,7 @@ fn place_after(w: Written, place: usize) -> usize
 fn put_sizes(buf: &mut [u8], sizes: Sizes, next: &mut usize) -> u8
     ensures { λ r. ⌜ (r ≡ writtenCode (sizesAnswer sizes (now (buf .entry))))
         × (now (buf .exit) ≡ sizesWritten sizes (now (buf .entry)))
-        × (now (next .exit) ≡ placeAfter (sizesAnswer sizes (now (buf .entry))) (now (next .entry))) ⌝ }
+        × (now (next .exit) ≡ placeWritten (sizesAnswer sizes (now (buf .entry))) (now (next .entry))) ⌝ }
 {
     let w = write_sizes(buf, sizes);
     let place = *next;
@@ -45,7 +45,7 @@ fn put_sizes(buf: &mut [u8], sizes: Sizes, next: &mut usize) -> u8
 fn put_step(buf: &mut [u8], at: usize, q: Request, next: &mut usize) -> u8
     ensures { λ r. ⌜ (r ≡ writtenCode (stepAnswer at (now (buf .entry))))
         × (now (buf .exit) ≡ stepWritten (stepOf q) at (now (buf .entry)))
-        × (now (next .exit) ≡ placeAfter (stepAnswer at (now (buf .entry))) (now (next .entry))) ⌝ }
+        × (now (next .exit) ≡ placeWritten (stepAnswer at (now (buf .entry))) (now (next .entry))) ⌝ }
 {
     let s = step_of(q);
     let w = write_step(buf, at, s);
@@ -61,7 +61,7 @@ fn put_step(buf: &mut [u8], at: usize, q: Request, next: &mut usize) -> u8
 pub extern "C" fn nil_write_sizes(buf: &mut [u8], sizes: &Sizes, next: &mut usize) -> u8
     ensures { λ r. ⌜ (r ≡ writtenCode (sizesAnswer (now (sizes .entry)) (now (buf .entry))))
         × (now (buf .exit) ≡ sizesWritten (now (sizes .entry)) (now (buf .entry)))
-        × (now (next .exit) ≡ placeAfter (sizesAnswer (now (sizes .entry)) (now (buf .entry))) (now (next .entry))) ⌝ }
+        × (now (next .exit) ≡ placeWritten (sizesAnswer (now (sizes .entry)) (now (buf .entry))) (now (next .entry))) ⌝ }
 {
     let z = *sizes;
     put_sizes(buf, z, next)
@@ -78,7 +78,7 @@ pub extern "C" fn nil_write_step(
 ) -> u8
     ensures { λ r. ⌜ (r ≡ writtenCode (stepAnswer at (now (buf .entry))))
         × (now (buf .exit) ≡ stepWritten (stepOf (now (request .entry))) at (now (buf .entry)))
-        × (now (next .exit) ≡ placeAfter (stepAnswer at (now (buf .entry))) (now (next .entry))) ⌝ }
+        × (now (next .exit) ≡ placeWritten (stepAnswer at (now (buf .entry))) (now (next .entry))) ⌝ }
 {
     let q = *request;
     put_step(buf, at, q, next)

@@ -4,7 +4,7 @@ pub mod CounterRule
 pub mod Accepting
 pub mod Holds
 pub mod ReferenceRule
-pub mod Story
+pub mod Rows
 pub mod Chain
 pub mod Moving
 pub mod RingKept

@@ -1,21 +1,4 @@
--- What the meanings that the contracts cite come to, in the paper's words.
-pub mod Words
-pub mod Steps
-pub mod Queues
-pub mod Semaphores
-pub mod Tick
-pub mod Mailboxes
-pub mod Pools
-pub mod Settling
-pub mod Refusals
-pub mod Accepted
-pub mod AcceptedBoxes
-pub mod Only
-pub mod Masks
-pub mod Moves
-pub mod Calls
-pub mod Rows
-pub mod Step
+-- That what the contracts cite comes to what the paper tells (room Paper), and that the paper leaves no choice.
 pub mod Time
 pub mod Sizes
 pub mod Fresh
@@ -25,3 +8,17 @@ pub mod Writer
 pub mod Encoding
 pub mod Boundary
 pub mod Together
+pub mod Refusals
+pub mod Masks
+pub mod Clock
+pub mod Waiters
+pub mod Callers
+pub mod Kinds
+pub mod Mailboxes
+pub mod Pools
+pub mod Settling
+pub mod Moves
+pub mod Calls
+pub mod Rows
+pub mod Only
+pub mod Step

@@ -12,6 +12,7 @@ use borrow.Author.Tests.{ltb-true, eqb-true, eqb-false, ne-eqb, not-true, not-fa
 use Rattle.kernel.specs.Numbers.{nobody}
 use Rattle.kernel.specs.Walk.{firstFrom, allFrom, bit, countOf}
 use Rattle.kernel.proofs.Cases.{split}
+use Rattle.kernel.proofs.WalkLaws.{count-le, count-none}
 use Rattle.kernel.proofs.Loops.{first-here, first-next, all-fails, all-next, count-more}
 use Rattle.rules.specs.Limits.{usedOf, firstBad}
 
@@ -57,17 +58,6 @@ none-fails f i (suc n) h =
 pub none-bad : (f : ℕ → Bool) (n r : ℕ) → n ≤ 255 → r ≡ firstBad f n → eqb r nobody ≡ allFrom f 0 n
 none-bad f n r h e = rw e (none-fails f 0 n (omega arith))
 
--- one index more counts at most once more
-more-le : (b : Bool) (m n : ℕ) → m ≤ n → m + bit b ≤ suc n
-more-le true m n h = omega arith
-more-le false m n h = omega arith
-
--- no more indexes pass than there are
-pub count-le : (f : ℕ → Bool) (n : ℕ) → countOf f n ≤ n
-unfolding countOf
-count-le f zero = omega arith
-count-le f (suc n) = more-le (f n) (countOf f n) n (count-le f n)
-
 -- a key that is past all n keys where the test fails: it is p exactly if the test holds and x is p; a is what a callee gave
 pub keyed : (b : Bool) (x n a : ℕ) → a ≡ cond b x n → (p : ℕ) → p < n → (b && eqb x p) ≡ eqb a p
 keyed b x n a same p h = rw same (go b)
@@ -88,8 +78,11 @@ zeros (suc n) (suc p) = zeros n p
 
 -- before the first index
 pub tally-none : (test : ℕ → ℕ → Bool) (n : ℕ) → Tallied test n (replicate n 0) 0
-unfolding countOf
-tally-none test n = record { sized = length-replicate n 0; entry = λ p h. zeros n p }
+tally-none test n =
+    record {
+      sized = length-replicate n 0;
+      entry = λ p h. zeros n p ∙ sym (count-none (test p) 0 (λ i l. absurd (omega arith)));
+    }
 
 module _ (test : ℕ → ℕ → Bool) (n : ℕ) (l : List ℕ) (i at : ℕ) (so-far : Tallied test n l i) where
   -- an entry is at most the number of indexes

@@ -26,10 +26,10 @@ use Rattle.library.specs.Tables.{poolAt}
 use Rattle.rules.specs.RowRules.{callLimit}
 use Rattle.promises.specs.Together.Good.{CallKind}
 use Rattle.promises.specs.Kept.Accepting.{Accepted}
-use Rattle.promises.specs.Kept.Story.{Event, signalAt, countIn, isSlept}
-use Rattle.promises.specs.Kept.Moving.{after, finish-chained}
+use Rattle.promises.specs.Kept.Chain.{Note, signalAt, after, nil-right, countIn, isSlept}
+use Rattle.promises.specs.Kept.Moving.{finish-chained}
 use Rattle.promises.specs.Kept.Whole.{Whole, Done, kernel-done, idle-free, stepper-caller, stepper-kept}
-use Rattle.promises.specs.Kept.KernelActs.{Acts, calledFor, callsOf, nil-right, stepper, sleeper, object-of, kept-fits, kernel-acts}
+use Rattle.promises.specs.Kept.KernelActs.{Acts, stepper, sleeper, object-of, kept-fits, kernel-acts}
 use Rattle.promises.specs.Kept.BoxActs.{Tries, Tryer, post-tries, fetch-tries, alloc-tries, reset-acts, resume-acts, put-acts}
 
 -- of the kinds 15 to 22, two are left
@@ -59,27 +59,27 @@ module _ (p : Plant) (c : Clock) (s : Step) (a : Accepted p c s) (w : Whole (p .
         asks = stepper-caller z k (s .caller) (stepper p c s a w);
         sleeps = λ t.
             let me = sleeper p c s a w (thread t) in
-            (me .0, (idle-free (threadAt k (s .caller)) (me .1), (kept-fits p c s a w (rw e f) o t, λ d. absurd (d (me .1 .no-call)))));
+            (me .0, (idle-free (threadAt k (s .caller)) (me .1), kept-fits p c s a w (rw e f) o t));
       }
     where
       thread : s .timeout ≢ 0 → s .caller ≢ nobody
       thread t n = t (eqb-true (s .timeout) immediate (rw (eq-eqb (s .caller) nobody n, e, x, b) at (a .context)))
 
   -- an operation that is no signal
-  tried : (h : Plant) → Tries z p h → [] ≡ calledFor p s → Acts z p s h
-  tried h t e = record { marks = t .marks; done = t .done }
+  tried : (h : Plant) → Tries z p h → Acts z p s h
+  tried h t = record { notes = t .notes; done = t .done }
 
   -- one that finishes the caller's call at once
-  at-once : (h : Plant) (ms : List Event) → Done z p h ms → callsOf ms ≡ calledFor p s → countIn (isSlept (s .caller)) ms ≡ 0
+  at-once : (h : Plant) (ms : List Note) → Done z p h ms → countIn (isSlept (s .caller)) ms ≡ 0
       → Acts z p s (finishedAtOnce h (s .caller))
   unfolding countIn
-  at-once h ms d e o =
+  at-once h ms d o =
       let i = s .caller in
       let x =
       finish-chained z (w .sizes) (h .kernel) i ok 0
       (stepper-caller z (h .kernel) i (stepper-kept z k (h .kernel) i ms (w .sizes) (w .kernel) (d .chained) o (stepper p c s a w))) in
       record {
-        marks = ms;
+        notes = ms;
         done = record {
           chained = rw (nil-right ms) at (after (d .chained) x);
           whole = kernel-done z h (finished (h .kernel) i ok 0) [] (d .whole) x (λ q l. refl) .whole;
@@ -93,14 +93,12 @@ module _ (p : Plant) (c : Clock) (s : Step) (a : Accepted p c s) (w : Whole (p .
       tried (postTried p (s .caller) (callOf s))
       (post-tries p w (s .caller) (callOf s)
       (tryer 15 is (inr (inr (inr (inr (inr (inl (omega arith, omega arith))))))) refl refl (rw is o)) (rw is o) (rw is) (rw is))
-      (rw is)
   post-acts m e (inr f) =
       let is = e ∙ f in
       let o = object-of p c s a w 16 is in
       tried (postTried p (s .caller) (callOf s))
       (post-tries p w (s .caller) (callOf s)
       (tryer 16 is (inr (inr (inr (inr (inr (inl (omega arith, omega arith))))))) refl refl (rw is o)) (rw is o) (rw is) (rw is))
-      (rw is)
 
   fetch-acts : s .kind ≡ 17 → Acts z p s (fetchTried p (s .caller) (callOf s))
   fetch-acts is =
@@ -108,32 +106,29 @@ module _ (p : Plant) (c : Clock) (s : Step) (a : Accepted p c s) (w : Whole (p .
       tried (fetchTried p (s .caller) (callOf s))
       (fetch-tries p w (s .caller) (callOf s)
       (tryer 17 is (inr (inr (inr (inr (inr (inl (omega arith, omega arith))))))) refl refl (rw is o)) (rw is o) (rw is) (rw is))
-      (rw is)
 
   alloc-acts : s .kind ≡ 20 → Acts z p s (allocTried p (s .caller) (callOf s))
   alloc-acts is =
       let o = object-of p c s a w 20 is in
       tried (allocTried p (s .caller) (callOf s))
       (alloc-tries p w (s .caller) (callOf s) (tryer 20 is (inr (inr (inr (inr (inr (inr refl)))))) refl refl (rw is o)) is (rw is o))
-      (rw is)
 
   -- "Free and add put the object on top and signal"
   put-in : (m : ℕ) → s .kind ≡ m → s .object < z .pools → s .a ≤ 31 → markAt (poolAt p (s .object)) (s .a % 256) ≢ free
-      → signalAt (poolPlace (s .object)) ∷ [] ≡ calledFor p s
       → Acts z p s (finishedAtOnce (putBack p (s .object) (s .a % 256)) (s .caller))
   unfolding countIn
-  put-in m e l v f y =
+  put-in m e l v f =
       at-once (putBack p (s .object) (s .a % 256)) (signalAt (poolPlace (s .object)) ∷ [])
-      (put-acts p w (s .object) l (s .a % 256) (omega arith) f) y refl
+      (put-acts p w (s .object) l (s .a % 256) (omega arith) f) refl
 
   -- 21: "free of an object not out" is refused; 22: "add of one not absent"
   puts : (s .kind ≡ 21) ⊎ (s .kind ≡ 22) → Acts z p s (finishedAtOnce (putBack p (s .object) (s .a % 256)) (s .caller))
   puts (inl e) =
       put-in 21 e (object-of p c s a w 21 e) (leb-true (s .a) 31 (rw e at (a .value)))
-      (λ f. absurd (omega (arith, eqb-true (markAt (poolAt p (s .object)) (s .a % 256)) out (rw e at (a .state)), f))) (rw e)
+      (λ f. absurd (omega (arith, eqb-true (markAt (poolAt p (s .object)) (s .a % 256)) out (rw e at (a .state)), f)))
   puts (inr e) =
       put-in 22 e (object-of p c s a w 22 e) (leb-true (s .a) 31 (rw e at (a .value)))
-      (λ f. absurd (omega (arith, eqb-true (markAt (poolAt p (s .object)) (s .a % 256)) absent (rw e at (a .state)), f))) (rw e)
+      (λ f. absurd (omega (arith, eqb-true (markAt (poolAt p (s .object)) (s .a % 256)) absent (rw e at (a .state)), f)))
 
   box-effects : 15 ≤ s .kind → eqb (s .kind) 15 ≡ false → eqb (s .kind) 16 ≡ false → eqb (s .kind) 17 ≡ false → eqb (s .kind) 20 ≡ false
       → Acts z p s (finishedAtOnce (boxEffected p s) (s .caller))
@@ -141,10 +136,10 @@ module _ (p : Plant) (c : Clock) (s : Step) (a : Accepted p c s) (w : Whole (p .
   box-effects l e15 e16 e17 e20 =
       chosen (λ (h : Plant). Acts z p s (finishedAtOnce h (s .caller))) (eqb (s .kind) 18)
       (λ e. let is = eqb-true (s .kind) 18 e in at-once (mailboxReset p (s .object)) []
-      (reset-acts p w (s .object) (object-of p c s a w 18 is)) (rw is) refl)
+      (reset-acts p w (s .object) (object-of p c s a w 18 is)) refl)
       (λ e18. chosen (λ (h : Plant). Acts z p s (finishedAtOnce h (s .caller))) (eqb (s .kind) 19)
       (λ e. let is = eqb-true (s .kind) 19 e in at-once (mailboxResumed p (s .object)) []
-      (resume-acts p w (s .object) (object-of p c s a w 19 is)) (rw is) refl)
+      (resume-acts p w (s .object) (object-of p c s a w 19 is)) refl)
       (λ e19. puts
       (two-left (s .kind) l (leb-true (s .kind) 22 (both-means (leb 1 (s .kind)) (leb (s .kind) 22) (a .kind) .1))
       (eqb-false (s .kind) 15 e15) (eqb-false (s .kind) 16 e16) (eqb-false (s .kind) 17 e17) (eqb-false (s .kind) 20 e20)

@@ -1,7 +1,7 @@
 -- Every operation on a mailbox or a pool is a chain of moves that leaves the tables whole: a step's, and a continued call's.
 use Prim.Native.Nat.{ℕ, _+_, _≤_, _<_}
 use native.Mathlib.Omega.{arith}
-use mathlib.Core.Path.{_≡_, refl, sym, ap, _∙_}
+use mathlib.Core.Path.{_≡_, refl, sym, ap, _∙_, subst}
 use mathlib.Core.Logic.{_≢_, inl, inr}
 use mathlib.Core.Bool.{true, false}
 use mathlib.Core.List.{List, [], _∷_}
@@ -51,15 +51,26 @@ use Rattle.promises.specs.Kept.PoolKept.{
   put-back-kept,
   put-back-pushed,
 }
-use Rattle.promises.specs.Kept.Story.{Event, signalAt, takeAt, sleepIn, endWith, countIn, CallSound, Again}
-use Rattle.promises.specs.Kept.Chain.{Chain, Sleeper, Sound, hands, stop, queued-unready}
+use Rattle.promises.specs.Kept.Rows.{CallSound}
+use Rattle.promises.specs.Kept.Chain.{
+  Sleeper,
+  Note,
+  sleepOf,
+  signalAt,
+  takeAt,
+  Move,
+  Chained,
+  one,
+  rested,
+  after,
+  countIn,
+  Sound,
+  queued-unready,
+}
 use Rattle.promises.specs.Kept.Owed.{isSignal, isTake}
 use Rattle.promises.specs.Kept.Moving.{
-  Chained,
   Caller,
   Free,
-  after,
-  rested,
   finish-chained,
   block-chained,
   take-chained,
@@ -69,22 +80,22 @@ use Rattle.promises.specs.Kept.Moving.{
 }
 use Rattle.promises.specs.Kept.Whole.{Whole, Done, InStep, done, kernel-done, whole-good}
 
--- marks that are neither tick nor signal, and take no pool anything
+-- notes that are no signal, and take no pool anything
 pub record Quiet (z : Sizes) (k h : Kernel) : Type 0 where
-  pub marks : List Event
-  pub chained : Chained z k h marks
-  pub takes : (q : ℕ) → countIn (isTake (poolPlace q)) marks ≡ 0
-  pub signals : (q : ℕ) → countIn (isSignal (poolPlace q)) marks ≡ 0
+  pub notes : List Note
+  pub chained : Chained z k h notes
+  pub takes : (q : ℕ) → countIn (isTake (poolPlace q)) notes ≡ 0
+  pub signals : (q : ℕ) → countIn (isSignal (poolPlace q)) notes ≡ 0
 
 -- what an operation that is no signal leaves
 pub record Tries (z : Sizes) (p h : Plant) : Type 0 where
-  pub marks : List Event
-  pub done : Done z p h marks
+  pub notes : List Note
+  pub done : Done z p h notes
 
--- who tries a call: its call may finish with any answer, and may sleep if it has a timeout
+-- who tries a call: it may finish, and may sleep if it has a timeout
 pub record Tryer (z : Sizes) (k : Kernel) (i : ℕ) (c : Call) : Type 0 where
   pub asks : Caller z k i
-  pub sleeps : c .timeout ≢ 0 → (i < z .threads) × (Free (threadAt k i) × (CallSound z c × Again (threadAt k i) c))
+  pub sleeps : c .timeout ≢ 0 → (i < z .threads) × (Free (threadAt k i) × CallSound z c)
 
 module _ (z : Sizes) (g : GoodSizes z) (k : Kernel) (s : Sound z k) where
   abbrev n : ℕ
@@ -93,7 +104,7 @@ module _ (z : Sizes) (g : GoodSizes z) (k : Kernel) (s : Sound z k) where
   -- nothing but wakings and finished calls
   silent : (h : Kernel) → Chained z k h [] → Quiet z k h
   unfolding countIn
-  silent h c = record { marks = []; chained = c; takes = λ q. refl; signals = λ q. refl }
+  silent h c = record { notes = []; chained = c; takes = λ q. refl; signals = λ q. refl }
 
   -- the sleep of a call on a place whose counter is not above 0
   enqueue-quiet : (i p : ℕ) (c : Call) → Tryer z k i c → queued ≡ waitState (c .kind) → p ≡ waitPlace (c .kind) (c .object)
@@ -103,7 +114,7 @@ module _ (z : Sizes) (g : GoodSizes z) (k : Kernel) (s : Sound z k) where
       let x = block-chained z g k i queued p c e f dozing (t .asks) in
       split (eqb (c .timeout) immediate)
       (λ b. silent _ (rw b at x))
-      (λ b. record { marks = sleepIn i c ∷ []; chained = rw b at x; takes = λ q. refl; signals = λ q. refl })
+      (λ b. record { notes = sleepOf i ∷ []; chained = rw b at x; takes = λ q. refl; signals = λ q. refl })
     where
       dozing : c .timeout ≢ 0 → Sleeper z k i c
       dozing d =
@@ -111,12 +122,11 @@ module _ (z : Sizes) (g : GoodSizes z) (k : Kernel) (s : Sound z k) where
           record {
             within = y .0;
             is-ready = y .1 .0 .is-ready;
-            fits = y .1 .1 .0;
+            fits = y .1 .1;
             counter = λ v. rw (sym f) level;
             holder = λ v. absurd (omega (arith, e, v));
             flags = λ v. absurd (omega (arith, e, v));
             unpromised = y .1 .0 .unpromised;
-            again = y .1 .1 .1;
           }
 
   -- a release of others leaves a ready thread as it was
@@ -171,7 +181,7 @@ module _ (p : Plant) (w : Whole (p .sizes) p) where
   g = w .sizes
 
   -- mailboxes kept, and a chain that touches no pool
-  boxes-done : (h : Plant) (ms : List Event) → MailboxesKept p h → Chained z k (h .kernel) ms
+  boxes-done : (h : Plant) (ms : List Note) → MailboxesKept p h → Chained z k (h .kernel) ms
       → ((q : ℕ) → countIn (isTake (poolPlace q)) ms ≡ 0) → ((q : ℕ) → countIn (isSignal (poolPlace q)) ms ≡ 0) → Done z p h ms
   boxes-done h ms m c a b =
       done z p h ms w c (m .sizes) (m .good) (m .boxes ∙ w .boxes) (λ b l. m .messages b ∙ w .messages b l)
@@ -184,7 +194,7 @@ module _ (p : Plant) (w : Whole (p .sizes) p) where
 
   boxes-tries : (h : Plant) → MailboxesKept p h → Quiet z k (h .kernel) → Tries z p h
   boxes-tries h m q =
-      record { marks = q .marks; done = boxes-done h (q .marks) m (q .chained) (q .takes) (q .signals) }
+      record { notes = q .notes; done = boxes-done h (q .notes) m (q .chained) (q .takes) (q .signals) }
 
   module _ (i : ℕ) (c : Call) (t : Tryer z k i c) (there : c .object < z .mailboxes) where
     post-quiet : queued ≡ waitState (c .kind) → writersPlace (c .object) ≡ waitPlace (c .kind) (c .object)
@@ -242,8 +252,8 @@ module _ (p : Plant) (w : Whole (p .sizes) p) where
       apart : o ≢ q → poolPlace o ≢ poolPlace q
       apart d = omega (arith, a, b, g .pools)
 
-  -- pools kept but for one, which is shorter or longer by what the marks say
-  pools-done : (h : Plant) (o : ℕ) (ms : List Event) → PoolsKept p h o → Chained z k (h .kernel) ms → InStep z p h ms → Done z p h ms
+  -- pools kept but for one, which is shorter or longer by what the notes say
+  pools-done : (h : Plant) (o : ℕ) (ms : List Note) → PoolsKept p h o → Chained z k (h .kernel) ms → InStep z p h ms → Done z p h ms
   pools-done h o ms m c l =
       done z p h ms w c (m .sizes) (λ b r. rw (m .mailboxes, m .sizes) (w .mailboxes b (rw (m .sizes) at r)))
       (ap length (m .mailboxes) ∙ w .boxes) (λ b r. rw (m .mailboxes) (w .messages b r)) (m .all) (m .pools ∙ w .rows) l
@@ -283,7 +293,7 @@ module _ (p : Plant) (w : Whole (p .sizes) p) where
     unfolding handedOver promisedCount
     hand-tries i l e f =
         record {
-          marks = takeAt (poolPlace o) ∷ [];
+          notes = takeAt (poolPlace o) ∷ [];
           done = pools-done (handedOver p i o) o (takeAt (poolPlace o) ∷ []) kept chain
               (took-step (handedOver p i o) o there kept (hand-over-popped p (w .pools) o there i some .fewer));
         }
@@ -301,15 +311,8 @@ module _ (p : Plant) (w : Whole (p .sizes) p) where
 
         chain : Chained z k (handedOver p i o .kernel) (takeAt (poolPlace o) ∷ [])
         chain =
-            record {
-              events = takeAt (poolPlace o) ∷ (endWith i ok (topOf (poolAt p o)) ∷ []);
-              chain = rw f at handing;
-              marks = refl;
-            }
-          where
-            handing : Chain z (finished k i ok (topOf (poolAt p o))) k
-                (takeAt (poolPlace (threadAt k i .call .object)) ∷ (endWith i ok (topOf (poolAt p o)) ∷ []))
-            handing = hands i (topOf (poolAt p o)) (record { within = l; promised = e }) stop
+            subst (λ (q : ℕ). Chained z k (finished k i ok (topOf (poolAt p o))) (takeAt (poolPlace q) ∷ [])) f
+            (one (Move.hands i (topOf (poolAt p o)) (record { within = l; promised = e })))
 
     -- "Free and add put the object on top and signal"
     pub put-acts : (x : ℕ) → x < 32 → markAt (poolAt p o) x ≢ free → Done z p (putBack p o x) (signalAt (poolPlace o) ∷ [])
@@ -332,7 +335,7 @@ module _ (p : Plant) (w : Whole (p .sizes) p) where
   alloc-tries i c t e there =
       split (ltZ (pos 0) (counterAt k at))
       (λ b. record {
-        marks = takeAt at ∷ [];
+        notes = takeAt at ∷ [];
         done = pools-done (allocTried p i c) (c .object) (takeAt at ∷ []) kept (above b)
             (took-step (allocTried p i c) (c .object) there kept (alloc-popped p i c (w .pools) there b (some b) .fewer));
       })
@@ -340,8 +343,8 @@ module _ (p : Plant) (w : Whole (p .sizes) p) where
       let x = enqueue-quiet z g k (w .kernel) i at c t (rw e) (rw e) b in
       rw (alloc-not-above p i c b)
       (record {
-        marks = x .marks;
-        done = kernel-done z p (enqueued k i at c) (x .marks) w (x .chained) (λ q l. x .takes q ∙ sym (x .signals q));
+        notes = x .notes;
+        done = kernel-done z p (enqueued k i at c) (x .notes) w (x .chained) (λ q l. x .takes q ∙ sym (x .signals q));
       }))
     where
       at : ℕ

@@ -1,11 +1,10 @@
 -- Whatever a step does, it does by a chain of moves: a thread is made ready, a thread goes to sleep, a tick passes, a signal comes, a call
 -- finishes, or something changes that concerns no wait. What each move keeps is proved here once; of a step only that it is a chain.
-use Prim.Native.Nat.{ℕ, zero, suc, _≤_, _<_}
-use native.Mathlib.Nat.{not-suc-le-zero}
+use Prim.Native.Nat.{ℕ, _+_, _≤_, _<_}
 use native.Mathlib.Omega.{arith}
-use mathlib.Core.Path.{_≡_, refl, sym, ap, _∙_}
-use mathlib.Core.Logic.{_≢_, inl, inr}
-use mathlib.Core.Bool.{true, false, cond, _&&_}
+use mathlib.Core.Path.{_≡_, refl, sym, ap, _∙_, subst}
+use mathlib.Core.Logic.{_≢_}
+use mathlib.Core.Bool.{Bool, true, false, _&&_}
 use mathlib.Core.List.{List, [], _∷_, _++_}
 use lib.Dec.{eqb}
 use lib.ListN.{length}
@@ -22,17 +21,17 @@ use Rattle.kernel.specs.Records.{begun, ended}
 use Rattle.kernel.specs.Counters.{up, down}
 use Rattle.kernel.specs.Places.{poolPlace, queuePlace, writersPlace, readersPlace}
 use Rattle.kernel.specs.Tables.{threadAt, counterAt, holderAt, withThread, withCounter, withAnswer}
-use Rattle.kernel.specs.Moves.{woken, slept, finished, awaitedBy}
+use Rattle.kernel.specs.Moves.{readied, asleep, answered, awaitedBy, woken, slept, finished}
+use Rattle.kernel.specs.Walk.{bit}
 use Rattle.kernel.specs.Waiters.{queuedAt}
 use Rattle.kernel.specs.Semaphore.{taken}
 use Rattle.kernel.specs.Event.{withPending}
 use Rattle.kernel.specs.Ticking.{ticked}
-use Rattle.kernel.proofs.Cases.{split, same-or, contrary, both-means}
+use Rattle.kernel.proofs.Cases.{same-or, both-means}
 use Rattle.kernel.proofs.WalkLaws.{Least, None, count-none}
 use Rattle.kernel.proofs.CountersLaws.{debt, debt-none, raised-none, lowered-none}
 use Rattle.kernel.proofs.TablesLaws.{
   Sized,
-  SameSizes,
   sized-kept,
   thread-sizes,
   counter-sizes,
@@ -62,7 +61,6 @@ use Rattle.rules.specs.RowRules.{callLimit, waitState, waitPlace}
 use Rattle.rules.specs.PlaceRules.{inUse}
 use Rattle.rules.specs.PoolRules.{isPromised}
 use Rattle.promises.specs.Together.Good.{CallKind, GoodSizes, GoodThread}
-use Rattle.promises.specs.Together.Tests.{same-means}
 use Rattle.promises.specs.Kept.Tallies.{
   Tallies,
   same-tallies,
@@ -85,32 +83,15 @@ use Rattle.promises.specs.Kept.Holds.{
   tick-holds,
 }
 use Rattle.promises.specs.Kept.CounterRule.{semaphore-place, pool-place, queue-place, writers-place, readers-place}
-use Rattle.promises.specs.Kept.Story.{
-  Event,
-  woke,
-  sleepIn,
-  endWith,
-  tick,
-  countOff,
-  signalAt,
-  takeAt,
-  endStep,
-  isOf,
+use Rattle.promises.specs.Kept.Rows.{
   CallSound,
-  Follows,
-  Again,
-  Because,
-  Story,
-  rests,
-  apart,
-  rouses,
-  dozes,
-  closes,
-  counts,
-  marks,
   each-kind,
-  story-then,
-  story-good,
+  readied-good,
+  asleep-good,
+  answered-good,
+  counted-good,
+  flags-good,
+  Idle,
 }
 
 -- who is queued is not ready
@@ -139,13 +120,11 @@ pub record Sleeper (z : Sizes) (k : Kernel) (i : ℕ) (c : Call) : Type 0 where
   pub flags : waitState (c .kind) ≡ awaiting → bitAnd (threadAt k i .pending) (awaitedBy c) ≡ 0
   -- and no object is promised to it
   pub unpromised : isPromised (threadAt k i) ≡ false
-  pub again : Again (threadAt k i) c
 
--- thread i's call may finish with m and d, and is no alloc with an object promised
-pub record Finisher (z : Sizes) (k : Kernel) (i : ℕ) (m : ℤ) (d : ℕ) : Type 0 where
+-- thread i's call may finish, and is no alloc with an object promised
+pub record Finisher (z : Sizes) (k : Kernel) (i : ℕ) : Type 0 where
   pub within : i < z .threads
   pub is-ready : threadAt k i .state ≡ ready
-  pub follows : Follows (threadAt k i) m d
   pub unpromised : isPromised (threadAt k i) ≡ false
 
 -- thread i's alloc, woken with 0, takes its object
@@ -159,180 +138,127 @@ pub record Setter (z : Sizes) (k : Kernel) (p : ℕ) (c : ℤ) : Type 0 where
   pub none : None (waits k p) (z .threads)
   pub value : ltZ c (pos 0) ≡ false
 
--- what a tick is to thread i: its last, or one counted off
-abbrev pub tickEvent : Kernel → ℕ → Event
-tickEvent k i = cond (eqb (threadAt k i .remaining) 1) (woke i timedOut) (countOff i)
+-- ---- moves
 
--- what a tick is to the first n threads, "in index order", before what comes after
-abbrev pub tickThen : Kernel → ℕ → List Event → List Event
-tickThen k zero es = es
-tickThen k (suc n) es = tickThen k n (tickEvent k n ∷ es)
+-- what others must know of a move: who went to sleep, at which place a signal came, where a unit was taken
+pub data Note : Type 0 where
+  sleepOf : ℕ → Note
+  signalAt : ℕ → Note
+  takeAt : ℕ → Note
 
--- from k to h, with all that happened on the way
-pub data Chain (z : Sizes) (h : Kernel) : Kernel → List Event → Type 0 where
-  stop : Chain z h h []
-  wakes : {k : Kernel} {es : List Event} (i : ℕ) (m : ℤ) → Waken z k i m → Chain z h (woken k i m) es → Chain z h k (woke i m ∷ es)
+-- one move of the kernel's tables, from k to h
+pub data Move (z : Sizes) (k : Kernel) : Kernel → List Note → Type 0 where
+  wakes : (i : ℕ) (m : ℤ) → Waken z k i m → Move z k (woken k i m) []
   -- a signal with waiters wakes the first
-  passes : {k : Kernel} {es : List Event} (p i : ℕ) → p < 20 → Least (waits k p) (z .threads) i → Chain z h (woken k i ok) es
-      → Chain z h k (signalAt p ∷ (woke i ok ∷ es))
+  passes : (p i : ℕ) → p < 20 → Least (waits k p) (z .threads) i → Move z k (woken k i ok) (signalAt p ∷ [])
   -- and without waiters raises the counter
-  raises : {k : Kernel} {es : List Event} (p : ℕ) → p < 20 → ltZ (counterAt k p) (pos 0) ≡ false
-      → ltZ (counterAt k p) (pos 2147483647) ≡ true → Chain z h (withCounter k p (up (counterAt k p))) es
-      → Chain z h k (signalAt p ∷ es)
-  ages : {k : Kernel} {es : List Event} → Chain z h (ticked k (z .threads)) es → Chain z h k (tick ∷ tickThen k (z .threads) es)
-  sleeps : {k : Kernel} {es : List Event} (i : ℕ) (c : Call) → Sleeper z k i c
-      → Chain z h (slept k i (waitState (c .kind)) (waitPlace (c .kind) (c .object)) c) es → Chain z h k (sleepIn i c ∷ es)
-  takes : {k : Kernel} {es : List Event} (p : ℕ) → p < 20 → ltZ (pos 0) (counterAt k p) ≡ true
-      → Chain z h (taken k p) es → Chain z h k (takeAt p ∷ es)
-  sets : {k : Kernel} {es : List Event} (p : ℕ) (c : ℤ) → Setter z k p c → Chain z h (withCounter k p c) es → Chain z h k es
-  finishes : {k : Kernel} {es : List Event} (i : ℕ) (m : ℤ) (d : ℕ) → Finisher z k i m d → Chain z h (finished k i m d) es
-      → Chain z h k (endWith i m d ∷ es)
-  hands : {k : Kernel} {es : List Event} (i d : ℕ) → Hander z k i → Chain z h (finished k i ok d) es
-      → Chain z h k (takeAt (poolPlace (threadAt k i .call .object)) ∷ (endWith i ok d ∷ es))
+  raises : (p : ℕ) → p < 20 → ltZ (counterAt k p) (pos 0) ≡ false → ltZ (counterAt k p) (pos 2147483647) ≡ true
+      → Move z k (withCounter k p (up (counterAt k p))) (signalAt p ∷ [])
+  ages : Move z k (ticked k (z .threads)) []
+  sleeps : (i : ℕ) (c : Call) → Sleeper z k i c → Move z k (slept k i (waitState (c .kind)) (waitPlace (c .kind) (c .object)) c) (sleepOf i ∷ [])
+  takes : (p : ℕ) → p < 20 → ltZ (pos 0) (counterAt k p) ≡ true → Move z k (taken k p) (takeAt p ∷ [])
+  sets : (p : ℕ) (c : ℤ) → Setter z k p c → Move z k (withCounter k p c) []
+  finishes : (i : ℕ) (m : ℤ) (d : ℕ) → Finisher z k i → Move z k (finished k i m d) []
+  hands : (i d : ℕ) → Hander z k i → Move z k (finished k i ok d) (takeAt (poolPlace (threadAt k i .call .object)) ∷ [])
   -- an interrupt's answer
-  answers : {k : Kernel} {es : List Event} (a : Answer) → Chain z h (withAnswer k a) es → Chain z h k es
+  answers : (a : Answer) → Move z k (withAnswer k a) []
   -- other pending flags, none of them awaited
-  flags : {k : Kernel} {es : List Event} (i f : ℕ) → (threadAt k i .state ≡ awaiting → bitAnd f (threadAt k i .awaited) ≡ 0)
-      → Chain z h (withThread k i (withPending (threadAt k i) f)) es → Chain z h k es
+  flags : (i f : ℕ) → (threadAt k i .state ≡ awaiting → bitAnd f (threadAt k i .awaited) ≡ 0)
+      → Move z k (withThread k i (withPending (threadAt k i) f)) []
   -- a step is over, and the next begins
-  begins : {k : Kernel} {es : List Event} → Chain z h (begun (ended k)) es → Chain z h k (endStep ∷ es)
+  begins : Move z k (begun (ended k)) []
 
--- what comes after a tick may come in two parts
-tick-append : (k : Kernel) (n : ℕ) (es fs : List Event) → tickThen k n es ++ fs ≡ tickThen k n (es ++ fs)
-tick-append k zero es fs = refl
-tick-append k (suc n) es fs = tick-append k n (tickEvent k n ∷ es) fs
+-- from k to h, move by move, with all notes on the way
+pub data Chain (z : Sizes) (h : Kernel) : Kernel → List Note → Type 0 where
+  stop : Chain z h h []
+  on : {k j : Kernel} {ms ns : List Note} → Move z k j ms → Chain z h j ns → Chain z h k (ms ++ ns)
+
+-- from k to h
+abbrev pub Chained : Sizes → Kernel → Kernel → List Note → Type 0
+Chained z k h ms = Chain z h k ms
+
+pub nil-right : (ms : List Note) → ms ++ [] ≡ ms
+nil-right [] = refl
+nil-right (m ∷ ms) = ap (λ (r : List Note). m ∷ r) (nil-right ms)
+
+notes-assoc : (a b c : List Note) → (a ++ b) ++ c ≡ a ++ (b ++ c)
+notes-assoc [] b c = refl
+notes-assoc (m ∷ a) b c = ap (λ (r : List Note). m ∷ r) (notes-assoc a b c)
+
+-- a single move
+pub one : {z : Sizes} {k h : Kernel} {ms : List Note} → Move z k h ms → Chain z h k ms
+one {z} {k} {h} {ms} m = subst (Chain z h k) (nil-right ms) (Chain.on m Chain.stop)
+
+-- nothing happens
+pub rested : {z : Sizes} {k : Kernel} → Chained z k k []
+rested = Chain.stop
 
 -- one chain after another
-pub chain-then : {z : Sizes} {g h k : Kernel} {es fs : List Event} → Chain z h k es → Chain z g h fs → Chain z g k (es ++ fs)
-chain-then stop d = d
-chain-then (wakes i m w c) d = wakes i m w (chain-then c d)
-chain-then (passes p i l f c) d = passes p i l f (chain-then c d)
-chain-then (raises p l e b c) d = raises p l e b (chain-then c d)
-chain-then {z} {fs = fs} (ages {k} {es = r} c) d = rw (tick-append k (z .threads) r fs) (ages (chain-then c d))
-chain-then (sleeps i a s c) d = sleeps i a s (chain-then c d)
-chain-then (takes p l e c) d = takes p l e (chain-then c d)
-chain-then (sets p v s c) d = sets p v s (chain-then c d)
-chain-then (finishes i m a f c) d = finishes i m a f (chain-then c d)
-chain-then (hands i a f c) d = hands i a f (chain-then c d)
-chain-then (answers a c) d = answers a (chain-then c d)
-chain-then (flags i f e c) d = flags i f e (chain-then c d)
-chain-then (begins c) d = begins (chain-then c d)
+pub after : {z : Sizes} {g h k : Kernel} {ms ns : List Note} → Chain z h k ms → Chain z g h ns → Chain z g k (ms ++ ns)
+after Chain.stop d = d
+after {z} {g} {h} {k} {ns = ns} (Chain.on {ms = a} {ns = b} m c) d =
+    subst (Chain z g k) (sym (notes-assoc a b ns)) (Chain.on m (after c d))
+
+-- how many notes pass a test
+unfoldable pub countIn : (Note → Bool) → List Note → ℕ
+countIn f [] = 0
+countIn f (m ∷ ms) = bit (f m) + countIn f ms
+
+pub count-append : (f : Note → Bool) (ms ns : List Note) → countIn f (ms ++ ns) ≡ countIn f ms + countIn f ns
+unfolding countIn
+count-append f [] ns = omega arith
+count-append f (m ∷ ms) ns = omega (arith, count-append f ms ns)
+
+abbrev pub isSlept : ℕ → Note → Bool
+isSlept i (sleepOf j) = eqb j i
+isSlept i (signalAt p) = false
+isSlept i (takeAt p) = false
 
 -- ---- lengths
 
 module _ (k : Kernel) where
-  take-sizes : (p : ℕ) → SameSizes k (taken k p)
-  unfolding taken
-  take-sizes p = counter-sizes k p (down (counterAt k p))
-
   -- the flags of a step begin anew
   begun-sized : Sized k → Sized (begun (ended k))
   begun-sized s = record { threads = s .threads; counters = s .counters; references = s .references; woken = refl; finished = refl }
 
--- ---- the story of one thread, in each move
-
-module _ {z : Sizes} {i : ℕ} where
-  -- a record that is as it was
-  still : {t u : Thread} → u ≡ t → Story z i u t []
-  still {t} {u} e = rw e rests
-
-  -- and somebody else's event
-  meanwhile : {t u : Thread} (e : Event) → isOf i e ≡ false → u ≡ t → Story z i u t (e ∷ [])
-  meanwhile e n s = apart e n (still s)
-
-  -- its own row and everybody else's, where j's is changed
-  own-or : {t u : Thread} {es : List Event} (j : ℕ) → (i ≡ j → Story z i u t es) → (i ≢ j → Story z i u t es) → Story z i u t es
-  own-or j = same-or i j
-
-  module _ (k : Kernel) (here : i < length (k .threads)) where
-    wake-story : (j : ℕ) (m : ℤ) → threadAt k j .state ≢ ready → Because (threadAt k j) m
-        → Story z i (threadAt (woken k j m) i) (threadAt k i) (woke j m ∷ [])
-    wake-story j m a b =
-        own-or j
-        (λ e. rw (sym e, wake-row k i m here) (rouses {t = threadAt k i} m (rw e a) (rw e b) rests))
-        (λ d. meanwhile (woke j m) (ne-eqb j i (λ s. d (sym s))) (wake-others k j m i d))
-
-    sleep-story : (j : ℕ) (c : Call) → z .threads ≤ 16 → Sleeper z k j c
-        → Story z i (threadAt (slept k j (waitState (c .kind)) (waitPlace (c .kind) (c .object)) c) i) (threadAt k i) (sleepIn j c ∷ [])
-    sleep-story j c few s =
-        own-or j
-        (λ e.
-        let low : i < 16 = omega (arith, s .within) in
-        rw (sym e, sleep-row k i (waitState (c .kind)) (waitPlace (c .kind) (c .object)) c low here)
-        (dozes {t = threadAt k i} c (rw e (s .is-ready)) (s .fits) (rw e (s .flags)) (rw e (s .again)) rests))
-        (λ d. meanwhile (sleepIn j c) (ne-eqb j i (λ s. d (sym s)))
-        (sleep-others k j (waitState (c .kind)) (waitPlace (c .kind) (c .object)) c i d))
-
-    finish-story : (j : ℕ) (m : ℤ) (d : ℕ) → j ≢ nobody → threadAt k j .state ≡ ready → Follows (threadAt k j) m d
-        → Story z i (threadAt (finished k j m d) i) (threadAt k i) (endWith j m d ∷ [])
-    finish-story j m d n r f =
-        own-or j
-        (λ e. rw (sym e, finish-row k i m d (rw e n) here) (closes {t = threadAt k i} m d (rw e r) (rw e f) rests))
-        (λ x. meanwhile (endWith j m d) (ne-eqb j i (λ s. x (sym s))) (finish-others k j m d i x))
-
-    flags-story : (j f : ℕ) → (threadAt k j .state ≡ awaiting → bitAnd f (threadAt k j .awaited) ≡ 0)
-        → Story z i (threadAt (withThread k j (withPending (threadAt k j) f)) i) (threadAt k i) []
-    flags-story j f a =
-        own-or j
-        (λ e. rw (sym e, thread-same k i (withPending (threadAt k i) f) here) (marks {t = threadAt k i} f (rw e a) rests))
-        (λ d. still (thread-other k j (withPending (threadAt k j) f) i d))
-
--- what a tick is to others is no event of i
-tick-apart : (k : Kernel) (i j : ℕ) → i ≢ j → isOf i (tickEvent k j) ≡ false
-tick-apart k i j d =
-    split (eqb (threadAt k j .remaining) 1) (λ e. rw e (ne-eqb j i (λ s. d (sym s)))) (λ e. rw e (ne-eqb j i (λ s. d (sym s))))
-
-module _ (z : Sizes) (i : ℕ) (u : Thread) (k : Kernel) where
-  -- the ticks of those before i
-  tick-before : (m : ℕ) (es : List Event) (t : Thread) → m ≤ i → Story z i u t es → Story z i u t (tickThen k m es)
-  tick-before zero es t h s = s
-  tick-before (suc m) es t h s =
-      tick-before m (tickEvent k m ∷ es) t (omega arith) (apart (tickEvent k m) (tick-apart k i m (omega arith)) s)
-
-  -- its own
-  tick-own : (t : Thread) (es : List Event) → (t .state ≡ ready → t .remaining ≡ 0) → Story z i u (aged t) es
-      → Story z i u t (cond (eqb (t .remaining) 1) (woke i timedOut) (countOff i) ∷ es)
-  tick-own t es a s =
-      same-or (t .remaining) 1
-      (λ e. rw (eq-eqb (t .remaining) 1 e)
-      (rouses timedOut (λ r. absurd (some (a r) e)) (λ p l q. inr (inl refl)) (rw (aged-last t e) at s)))
-      (λ d. rw (ne-eqb (t .remaining) 1 d) (counts d (rw (aged-counted t d) at s)))
-    where
-      some : t .remaining ≡ 0 → t .remaining ≡ 1 → ⊥
-      some e f = omega arith
-
-  -- the whole tick
-  tick-story : (m : ℕ) (es : List Event) → i < m → (threadAt k i .state ≡ ready → threadAt k i .remaining ≡ 0)
-      → Story z i u (aged (threadAt k i)) es → Story z i u (threadAt k i) (tickThen k m es)
-  tick-story zero es h a s = absurd (not-suc-le-zero h)
-  tick-story (suc m) es h a s =
-      same-or i m
-      (λ e. rw (sym e) (tick-before i (tickEvent k i ∷ es) (threadAt k i) (omega arith) (tick-own (threadAt k i) es a s)))
-      (λ d. tick-story m (tickEvent k m ∷ es) (omega arith) a (apart (tickEvent k m) (tick-apart k i m d) s))
-
--- a move of thread i's record, then the rest of its story
-onward : {z : Sizes} {i : ℕ} {u v t : Thread} {es fs : List Event} → Story z i v t es → GoodThread z t
-    → (GoodThread z v → Story z i u v fs)
-    → Story z i u t (es ++ fs)
-onward s g f = story-then s (f (story-good s g))
+-- ---- one thread's record, in each move
 
 promised-ready : (t : Thread) → isPromised t ≡ true → t .state ≡ ready
 promised-ready t e = eqb-true (t .state) ready (both-means (eqb (t .state) ready) (eqb (t .call .kind) 20 && same (t .message) ok) e .0)
 
-promised-follows : (t : Thread) (d : ℕ) → isPromised t ≡ true → Follows t ok d
-promised-follows t d e =
-    let x = both-means (eqb (t .state) ready) (eqb (t .call .kind) 20 && same (t .message) ok) e in
-    let y = both-means (eqb (t .call .kind) 20) (same (t .message) ok) (x .1) in
-    let k = eqb-true (t .call .kind) 20 (y .0) in
-    record {
-      others = λ n b. contrary (rw k) b;
-      no-datum = λ n b. contrary (rw k) b;
-      boxes = λ b n. absurd (n (same-means (t .message) ok (y .1)));
-    }
+-- what holds of record i after a move of record j: of the changed one if it is j's, else as before
+module _ (P : Thread → Type 0) (k : Kernel) (i : ℕ) (here : i < length (k .threads)) where
+  woken-row : (j : ℕ) (m : ℤ) → (i ≡ j → P (readied (threadAt k i) m)) → P (threadAt k i) → P (threadAt (woken k j m) i)
+  woken-row j m f g =
+      same-or i j (λ e. rw (sym e, wake-row k i m here) (f e)) (λ d. rw (wake-others k j m i d) g)
+
+  slept-row : (j s q : ℕ) (c : Call) → (i ≡ j → i < 16) → (i ≡ j → P (asleep (threadAt k i) s q c)) → P (threadAt k i)
+      → P (threadAt (slept k j s q c) i)
+  slept-row j s q c low f g =
+      same-or i j (λ e. rw (sym e, sleep-row k i s q c (low e) here) (f e)) (λ d. rw (sleep-others k j s q c i d) g)
+
+  finished-row : (j : ℕ) (m : ℤ) (d : ℕ) → j ≢ nobody → (i ≡ j → P (answered (threadAt k i) (record { message = m; datum = d })))
+      → P (threadAt k i) → P (threadAt (finished k j m d) i)
+  finished-row j m d n f g =
+      same-or i j (λ e. rw (sym e, finish-row k i m d (rw e n) here) (f e)) (λ x. rw (finish-others k j m d i x) g)
+
+  flagged-row : (j f : ℕ) → (i ≡ j → P (withPending (threadAt k i) f)) → P (threadAt k i)
+      → P (threadAt (withThread k j (withPending (threadAt k j) f)) i)
+  flagged-row j f h g =
+      same-or i j (λ e. rw (sym e, thread-same k i (withPending (threadAt k i) f) here) (h e))
+      (λ d. rw (thread-other k j (withPending (threadAt k j) f) i d) g)
+
+-- a tick's record
+aged-good : (z : Sizes) (t : Thread) → GoodThread z t → GoodThread z (aged t)
+aged-good z t g =
+    same-or (t .remaining) 1 (λ e. rw (aged-last t e) (readied-good z t timedOut g)) (λ d. rw (aged-counted t d) (counted-good z t d g))
 
 module _ (z : Sizes) (few : z .threads ≤ 16) (i : ℕ) (within : i < z .threads) where
   below : {k : Kernel} → Sized k → i < length (k .threads)
   below s = omega (arith, s .threads)
+
+  low : {j : ℕ} → i ≡ j → i < 16
+  low e = omega arith
 
   someone : {j : ℕ} → j < z .threads → j ≢ nobody
   someone h = omega arith
@@ -340,44 +266,53 @@ module _ (z : Sizes) (few : z .threads ≤ 16) (i : ℕ) (within : i < z .thread
   aging : (k : Kernel) → threadAt (ticked k (z .threads)) i ≡ aged (threadAt k i)
   aging k = tick-row k (z .threads) i (rw (used-all (z .threads) few) within)
 
-  aged-good : (k : Kernel) → GoodThread z (threadAt k i) → GoodThread z (aged (threadAt k i))
-  aged-good k g = story-good (tick-story z i (aged (threadAt k i)) k (z .threads) [] within (g .ready-ticks) rests) g
-
-  -- EVERY CHAIN IS, FOR EACH THREAD, A STORY
-  pub chain-story : {h k : Kernel} {es : List Event} → Chain z h k es → Sized k → GoodThread z (threadAt k i)
-      → Story z i (threadAt h i) (threadAt k i) es
+  -- A RECORD THAT HANGS TOGETHER STAYS SO
+  pub move-good : {k h : Kernel} {ms : List Note} → Move z k h ms → Sized k → GoodThread z (threadAt k i) → GoodThread z (threadAt h i)
   unfolding taken
-  chain-story stop s g = rests
-  chain-story (wakes {k} j m w c) s g =
-      onward (wake-story k (below s) j m (w .asleep) (λ p l q. inr (inr (w .cause p l q)))) g
-      (λ v. chain-story c (sized-kept (wake-sizes k j m) s) v)
-  chain-story (passes {k} p j l f c) s g =
-      apart (signalAt p) refl
-      (onward (wake-story k (below s) j ok (queued-unready p (threadAt k j) (f .passes)) (λ q l e. inl refl)) g
-      (λ v. chain-story c (sized-kept (wake-sizes k j ok) s) v))
-  chain-story (raises {k} p l e b c) s g =
-      apart (signalAt p) refl (chain-story c (sized-kept (counter-sizes k p (up (counterAt k p))) s) g)
-  chain-story {h} (ages {k} {es} c) s g =
-      apart tick refl
-      (tick-story z i (threadAt h i) k (z .threads) es within (g .ready-ticks)
-      (rw (aging k) at (chain-story c (sized-kept (tick-sizes k (z .threads)) s) (rw (aging k) (aged-good k g)))))
-  chain-story (sleeps {k} j a w c) s g =
-      onward (sleep-story k (below s) j a few w) g
-      (λ v. chain-story c (sized-kept (sleep-sizes k j (waitState (a .kind)) (waitPlace (a .kind) (a .object)) a) s) v)
-  chain-story (takes {k} p l e c) s g = apart (takeAt p) refl (chain-story c (sized-kept (take-sizes k p) s) g)
-  chain-story (sets {k} p v w c) s g = chain-story c (sized-kept (counter-sizes k p v) s) g
-  chain-story (finishes {k} j m d f c) s g =
-      onward (finish-story k (below s) j m d (someone (f .within)) (f .is-ready) (f .follows)) g
-      (λ v. chain-story c (sized-kept (finish-sizes k j m d) s) v)
-  chain-story (hands {k} j d f c) s g =
-      apart (takeAt (poolPlace (threadAt k j .call .object))) refl
-      (onward (finish-story k (below s) j ok d (someone (f .within)) (promised-ready (threadAt k j) (f .promised))
-      (promised-follows (threadAt k j) d (f .promised))) g
-      (λ v. chain-story c (sized-kept (finish-sizes k j ok d) s) v))
-  chain-story (answers {k} a c) s g = chain-story c (sized-kept (answer-sizes k a) s) g
-  chain-story (flags {k} j f e c) s g =
-      onward (flags-story k (below s) j f e) g (λ v. chain-story c (sized-kept (thread-sizes k j (withPending (threadAt k j) f)) s) v)
-  chain-story (begins {k} c) s g = apart endStep refl (chain-story c (begun-sized k s) g)
+  move-good {k} (Move.wakes j m w) s g = woken-row (GoodThread z) k i (below s) j m (λ e. readied-good z (threadAt k i) m g) g
+  move-good {k} (Move.passes p j l f) s g = woken-row (GoodThread z) k i (below s) j ok (λ e. readied-good z (threadAt k i) ok g) g
+  move-good (Move.raises p l e b) s g = g
+  move-good {k} Move.ages s g = rw (aging k) (aged-good z (threadAt k i) g)
+  move-good {k} (Move.sleeps j c w) s g =
+      slept-row (GoodThread z) k i (below s) j (waitState (c .kind)) (waitPlace (c .kind) (c .object)) c low
+      (λ e. asleep-good z (threadAt k i) c (w .fits) (rw e (w .flags))) g
+  move-good (Move.takes p l e) s g = g
+  move-good (Move.sets p c w) s g = g
+  move-good {k} (Move.finishes j m d f) s g =
+      finished-row (GoodThread z) k i (below s) j m d (someone (f .within))
+      (λ e. answered-good z (threadAt k i) m d (rw e (f .is-ready)) g) g
+  move-good {k} (Move.hands j d f) s g =
+      finished-row (GoodThread z) k i (below s) j ok d (someone (f .within))
+      (λ e. answered-good z (threadAt k i) ok d (rw e (promised-ready (threadAt k j) (f .promised))) g) g
+  move-good (Move.answers a) s g = g
+  move-good {k} (Move.flags j f e) s g = flagged-row (GoodThread z) k i (below s) j f (λ x. flags-good z (threadAt k i) f (rw x e) g) g
+  move-good Move.begins s g = g
+
+  -- WHO HAS NO CALL HAS NONE UNTIL IT SLEEPS IN ONE
+  pub move-idle : {k h : Kernel} {ms : List Note} → Move z k h ms → Sized k → GoodThread z (threadAt k i) → countIn (isSlept i) ms ≡ 0
+      → Idle (threadAt k i) → Idle (threadAt h i)
+  unfolding taken countIn
+  move-idle {k} (Move.wakes j m w) s g o a = woken-row Idle k i (below s) j m (λ e. absurd (w .asleep (rw (sym e) (a .is-ready)))) a
+  move-idle {k} (Move.passes p j l f) s g o a =
+      woken-row Idle k i (below s) j ok (λ e. absurd (queued-unready p (threadAt k j) (f .passes) (rw (sym e) (a .is-ready)))) a
+  move-idle (Move.raises p l e b) s g o a = a
+  move-idle {k} Move.ages s g o a =
+      rw (aging k)
+      (rw (aged-counted (threadAt k i) (λ e. omega (arith, e, g .ready-ticks (a .is-ready))))
+      (record { is-ready = a .is-ready; no-call = a .no-call }))
+  move-idle {k} (Move.sleeps j c w) s g o a =
+      slept-row Idle k i (below s) j (waitState (c .kind)) (waitPlace (c .kind) (c .object)) c low
+      (λ e. absurd (omega (arith, rw (sym e, eq-eqb i i refl) at o))) a
+  move-idle (Move.takes p l e) s g o a = a
+  move-idle (Move.sets p c w) s g o a = a
+  move-idle {k} (Move.finishes j m d f) s g o a =
+      finished-row Idle k i (below s) j m d (someone (f .within)) (λ e. record { is-ready = a .is-ready; no-call = refl }) a
+  move-idle {k} (Move.hands j d f) s g o a =
+      finished-row Idle k i (below s) j ok d (someone (f .within)) (λ e. record { is-ready = a .is-ready; no-call = refl }) a
+  move-idle (Move.answers b) s g o a = a
+  move-idle {k} (Move.flags j f e) s g o a =
+      flagged-row Idle k i (below s) j f (λ x. record { is-ready = a .is-ready; no-call = a .no-call }) a
+  move-idle Move.begins s g o a = a
 
 -- ---- the rules of places and references
 
@@ -532,30 +467,42 @@ module _ (z : Sizes) (g : GoodSizes z) where
   take-rules k p l e r = counter-rules k p (down (counterAt k p)) l (λ q. lowered-none k p q e) r
 
   -- THE RULES OF COUNTERS AND REFERENCES ARE KEPT
-  pub chain-rules : {h k : Kernel} {es : List Event} → Chain z h k es → Rules z k → Rules z h
-  chain-rules stop r = r
-  chain-rules (wakes {k} i m w c) r = chain-rules c (wake-rules k i m (w .within) r)
-  chain-rules (passes {k} p i l f c) r = chain-rules c (wake-rules k i ok (f .below) r)
-  chain-rules (raises {k} p l e b c) r = chain-rules c (counter-rules k p (up (counterAt k p)) l (λ q. raised-none k p q e) r)
-  chain-rules (ages {k} c) r = chain-rules c (tick-rules k r)
-  chain-rules (sleeps {k} i a s c) r = chain-rules c (sleep-rules k i a s r)
-  chain-rules (takes {k} p l e c) r = chain-rules c (take-rules k p l e r)
-  chain-rules (sets {k} p v s c) r = chain-rules c (set-rules k p v s r)
-  chain-rules (finishes {k} i m d f c) r = chain-rules c (finish-rules k i m d r)
-  chain-rules (hands {k} i d f c) r = chain-rules c (finish-rules k i ok d r)
-  chain-rules (answers {k} a c) r = chain-rules c (answer-rules k a r)
-  chain-rules (flags {k} i f e c) r = chain-rules c (flags-rules k i f r)
-  chain-rules (begins {k} c) r = chain-rules c (begin-rules k r)
+  pub move-rules : {k h : Kernel} {ms : List Note} → Move z k h ms → Rules z k → Rules z h
+  move-rules {k} (Move.wakes i m w) r = wake-rules k i m (w .within) r
+  move-rules {k} (Move.passes p i l f) r = wake-rules k i ok (f .below) r
+  move-rules {k} (Move.raises p l e b) r = counter-rules k p (up (counterAt k p)) l (λ q. raised-none k p q e) r
+  move-rules {k} Move.ages r = tick-rules k r
+  move-rules {k} (Move.sleeps i c w) r = sleep-rules k i c w r
+  move-rules {k} (Move.takes p l e) r = take-rules k p l e r
+  move-rules {k} (Move.sets p c w) r = set-rules k p c w r
+  move-rules {k} (Move.finishes i m d f) r = finish-rules k i m d r
+  move-rules {k} (Move.hands i d f) r = finish-rules k i ok d r
+  move-rules {k} (Move.answers a) r = answer-rules k a r
+  move-rules {k} (Move.flags i f e) r = flags-rules k i f r
+  move-rules {k} Move.begins r = begin-rules k r
 
 -- all rules of the kernel's tables
 pub record Sound (z : Sizes) (k : Kernel) : Type 0 where
   pub rules : Rules z k
   pub rows : (i : ℕ) → i < z .threads → GoodThread z (threadAt k i)
 
--- A CHAIN KEEPS ALL RULES OF THE KERNEL'S TABLES
-pub chain-sound : (z : Sizes) → GoodSizes z → {h k : Kernel} {es : List Event} → Chain z h k es → Sound z k → Sound z h
-chain-sound z g c s =
-    record {
-      rules = chain-rules z g c (s .rules);
-      rows = λ i l. story-good (chain-story z (g .threads .1) i l c (s .rules .sized) (s .rows i l)) (s .rows i l);
-    }
+module _ (z : Sizes) (g : GoodSizes z) where
+  -- A MOVE KEEPS ALL RULES OF THE KERNEL'S TABLES, and so does a chain
+  pub move-sound : {k h : Kernel} {ms : List Note} → Move z k h ms → Sound z k → Sound z h
+  move-sound m s =
+      record {
+        rules = move-rules z g m (s .rules);
+        rows = λ i l. move-good z (g .threads .1) i l m (s .rules .sized) (s .rows i l);
+      }
+
+  pub chain-sound : {h k : Kernel} {ms : List Note} → Chain z h k ms → Sound z k → Sound z h
+  chain-sound Chain.stop s = s
+  chain-sound (Chain.on m c) s = chain-sound c (move-sound m s)
+
+  pub chain-idle : (i : ℕ) → i < z .threads → {h k : Kernel} {ms : List Note} → Chain z h k ms → Sound z k → countIn (isSlept i) ms ≡ 0
+      → Idle (threadAt k i) → Idle (threadAt h i)
+  chain-idle i l Chain.stop s o a = a
+  chain-idle i l (Chain.on {ms = ms} {ns = ns} m c) s o a =
+      let e = count-append (isSlept i) ms ns in
+      chain-idle i l c (move-sound m s) (omega (arith, o, e))
+      (move-idle z (g .threads .1) i l m (s .rules .sized) (s .rows i l) (omega (arith, o, e)) a)

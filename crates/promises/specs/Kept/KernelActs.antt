@@ -1,10 +1,10 @@
 -- Every accepted step of kinds 1 to 14 is a chain of moves that leaves the tables whole.
 use Prim.Native.Nat.{ℕ, suc, _≤_, _<_}
 use native.Mathlib.Omega.{arith}
-use mathlib.Core.Path.{_≡_, refl, sym, ap, _∙_}
+use mathlib.Core.Path.{_≡_, refl, sym, _∙_}
 use mathlib.Core.Logic.{_≢_, inl, inr}
 use mathlib.Core.Bool.{Bool, true, false, cond, _||_}
-use mathlib.Core.List.{List, [], _∷_, _++_}
+use mathlib.Core.List.{List, [], _∷_}
 use lib.Dec.{eqb, leb, ltb}
 use lib.Bits.{bitAnd}
 use lib.IntN.{pos}
@@ -23,6 +23,7 @@ use Rattle.kernel.specs.Moves.{slept, finished, awaitedBy}
 use Rattle.kernel.specs.Waiters.{firstReady}
 use Rattle.kernel.specs.Queue.{enqueued, releasedFirst, releasedAll}
 use Rattle.kernel.specs.Semaphore.{waited, signalled, resetTo}
+use Rattle.kernel.specs.Ticking.{ticked}
 use Rattle.kernel.specs.Event.{eventSignalled, eventWaited}
 use Rattle.kernel.specs.Reference.{suspendedOn, resumed}
 use Rattle.kernel.specs.Delay.{sleptFor, sleptUntil}
@@ -45,27 +46,11 @@ use Rattle.promises.specs.Together.Hanging.{test-hangs}
 use Rattle.promises.specs.Kept.Tallies.{Tallies}
 use Rattle.promises.specs.Kept.CounterRule.{semaphore-place, queue-place}
 use Rattle.promises.specs.Kept.Accepting.{Accepted, waits-thread}
-use Rattle.promises.specs.Kept.Story.{
-  Event,
-  tick,
-  signalAt,
-  takeAt,
-  sleepIn,
-  woke,
-  endWith,
-  countOff,
-  endStep,
-  countIn,
-  isSlept,
-  Idle,
-  CallSound,
-}
-use Rattle.promises.specs.Kept.Chain.{Sleeper}
+use Rattle.promises.specs.Kept.Rows.{Idle, CallSound}
+use Rattle.promises.specs.Kept.Chain.{Sleeper, Note, sleepOf, signalAt, takeAt, Chained, after, nil-right, countIn, isSlept}
 use Rattle.promises.specs.Kept.Owed.{isSignal, isTake}
 use Rattle.promises.specs.Kept.Moving.{
-  Chained,
   Caller,
-  after,
   finish-chained,
   tick-chained,
   sleep-chained,
@@ -82,50 +67,22 @@ use Rattle.promises.specs.Kept.Moving.{
 }
 use Rattle.promises.specs.Kept.Whole.{Whole, Done, kernel-done, Stepper, idle-free, stepper-caller, stepper-kept}
 
--- the ticks, signals and ends of steps among marks, before what comes after
-abbrev pub callThen : Event → List Event → List Event
-callThen (woke i m) r = r
-callThen (sleepIn i c) r = r
-callThen (endWith i m d) r = r
-callThen tick r = tick ∷ r
-callThen (countOff i) r = r
-callThen (signalAt p) r = signalAt p ∷ r
-callThen (takeAt p) r = r
-callThen endStep r = endStep ∷ r
-
-abbrev pub callsOf : List Event → List Event
-callsOf [] = []
-callsOf (e ∷ es) = callThen e (callsOf es)
-
--- the tick or the signal that an accepted step is: "Binary signals that act count as signals", and a pool's free and add signal
-abbrev pub calledFor : Plant → Step → List Event
-calledFor p s =
-    cond (eqb (s .kind) 1) (tick ∷ [])
-    (cond (eqb (s .kind) 3) (signalAt (s .object) ∷ [])
-    (cond (eqb (s .kind) 5) (cond (ltZ (counterAt (p .kernel) (s .object)) (pos 1)) (signalAt (s .object) ∷ []) [])
-    (cond (eqb (s .kind) 21) (signalAt (poolPlace (s .object)) ∷ [])
-    (cond (eqb (s .kind) 22) (signalAt (poolPlace (s .object)) ∷ []) []))))
-
 -- what an accepted step does before settling
 pub record Acts (z : Sizes) (p : Plant) (s : Step) (h : Plant) : Type 0 where
-  pub marks : List Event
-  pub done : Done z p h marks
+  pub notes : List Note
+  pub done : Done z p h notes
 
--- the same of the kernel's tables: marks that put nobody but a caller to sleep, and touch no pool
+-- the same of the kernel's tables: notes that put nobody but a caller to sleep, and touch no pool
 pub record KernelActs (z : Sizes) (p : Plant) (s : Step) (k : Kernel) : Type 0 where
-  pub marks : List Event
-  pub chained : Chained z (p .kernel) k marks
-  pub takes : (q : ℕ) → countIn (isTake (poolPlace q)) marks ≡ 0
-  pub signals : (q : ℕ) → countIn (isSignal (poolPlace q)) marks ≡ 0
+  pub notes : List Note
+  pub chained : Chained z (p .kernel) k notes
+  pub takes : (q : ℕ) → countIn (isTake (poolPlace q)) notes ≡ 0
+  pub signals : (q : ℕ) → countIn (isSignal (poolPlace q)) notes ≡ 0
 
 -- .. and nobody at all
 pub record Effects (z : Sizes) (p : Plant) (s : Step) (k : Kernel) : Type 0 where
   pub acts : KernelActs z p s k
-  pub awake : (i : ℕ) → countIn (isSlept i) (acts .marks) ≡ 0
-
-pub nil-right : (l : List Event) → l ++ [] ≡ l
-nil-right [] = refl
-nil-right (e ∷ l) = ap (λ (r : List Event). e ∷ r) (nil-right l)
+  pub awake : (i : ℕ) → countIn (isSlept i) (acts .notes) ≡ 0
 
 -- a semaphore is no pool
 no-pool : (o q : ℕ) → o < 16 → eqb o (poolPlace q) ≡ false
@@ -206,23 +163,22 @@ module _ (p : Plant) (c : Clock) (s : Step) (a : Accepted p c s) (w : Whole (p .
   -- ---- 1, 3, 4, 5, 7, 8, 10, 13
 
   -- nothing but wakings
-  plainly : (h : Kernel) → Chained z k h [] → [] ≡ calledFor p s → Effects z p s h
+  plainly : (h : Kernel) → Chained z k h [] → Effects z p s h
   unfolding countIn
-  plainly h x e =
+  plainly h x =
       record {
-        acts = record { marks = []; chained = x; takes = λ q. refl; signals = λ q. refl };
+        acts = record { notes = []; chained = x; takes = λ q. refl; signals = λ q. refl };
         awake = λ i. refl;
       }
 
   -- a signal at a semaphore
-  signalling : (h : Kernel) → s .object < 16 → Chained z k h (signalAt (s .object) ∷ []) → signalAt (s .object) ∷ [] ≡ calledFor p s
-      → Effects z p s h
+  signalling : (h : Kernel) → s .object < 16 → Chained z k h (signalAt (s .object) ∷ []) → Effects z p s h
   unfolding countIn
-  signalling h l x e =
+  signalling h l x =
       record {
         acts =
             record {
-              marks =
+              notes =
                   signalAt (s .object) ∷ [];
               chained = x;
               takes = λ q. refl;
@@ -244,7 +200,7 @@ module _ (p : Plant) (c : Clock) (s : Step) (a : Accepted p c s) (w : Whole (p .
   signal-acts e =
       let l = object-of 3 e in
       signalling (signalled k n (s .object)) (low l)
-      (signal-chained z g k (s .object) (omega (arith, low l)) (tally l) (rw e at (a .state))) (rw e)
+      (signal-chained z g k (s .object) (omega (arith, low l)) (tally l) (rw e at (a .state)))
 
   -- 5
   binary-acts : s .kind ≡ 5 → Effects z p s (binarySignalled k n (s .object))
@@ -252,8 +208,8 @@ module _ (p : Plant) (c : Clock) (s : Step) (a : Accepted p c s) (w : Whole (p .
       let l = object-of 5 e in
       let x = binary-chained z g k (s .object) (omega (arith, low l)) (tally l) in
       split (ltZ (counterAt k (s .object)) (pos 1))
-      (λ b. signalling (binarySignalled k n (s .object)) (low l) (rw b at x) (rw (e, b)))
-      (λ b. plainly (binarySignalled k n (s .object)) (rw b at x) (rw (e, b)))
+      (λ b. signalling (binarySignalled k n (s .object)) (low l) (rw b at x))
+      (λ b. plainly (binarySignalled k n (s .object)) (rw b at x))
 
   -- 4: "reset above 2147483647" is refused
   reset-acts : s .kind ≡ 4 → Effects z p s (resetTo k n (s .object) (messageOf s))
@@ -261,7 +217,6 @@ module _ (p : Plant) (c : Clock) (s : Step) (a : Accepted p c s) (w : Whole (p .
       plainly (resetTo k n (s .object) (messageOf s))
       (reset-chained z g k (s .object) (messageOf s) (low (object-of 4 e))
       (not-negative (s .a) (leb-true (s .a) 2147483647 (rw e at (a .value)))))
-      (rw e)
 
   far : (o : ℕ) → queuePlace o < 20 → ⊥
   far o h = omega arith
@@ -277,32 +232,21 @@ module _ (p : Plant) (c : Clock) (s : Step) (a : Accepted p c s) (w : Whole (p .
       (both-means (eqb (threadAt k (holderAt k (s .object)) .state) suspended)
       (eqb (threadAt k (holderAt k (s .object)) .place) (s .object))
       (sym (r .holds (holderAt k (s .object)) (r .within d)) ∙ eq-eqb (holderAt k (s .object)) (holderAt k (s .object)) refl) .0)))
-      (rw e)
 
   effect : s .kind ≤ 14 → kernelWaits (s .kind) ≡ false → Effects z p s (effected k n s)
   unfolding effected countIn
   effect h x =
       chosen (Effects z p s) (eqb (s .kind) 1)
-      (λ e. record {
-        acts = record {
-          marks = tick ∷ [];
-          chained = tick-chained z g k;
-          takes = λ q. refl;
-          signals = λ q. refl;
-        };
-        awake = λ i. refl;
-      })
+      (λ e. plainly (ticked k n) (tick-chained z g k))
       (λ e1. chosen (Effects z p s) (eqb (s .kind) 3) (λ e. signal-acts (eqb-true (s .kind) 3 e))
       (λ e3. chosen (Effects z p s) (eqb (s .kind) 4) (λ e. reset-acts (eqb-true (s .kind) 4 e))
       (λ e4. chosen (Effects z p s) (eqb (s .kind) 5) (λ e. binary-acts (eqb-true (s .kind) 5 e))
       (λ e5. chosen (Effects z p s) (eqb (s .kind) 7)
       (λ e. plainly (releasedFirst k n (queuePlace (s .object)) (messageOf s))
-      (release-first-chained z g k (w .kernel .rules .sized) (queuePlace (s .object)) (messageOf s) (λ l. absurd (far (s .object) l)))
-      (rw (eqb-true (s .kind) 7 e)))
+      (release-first-chained z g k (w .kernel .rules .sized) (queuePlace (s .object)) (messageOf s) (λ l. absurd (far (s .object) l))))
       (λ e7. chosen (Effects z p s) (eqb (s .kind) 8)
       (λ e. plainly (releasedAll k n (queuePlace (s .object)) (messageOf s))
-      (release-all-chained z g k (queuePlace (s .object)) (messageOf s) (λ l. absurd (far (s .object) l)))
-      (rw (eqb-true (s .kind) 8 e)))
+      (release-all-chained z g k (queuePlace (s .object)) (messageOf s) (λ l. absurd (far (s .object) l))))
       (λ e8. chosen (Effects z p s) (eqb (s .kind) 10) (λ e. resume-acts (eqb-true (s .kind) 10 e))
       (λ e10.
       let is =
@@ -311,16 +255,15 @@ module _ (p : Plant) (c : Clock) (s : Step) (a : Accepted p c s) (w : Whole (p .
       (eqb-false (s .kind) 7 e7) (eqb-false (s .kind) 8 e8) (eqb-false (s .kind) 10 e10) in
       let l = object-of 13 is in
       plainly (eventSignalled k (s .object) (s .a))
-      (event-signal-chained z g k (s .object) (s .a) (w .kernel .rules .sized) l (w .kernel .rows (s .object) l)) (rw is))))))))
+      (event-signal-chained z g k (s .object) (s .a) (w .kernel .rules .sized) l (w .kernel .rows (s .object) l)))))))))
 
   -- ---- 2, 6, 9, 11, 12, 14
 
   -- a call that sleeps, or is answered at once
-  waiting : (h : Kernel) (i : ℕ) (call : Call) (b : Bool) → Chained z k h (cond b [] (sleepIn i call ∷ [])) → [] ≡ calledFor p s
-      → KernelActs z p s h
+  waiting : (h : Kernel) (i : ℕ) (b : Bool) → Chained z k h (cond b [] (sleepOf i ∷ [])) → KernelActs z p s h
   unfolding countIn
-  waiting h i call true x e = record { marks = []; chained = x; takes = λ q. refl; signals = λ q. refl }
-  waiting h i call false x e = record { marks = sleepIn i call ∷ []; chained = x; takes = λ q. refl; signals = λ q. refl }
+  waiting h i true x = record { notes = []; chained = x; takes = λ q. refl; signals = λ q. refl }
+  waiting h i false x = record { notes = sleepOf i ∷ []; chained = x; takes = λ q. refl; signals = λ q. refl }
 
   -- the call that a step keeps fits
   pub kept-fits : CallKind (s .kind) → objectOf s < callLimit z (s .kind) → s .timeout ≢ 0 → CallSound z (callOf s)
@@ -354,7 +297,6 @@ module _ (p : Plant) (c : Clock) (s : Step) (a : Accepted p c s) (w : Whole (p .
           holder = r;
           flags = e;
           unpromised = idle-free (threadAt k (s .caller)) idle .unpromised;
-          again = λ d. absurd (d (idle .no-call));
         }
 
     wait-acts : s .kind ≡ 2 → KernelActs z p s (waited k (s .caller) (s .object) (callOf s))
@@ -367,13 +309,12 @@ module _ (p : Plant) (c : Clock) (s : Step) (a : Accepted p c s) (w : Whole (p .
         asks in
         split (ltZ (pos 0) (counterAt k (s .object)))
         (λ b. record {
-          marks = takeAt (s .object) ∷ [];
+          notes = takeAt (s .object) ∷ [];
           chained = rw b at x;
           takes = λ q. unfold countIn in rw (no-pool (s .object) q (low l));
           signals = λ q. unfold countIn in refl;
         })
-        (λ b. waiting (waited k (s .caller) (s .object) (callOf s)) (s .caller) (callOf s) (eqb (s .timeout) immediate) (rw b at x)
-        (rw e))
+        (λ b. waiting (waited k (s .caller) (s .object) (callOf s)) (s .caller) (eqb (s .timeout) immediate) (rw b at x))
 
     queue-acts : s .kind ≡ 6 → KernelActs z p s (enqueued k (s .caller) (queuePlace (s .object)) (callOf s))
     unfolding enqueued
@@ -381,12 +322,11 @@ module _ (p : Plant) (c : Clock) (s : Step) (a : Accepted p c s) (w : Whole (p .
         let l = object-of 6 e in
         let x = queue-place k z g (s .object) l (queuePlace (s .object)) refl in
         let level = w .kernel .rules .places (queuePlace (s .object)) (omega (arith, x .1 .0)) (x .1 .1) .level (x .0) in
-        waiting _ (s .caller) (callOf s) (eqb (s .timeout) immediate)
+        waiting _ (s .caller) (eqb (s .timeout) immediate)
         (block-chained z g k (s .caller) queued (queuePlace (s .object)) (callOf s) (rw e) (rw e)
         (λ t. sleeper-in (callOf s) (kept-fits (inr (inl e)) (rw e l) t) (λ v. rw e level) (λ v. absurd (omega (arith, rw e at v)))
         (λ v. absurd (omega (arith, rw e at v))))
         asks)
-        (rw e)
 
     -- 9: "suspend on a held reference" is refused
     suspend-acts : s .kind ≡ 9 → KernelActs z p s (suspendedOn k (s .caller) (s .object) (callOf s))
@@ -394,26 +334,23 @@ module _ (p : Plant) (c : Clock) (s : Step) (a : Accepted p c s) (w : Whole (p .
     suspend-acts e =
         let l = object-of 9 e in
         let empty = eqb-true (holderAt k (s .object)) nobody (rw e at (a .state)) in
-        waiting _ (s .caller) (callOf s) (eqb (s .timeout) immediate)
+        waiting _ (s .caller) (eqb (s .timeout) immediate)
         (block-chained z g k (s .caller) suspended (s .object) (callOf s) (rw e) (rw e)
         (λ t. sleeper-in (callOf s) (kept-fits (inr (inr (inl e))) (rw e l) t) (λ v. absurd (omega (arith, rw e at v)))
         (λ v. rw e empty) (λ v. absurd (omega (arith, rw e at v))))
         asks)
-        (rw e)
 
     -- 11 and 12: "sleep, for or until, of 0 or 4294967295 ticks" is refused
     span : (t : ℕ) → isSpan t ≡ true → 1 ≤ t
     span t e = leb-true 1 t (both-means (leb 1 t) (ltb t infinite) e .0)
 
     nap-acts : (call : Call) → CallSound z call → waitState (call .kind) ≡ sleeping → waitPlace (call .kind) (call .object) ≡ nowhere
-        → [] ≡ calledFor p s
         → KernelActs z p s (slept k (s .caller) sleeping nowhere call)
-    nap-acts call f st pl e =
-        waiting _ (s .caller) call false
+    nap-acts call f st pl =
+        waiting _ (s .caller) false
         (sleep-chained z g k (s .caller) sleeping nowhere call (sym st) (sym pl)
         (sleeper-in call f (λ v. absurd (omega (arith, st ∙ refl, v))) (λ v. absurd (omega (arith, st, v)))
         (λ v. absurd (omega (arith, st, v)))))
-        e
 
     sleep-for-acts : s .kind ≡ 11 → KernelActs z p s (sleptFor k (s .caller) (record { 0 = s .timeout }))
     unfolding sleptFor
@@ -426,7 +363,7 @@ module _ (p : Plant) (c : Clock) (s : Step) (a : Accepted p c s) (w : Whole (p .
               (rw e at (a .value));
           operand = λ v. refl;
         })
-        refl refl (rw e)
+        refl refl
 
     sleep-until-acts : s .kind ≡ 12 → KernelActs z p s (sleptUntil k (s .caller) (c .time) (record { 0 = s .a }))
     unfolding sleptUntil
@@ -438,7 +375,7 @@ module _ (p : Plant) (c : Clock) (s : Step) (a : Accepted p c s) (w : Whole (p .
           timeout = span (differed (c .time) (record { 0 = s .a }) .0) (rw e at (a .value));
           operand = λ v. contrary refl v;
         })
-        refl refl (rw e)
+        refl refl
 
     event-acts : s .kind ≡ 14 → KernelActs z p s (eventWaited k (s .caller) (callOf s))
     event-acts e =
@@ -448,8 +385,8 @@ module _ (p : Plant) (c : Clock) (s : Step) (a : Accepted p c s) (w : Whole (p .
         (kept-fits (inr (inr (inr (inr (inr (inl (rw e (omega arith, omega arith)))))))) (rw e (omega arith)) t)
         (λ v. absurd (omega (arith, rw e at v))) (λ v. absurd (omega (arith, rw e at v))) (λ v. rw e (rw e at b))) in
         split (eqb (bitAnd (threadAt k (s .caller) .pending) (operandOf s)) 0)
-        (λ b. waiting _ (s .caller) (callOf s) (eqb (s .timeout) immediate) (rw b at x) (rw e))
-        (λ b. waiting _ (s .caller) (callOf s) true (rw b at x) (rw e))
+        (λ b. waiting _ (s .caller) (eqb (s .timeout) immediate) (rw b at x))
+        (λ b. waiting _ (s .caller) true (rw b at x))
 
     wait-begun : kernelWaits (s .kind) ≡ true → KernelActs z p s (waitBegun k (c .time) s)
     unfolding waitBegun
@@ -464,10 +401,10 @@ module _ (p : Plant) (c : Clock) (s : Step) (a : Accepted p c s) (w : Whole (p .
   -- "A thread's call that doesn't sleep finishes at once"
   at-once : (h : Kernel) → Effects z p s h → KernelActs z p s (finished h (s .caller) ok 0)
   at-once h x =
-      let m = x .acts .marks in
+      let m = x .acts .notes in
       let i = s .caller in
       record {
-        marks = m;
+        notes = m;
         chained = rw (nil-right m) at
             (after (x .acts .chained)
             (finish-chained z g h i ok 0
@@ -484,6 +421,6 @@ module _ (p : Plant) (c : Clock) (s : Step) (a : Accepted p c s) (w : Whole (p .
       chosen (KernelActs z p s) (kernelWaits (s .kind)) (λ v. wait-begun (waits-thread p c s a v) v)
       (λ v. at-once (effected k n s) (effect h v)) in
       record {
-        marks = x .marks;
-        done = kernel-done z p (actedOnKernel k n (c .time) s) (x .marks) w (x .chained) (λ q there. x .takes q ∙ sym (x .signals q));
+        notes = x .notes;
+        done = kernel-done z p (actedOnKernel k n (c .time) s) (x .notes) w (x .chained) (λ q there. x .takes q ∙ sym (x .signals q));
       }

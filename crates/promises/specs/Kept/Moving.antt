@@ -1,12 +1,11 @@
 -- Every operation of the kernel part is a chain of moves. With each stands what it is called for: its tick, its signal, the unit that it
 -- takes, the sleep that it begins; wakings, ticks counted off and finished calls follow from these.
-use Prim.Native.Nat.{ℕ, zero, suc, _-_, _<_}
-use native.Mathlib.Nat.{zero-add}
+use Prim.Native.Nat.{ℕ, _-_, _<_}
 use native.Mathlib.Omega.{arith}
 use mathlib.Core.Path.{_≡_, refl, sym, ap, _∙_}
 use mathlib.Core.Logic.{_≢_, _⊎_, inl, inr}
-use mathlib.Core.Bool.{Bool, true, false, cond}
-use mathlib.Core.List.{List, [], _∷_, _++_}
+use mathlib.Core.Bool.{true, false, cond}
+use mathlib.Core.List.{List, [], _∷_}
 use lib.Dec.{eqb}
 use lib.ListN.{length, set}
 use lib.Seq.{set-set}
@@ -38,114 +37,12 @@ use Rattle.rules.specs.RowRules.{waitState, waitPlace}
 use Rattle.rules.specs.PoolRules.{isPromised}
 use Rattle.promises.specs.Together.Good.{GoodSizes, GoodThread, CallKind}
 use Rattle.promises.specs.Kept.Tallies.{Tallies}
-use Rattle.promises.specs.Kept.Story.{
-  Event,
-  woke,
-  sleepIn,
-  endWith,
-  tick,
-  countOff,
-  signalAt,
-  takeAt,
-  endStep,
-  countIn,
-  Follows,
-  each-kind,
-}
-use Rattle.promises.specs.Kept.Chain.{
-  Waken,
-  Sleeper,
-  Chain,
-  stop,
-  wakes,
-  passes,
-  raises,
-  ages,
-  sleeps,
-  takes,
-  sets,
-  finishes,
-  answers,
-  flags,
-  tickEvent,
-  tickThen,
-  chain-then,
-  queued-unready,
-}
+use Rattle.promises.specs.Kept.Rows.{each-kind}
+use Rattle.promises.specs.Kept.Chain.{Waken, Sleeper, sleepOf, signalAt, takeAt, Move, Chained, one, rested, after, queued-unready}
 
--- what a move is called for, before what comes after
-abbrev pub markThen : Event → List Event → List Event
-markThen (woke i m) r = r
-markThen (sleepIn i c) r = sleepIn i c ∷ r
-markThen (endWith i m d) r = r
-markThen tick r = tick ∷ r
-markThen (countOff i) r = r
-markThen (signalAt p) r = signalAt p ∷ r
-markThen (takeAt p) r = takeAt p ∷ r
-markThen endStep r = endStep ∷ r
-
--- the ticks, signals, units taken, sleeps and ends of steps among the events
-abbrev pub marksOf : List Event → List Event
-marksOf [] = []
-marksOf (e ∷ es) = markThen e (marksOf es)
-
--- from k to h by a chain with these marks
-pub record Chained (z : Sizes) (k h : Kernel) (ms : List Event) : Type 0 where
-  pub events : List Event
-  pub chain : Chain z h k events
-  pub marks : marksOf events ≡ ms
-
-mark-append : (e : Event) (r s : List Event) → markThen e (r ++ s) ≡ markThen e r ++ s
-mark-append (woke i m) r s = refl
-mark-append (sleepIn i c) r s = refl
-mark-append (endWith i m d) r s = refl
-mark-append tick r s = refl
-mark-append (countOff i) r s = refl
-mark-append (signalAt p) r s = refl
-mark-append (takeAt p) r s = refl
-mark-append endStep r s = refl
-
-pub marks-append : (es fs : List Event) → marksOf (es ++ fs) ≡ marksOf es ++ marksOf fs
-marks-append [] fs = refl
-marks-append (e ∷ es) fs = ap (markThen e) (marks-append es fs) ∙ mark-append e (marksOf es) (marksOf fs)
-
--- a tick is one mark, whatever it is to each thread
-marks-tick : (k : Kernel) (n : ℕ) (es : List Event) → marksOf (tickThen k n es) ≡ marksOf es
-marks-tick k zero es = refl
-marks-tick k (suc n) es = marks-tick k n (tickEvent k n ∷ es) ∙ split (eqb (threadAt k n .remaining) 1) (λ e. rw e) (λ e. rw e)
-
--- what is no waking, no tick counted off and no finished call is counted among the marks
-pub marks-count : (f : Event → Bool) (es : List Event) → ((i : ℕ) (m : ℤ) → f (woke i m) ≡ false)
-    → ((i : ℕ) (m : ℤ) (d : ℕ) → f (endWith i m d) ≡ false)
-    → ((i : ℕ) → f (countOff i) ≡ false) → countIn f (marksOf es) ≡ countIn f es
-unfolding countIn
-marks-count f [] w e c = refl
-marks-count f (woke i m ∷ es) w e c = rw (w i m, zero-add) (marks-count f es w e c)
-marks-count f (sleepIn i a ∷ es) w e c = rw (marks-count f es w e c)
-marks-count f (endWith i m d ∷ es) w e c = rw (e i m d, zero-add) (marks-count f es w e c)
-marks-count f (tick ∷ es) w e c = rw (marks-count f es w e c)
-marks-count f (countOff i ∷ es) w e c = rw (c i, zero-add) (marks-count f es w e c)
-marks-count f (signalAt p ∷ es) w e c = rw (marks-count f es w e c)
-marks-count f (takeAt p ∷ es) w e c = rw (marks-count f es w e c)
-marks-count f (endStep ∷ es) w e c = rw (marks-count f es w e c)
-
--- one after the other
-pub after : {z : Sizes} {k j h : Kernel} {ms ns : List Event} → Chained z k j ms → Chained z j h ns → Chained z k h (ms ++ ns)
-after a b =
-    record {
-      events = a .events ++ b .events;
-      chain = chain-then (a .chain) (b .chain);
-      marks = marks-append (a .events) (b .events) ∙ rw (a .marks, b .marks);
-    }
-
--- nothing happens
-pub rested : {z : Sizes} {k : Kernel} → Chained z k k []
-rested = record { events = []; chain = stop; marks = refl }
-
--- a thread whose call may finish with any answer: one without an unfinished call, or one that tries its mailbox again
+-- a thread whose call may finish: it is ready, and no object is promised to it
 pub record Free (t : Thread) : Type 0 where
   pub is-ready : t .state ≡ ready
-  pub answers : (m : ℤ) (d : ℕ) → Follows t m d
   pub unpromised : isPromised t ≡ false
 
 -- whose step it is: an interrupt's, or such a thread's
@@ -170,37 +67,27 @@ module _ (z : Sizes) (g : GoodSizes z) where
 
   module _ (k : Kernel) where
     pub wake-chained : (i : ℕ) (m : ℤ) → Waken z k i m → Chained z k (woken k i m) []
-    wake-chained i m w = record { events = woke i m ∷ []; chain = wakes i m w stop; marks = refl }
+    wake-chained i m w = one (Move.wakes i m w)
 
     pub finish-chained : (i : ℕ) (m : ℤ) (d : ℕ) → Caller z k i → Chained z k (finished k i m d) []
     finish-chained i m d (inl e) =
         rw (finish-interrupt k i m d e)
-        (record { events = []; chain = answers {es = []} (record { message = m; datum = d }) stop; marks = refl })
+        (one (Move.answers (record { message = m; datum = d })))
     finish-chained i m d (inr f) =
-        record {
-          events = endWith i m d ∷ [];
-          chain = finishes i m d
-              (record { within = f .0; is-ready = f .1 .is-ready; follows = f .1 .answers m d; unpromised = f .1 .unpromised }) stop;
-          marks = refl;
-        }
+        one (Move.finishes i m d (record { within = f .0; is-ready = f .1 .is-ready; unpromised = f .1 .unpromised }))
 
-    pub tick-chained : Chained z k (ticked k n) (tick ∷ [])
-    tick-chained =
-        record {
-          events = tick ∷ tickThen k n [];
-          chain = ages {es = []} stop;
-          marks = ap (λ (r : List Event). tick ∷ r) (marks-tick k n []);
-        }
+    pub tick-chained : Chained z k (ticked k n) []
+    tick-chained = one Move.ages
 
     -- the sleep in a call that fits its state and place
     pub sleep-chained : (i s p : ℕ) (c : Call) → s ≡ waitState (c .kind) → p ≡ waitPlace (c .kind) (c .object) → Sleeper z k i c
-        → Chained z k (slept k i s p c) (sleepIn i c ∷ [])
-    sleep-chained i s p c e f w = rw (e, f) (record { events = sleepIn i c ∷ []; chain = sleeps i c w stop; marks = refl })
+        → Chained z k (slept k i s p c) (sleepOf i ∷ [])
+    sleep-chained i s p c e f w = rw (e, f) (one (Move.sleeps i c w))
 
     -- what cannot be had at once
     pub block-chained : (i s p : ℕ) (c : Call) → s ≡ waitState (c .kind) → p ≡ waitPlace (c .kind) (c .object)
         → (c .timeout ≢ 0 → Sleeper z k i c) → Caller z k i
-        → Chained z k (blocked k i s p c) (cond (eqb (c .timeout) immediate) [] (sleepIn i c ∷ []))
+        → Chained z k (blocked k i s p c) (cond (eqb (c .timeout) immediate) [] (sleepOf i ∷ []))
     unfolding blocked
     block-chained i s p c e f w a =
         split (eqb (c .timeout) immediate) (λ b. rw b (finish-chained i timedOut 0 a))
@@ -238,13 +125,8 @@ module _ (z : Sizes) (g : GoodSizes z) where
         split (ltZ (counterAt k p) (pos 0))
         (λ e. rw e
         (let f = first-waiter-counted k n p (g .threads .1) (omega (arith, t .tally, debt-some (counterAt k p) e)) in
-        record {
-          events =
-              signalAt p ∷ (woke (firstWaiter k n p) ok ∷ []);
-          chain = passes p (firstWaiter k n p) semaphore f stop;
-          marks = refl;
-        }))
-        (λ e. rw e (record { events = signalAt p ∷ []; chain = raises p semaphore e b stop; marks = refl }))
+        one (Move.passes p (firstWaiter k n p) semaphore f)))
+        (λ e. rw e (one (Move.raises p semaphore e b)))
 
     -- "as 3 if the counter is below 1, else nothing"
     pub binary-chained : Tallies n p k → Chained z k (binarySignalled k n p) (cond (ltZ (counterAt k p) (pos 1)) (signalAt p ∷ []) [])
@@ -254,29 +136,23 @@ module _ (z : Sizes) (g : GoodSizes z) where
 
     -- one unit taken
     pub take-chained : ltZ (pos 0) (counterAt k p) ≡ true → Chained z k (taken k p) (takeAt p ∷ [])
-    take-chained e = record { events = takeAt p ∷ []; chain = takes p semaphore e stop; marks = refl }
+    take-chained e = one (Move.takes p semaphore e)
 
   pub reset-chained : (k : Kernel) (p : ℕ) (c : ℤ) → p < 16 → ltZ c (pos 0) ≡ false → Chained z k (resetTo k n p c) []
   unfolding resetTo
   reset-chained k p c l e =
       after (release-all-chained k p wasReset (λ h. refl))
-      (record {
-        events = [];
-        chain = sets {es = []} p c
-            (record {
-              semaphore = l;
-              none = λ i h. release-all-empties k n p wasReset i (rw (used-all n (g .threads .1)) h);
-              value = e;
-            })
-            stop;
-        marks = refl;
-      })
+      (one (Move.sets p c (record {
+        semaphore = l;
+        none = λ i h. release-all-empties k n p wasReset i (rw (used-all n (g .threads .1)) h);
+        value = e;
+      })))
 
   -- "counter above 0: less 1, answer 0. Else timeout 0: answer -1 .. Else counter less 1 and sleep"
   pub wait-chained : (k : Kernel) (i p : ℕ) (c : Call) → p < 20 → queued ≡ waitState (c .kind) → p ≡ waitPlace (c .kind) (c .object)
       → (c .timeout ≢ 0 → ltZ (pos 0) (counterAt k p) ≡ false → Sleeper z k i c) → Caller z k i
       → Chained z k (waited k i p c)
-      (cond (ltZ (pos 0) (counterAt k p)) (takeAt p ∷ []) (cond (eqb (c .timeout) immediate) [] (sleepIn i c ∷ [])))
+      (cond (ltZ (pos 0) (counterAt k p)) (takeAt p ∷ []) (cond (eqb (c .timeout) immediate) [] (sleepOf i ∷ [])))
   unfolding waited enqueued taken
   wait-chained k i p c l s f w a =
       split (ltZ (pos 0) (counterAt k p))
@@ -312,31 +188,19 @@ module _ (z : Sizes) (g : GoodSizes z) where
   -- other pending flags, of a thread that awaits none of them
   pub flags-chained : (k : Kernel) (i f : ℕ) → (threadAt k i .state ≡ awaiting → bitAnd f (threadAt k i .awaited) ≡ 0)
       → Chained z k (withThread k i (withPending (threadAt k i) f)) []
-  flags-chained k i f a = record { events = []; chain = flags {es = []} i f a stop; marks = refl }
+  flags-chained k i f a = one (Move.flags i f a)
 
   -- "pending flags in a are cleared and are the datum"
   pub take-flags-chained : (k : Kernel) (i mask : ℕ) → i < n → Sized k → threadAt k i .state ≡ ready
-      → ((d : ℕ) → Follows (threadAt k i) ok d) → isPromised (threadAt k i) ≡ false → Chained z k (tookFlags k i mask) []
+      → isPromised (threadAt k i) ≡ false → Chained z k (tookFlags k i mask) []
   unfolding tookFlags
-  take-flags-chained k i mask l s r a u =
+  take-flags-chained k i mask l s r u =
       let t = withPending (threadAt k i) (threadAt k i .pending - bitAnd (threadAt k i .pending) mask) in
       let here : i < length (k .threads) = omega (arith, s .threads, g .threads .1) in
       let row = thread-same k i t here in
       let d = bitAnd (threadAt k i .pending) mask in
-      let f = a d in
       after (flags-chained k i (t .pending) (λ e. absurd (not-awaiting (sym r ∙ e))))
-      (record {
-        events = endWith i ok d ∷ [];
-        chain = finishes i ok d
-            (record {
-              within = l;
-              is-ready = rw row r;
-              follows = rw row (record { others = f .others; no-datum = f .no-datum; boxes = f .boxes });
-              unpromised = rw row u;
-            })
-            stop;
-        marks = refl;
-      })
+      (one (Move.finishes i ok d (record { within = l; is-ready = rw row r; unpromised = rw row u })))
     where
       not-awaiting : ready ≡ awaiting → ⊥
       not-awaiting e = omega arith
@@ -345,13 +209,13 @@ module _ (z : Sizes) (g : GoodSizes z) where
   pub event-wait-chained : (k : Kernel) (i : ℕ) (c : Call) → Sized k → i < n → Free (threadAt k i) → c .kind ≡ 14
       → (c .timeout ≢ 0 → bitAnd (threadAt k i .pending) (c .operand) ≡ 0 → Sleeper z k i c)
       → Chained z k (eventWaited k i c)
-      (cond (eqb (bitAnd (threadAt k i .pending) (c .operand)) 0) (cond (eqb (c .timeout) immediate) [] (sleepIn i c ∷ [])) [])
+      (cond (eqb (bitAnd (threadAt k i .pending) (c .operand)) 0) (cond (eqb (c .timeout) immediate) [] (sleepOf i ∷ [])) [])
   unfolding eventWaited
   event-wait-chained k i c s l f e w =
       split (eqb (bitAnd (threadAt k i .pending) (c .operand)) 0)
       (λ b. rw b (block-chained k i awaiting nowhere c (rw e) (rw e)
       (λ t. w t (eqb-true (bitAnd (threadAt k i .pending) (c .operand)) 0 b)) (inr (l, f))))
-      (λ b. rw b (take-flags-chained k i (c .operand) l s (f .is-ready) (f .answers ok) (f .unpromised)))
+      (λ b. rw b (take-flags-chained k i (c .operand) l s (f .is-ready) (f .unpromised)))
 
   -- who awaits events leaves neither a place nor a reference
   wake-alone : (k : Kernel) (i : ℕ) (m : ℤ) → threadAt k i .state ≡ awaiting
@@ -436,13 +300,7 @@ module _ (z : Sizes) (g : GoodSizes z) where
                 (both-means (eqb (threadAt k i .state) queued) (eqb (threadAt k i .place) p) q .0)));
           }))
           (after (flags-chained after-wake i f (λ r. absurd (ready-not (sym (ap (λ (x : Thread). x .state) row) ∙ r))))
-          (take-flags-chained told i (threadAt k i .awaited) l s2 (ap (λ (x : Thread). x .state) toldrow)
-          (λ d. rw toldrow (record {
-            others = λ x y. refl;
-            no-datum = λ x y z. absurd (z k14);
-            boxes = λ b x. contrary b (rw k14);
-          }))
-          (rw (toldrow, k14)))))
+          (take-flags-chained told i (threadAt k i .awaited) l s2 (ap (λ (x : Thread). x .state) toldrow) (rw (toldrow, k14)))))
         where
           not-ready : awaiting ≡ ready → ⊥
           not-ready e = omega arith

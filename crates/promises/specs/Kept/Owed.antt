@@ -5,7 +5,7 @@ use native.Mathlib.Omega.{arith}
 use mathlib.Core.Path.{_≡_, refl, sym, ap, _∙_}
 use mathlib.Core.Logic.{_≢_}
 use mathlib.Core.Bool.{Bool, true, false, _&&_, and-true}
-use mathlib.Core.List.{List, [], _∷_}
+use mathlib.Core.List.{List}
 use lib.Dec.{eqb}
 use lib.ListN.{length, getD}
 use lib.IntN.{ℤ, pos, negsuc, +ℤ-one, -ℤ-one}
@@ -51,74 +51,34 @@ use Rattle.promises.specs.Together.Good.{GoodSizes, GoodThread}
 use Rattle.promises.specs.Kept.Tallies.{Tallies, wake-tallies, row-tallies}
 use Rattle.promises.specs.Kept.CounterRule.{pool-place}
 use Rattle.promises.specs.Kept.PoolKept.{stock}
-use Rattle.promises.specs.Kept.Story.{
-  Event,
-  woke,
-  sleepIn,
-  endWith,
-  tick,
-  countOff,
-  signalAt,
-  takeAt,
-  endStep,
-  countIn,
-  each-kind,
-  waits-unready,
-}
+use Rattle.promises.specs.Kept.Rows.{each-kind, waits-unready}
 use Rattle.promises.specs.Kept.Chain.{
   Waken,
   Sleeper,
   Finisher,
   Hander,
-  Sound,
+  Note,
+  sleepOf,
+  signalAt,
+  takeAt,
+  Move,
   Chain,
-  stop,
-  wakes,
-  passes,
-  raises,
-  ages,
-  sleeps,
-  takes,
-  sets,
-  finishes,
-  hands,
-  answers,
-  flags,
-  begins,
-  tickEvent,
-  tickThen,
-  chain-sound,
+  countIn,
+  count-append,
+  Sound,
+  move-sound,
   queued-unready,
 }
 
-abbrev pub isSignal : ℕ → Event → Bool
-isSignal p (woke i m) = false
-isSignal p (sleepIn i c) = false
-isSignal p (endWith i m d) = false
-isSignal p tick = false
-isSignal p (countOff i) = false
+abbrev pub isSignal : ℕ → Note → Bool
+isSignal p (sleepOf i) = false
 isSignal p (signalAt q) = eqb q p
 isSignal p (takeAt q) = false
-isSignal p endStep = false
 
-abbrev pub isTake : ℕ → Event → Bool
-isTake p (woke i m) = false
-isTake p (sleepIn i c) = false
-isTake p (endWith i m d) = false
-isTake p tick = false
-isTake p (countOff i) = false
+abbrev pub isTake : ℕ → Note → Bool
+isTake p (sleepOf i) = false
 isTake p (signalAt q) = false
 isTake p (takeAt q) = eqb q p
-isTake p endStep = false
-
--- what is no event of a tick is counted as before it
-pub count-tick : (k : Kernel) (f : Event → Bool) (n : ℕ) (es : List Event) → ((i : ℕ) (m : ℤ) → f (woke i m) ≡ false)
-    → ((i : ℕ) → f (countOff i) ≡ false) → countIn f (tickThen k n es) ≡ countIn f es
-unfolding countIn
-count-tick k f zero es w c = refl
-count-tick k f (suc n) es w c =
-    count-tick k f n (tickEvent k n ∷ es) w c
-    ∙ split (eqb (threadAt k n .remaining) 1) (λ e. rw (e, w n timedOut) (omega arith)) (λ e. rw (e, c n) (omega arith))
 
 -- ---- the units of a semaphore
 
@@ -380,37 +340,37 @@ module _ (z : Sizes) (g : GoodSizes z) (q : ℕ) (there : q < z .pools) where
       (count-agree (λ j. promisedBy q (threadAt (withThread k i (withPending (threadAt k i) f)) j)) (λ j. promisedBy q (threadAt k j)) n
       (λ j l. thread-kept k i (withPending (threadAt k i) f) (promisedBy q) refl j))
 
-  unpromised-owed : (k : Kernel) (i : ℕ) (m : ℤ) (d : ℕ) → Sound z k → Finisher z k i m d → owed (finished k i m d) ≡ owed k
+  unpromised-owed : (k : Kernel) (i : ℕ) (m : ℤ) (d : ℕ) → Sound z k → Finisher z k i → owed (finished k i m d) ≡ owed k
   unpromised-owed k i m d s f = omega (arith, rw (f .unpromised) at (finish-owed k i m d s (f .within)))
 
+  elsewhere : {p : ℕ} → p < 16 → p ≢ at
+  elsewhere l = omega arith
+
   -- A SIGNAL OWES ONE MORE, A UNIT TAKEN ONE LESS, and nothing else changes what a pool owes
-  pub chain-owed : {h k : Kernel} {es : List Event} → Chain z h k es → Sound z k
-      → owed h + countIn (isTake at) es ≡ owed k + countIn (isSignal at) es
+  move-owed : {k h : Kernel} {ms : List Note} → Move z k h ms → Sound z k
+      → owed h + countIn (isTake at) ms ≡ owed k + countIn (isSignal at) ms
   unfolding countIn
-  chain-owed stop s = omega arith
-  chain-owed (wakes {k} {es} i m w c) s =
-      omega (arith, quiet-owed k i m s w, chain-owed c (chain-sound z g (wakes i m w stop) s))
-  chain-owed (passes {k} {es} p i l f c) s =
-      omega (arith, pass-owed k p i s f, chain-owed c (chain-sound z g (passes p i l f stop) s))
-  chain-owed (raises {k} {es} p l e b c) s =
-      omega (arith, raise-owed k p s e b, chain-owed c (chain-sound z g (raises p l e b stop) s))
-  chain-owed (ages {k} {es} c) s =
-      rw (count-tick k (isTake at) n es (λ i m. refl) (λ i. refl), count-tick k (isSignal at) n es (λ i m. refl) (λ i. refl))
-      (omega (arith, tick-owed k s, chain-owed c (chain-sound z g (ages {es = []} stop) s)))
-  chain-owed (sleeps {k} {es} i a w c) s =
-      omega (arith, sleep-owed k i a s w, chain-owed c (chain-sound z g (sleeps i a w stop) s))
-  chain-owed (takes {k} {es} p l e c) s =
-      omega (arith, take-owed k p s e, chain-owed c (chain-sound z g (takes p l e stop) s))
-  chain-owed (sets {k} {es} p v w c) s =
-      omega (arith, counter-owed k p v (elsewhere (w .semaphore)), chain-owed c (chain-sound z g (sets {es = []} p v w stop) s))
-    where
-      elsewhere : p < 16 → p ≢ at
-      elsewhere l = omega arith
-  chain-owed (finishes {k} {es} i m d f c) s =
-      omega (arith, unpromised-owed k i m d s f, chain-owed c (chain-sound z g (finishes i m d f stop) s))
-  chain-owed (hands {k} {es} i d f c) s =
-      omega (arith, hand-owed k i d s f, chain-owed c (chain-sound z g (hands i d f stop) s))
-  chain-owed (answers {k} {es} a c) s = chain-owed c (chain-sound z g (answers {es = []} a stop) s)
-  chain-owed (flags {k} {es} i f e c) s =
-      omega (arith, flags-owed k i f, chain-owed c (chain-sound z g (flags {es = []} i f e stop) s))
-  chain-owed (begins {k} {es} c) s = omega (arith, chain-owed c (chain-sound z g (begins {es = []} stop) s))
+  move-owed {k} (Move.wakes i m w) s = omega (arith, quiet-owed k i m s w)
+  move-owed {k} (Move.passes p i l f) s = omega (arith, pass-owed k p i s f)
+  move-owed {k} (Move.raises p l e b) s = omega (arith, raise-owed k p s e b)
+  move-owed {k} Move.ages s = omega (arith, tick-owed k s)
+  move-owed {k} (Move.sleeps i a w) s = omega (arith, sleep-owed k i a s w)
+  move-owed {k} (Move.takes p l e) s = omega (arith, take-owed k p s e)
+  move-owed {k} (Move.sets p v w) s = omega (arith, counter-owed k p v (elsewhere (w .semaphore)))
+  move-owed {k} (Move.finishes i m d f) s = omega (arith, unpromised-owed k i m d s f)
+  move-owed {k} (Move.hands i d f) s = omega (arith, hand-owed k i d s f)
+  move-owed (Move.answers a) s = refl
+  move-owed {k} (Move.flags i f e) s = omega (arith, flags-owed k i f)
+  move-owed Move.begins s = refl
+
+  pub chain-owed : {h k : Kernel} {ms : List Note} → Chain z h k ms → Sound z k
+      → owed h + countIn (isTake at) ms ≡ owed k + countIn (isSignal at) ms
+  chain-owed Chain.stop s = unfold countIn in refl
+  chain-owed (Chain.on {ms = ms} {ns = ns} m c) s =
+      omega (
+        arith,
+        move-owed m s,
+        chain-owed c (move-sound z g m s),
+        count-append (isTake at) ms ns,
+        count-append (isSignal at) ms ns,
+      )

@@ -2,13 +2,13 @@
 -- ends, within twice the threads, with a running thread that has no unfinished call.
 use Prim.Native.Nat.{ℕ, zero, suc, _+_, _*_, _≤_, _<_}
 use native.Mathlib.Omega.{arith}
-use mathlib.Core.Path.{_≡_, refl, sym, ap, _∙_, subst}
+use mathlib.Core.Path.{_≡_, refl, sym, ap, subst}
 use mathlib.Core.Logic.{_≢_, inl, inr}
-use mathlib.Core.Bool.{Bool, true, false, not, _&&_, and-false, or-false, or-assoc}
-use mathlib.Core.List.{[], _∷_, _++_}
+use mathlib.Core.Bool.{Bool, true, false, not, _&&_, and-false}
+use mathlib.Core.List.{[], _++_}
 use lib.Dec.{eqb}
 use lib.ListN.{length}
-use lib.IntN.{ℤ, pos}
+use lib.IntN.{ℤ}
 use borrow.Author.Tests.{eqb-true, eqb-false, eq-eqb, ne-eqb}
 use Rattle.kernel.specs.declared.records.Call.{Call}
 use Rattle.kernel.specs.declared.records.Thread.{Thread}
@@ -35,14 +35,12 @@ use Rattle.library.specs.Mailbox.{messageAt, placedFor, postTried, postDone, fe
 use Rattle.library.specs.Pool.{topOf, handedOver}
 use Rattle.library.specs.Settling.{isBoxCall, answeredOnly, continued, runningIn, isSettled, settled}
 use Rattle.library.specs.Tables.{mailboxAt, poolAt, withKernel}
-use Rattle.rules.specs.RowRules.{isMailing}
 use Rattle.rules.specs.PoolRules.{isPromised}
 use Rattle.steps.specs.Stepping.{budgetOf}
 use Rattle.promises.specs.Together.Good.{GoodThread}
-use Rattle.promises.specs.Together.Tests.{same-means}
-use Rattle.promises.specs.Kept.Story.{endWith, countIn, CallSound}
-use Rattle.promises.specs.Kept.Chain.{finishes, stop}
-use Rattle.promises.specs.Kept.Moving.{Free, after, rested}
+use Rattle.promises.specs.Kept.Rows.{CallSound}
+use Rattle.promises.specs.Kept.Chain.{Move, one, rested, after, countIn}
+use Rattle.promises.specs.Kept.Moving.{Free}
 use Rattle.promises.specs.Kept.Whole.{Whole, kernel-done}
 use Rattle.promises.specs.Kept.BoxActs.{Tries, Tryer, post-tries, fetch-tries, hand-tries, released-row}
 
@@ -72,20 +70,9 @@ module _ (p : Plant) (w : Whole (p .sizes) p) (i : ℕ) (d : Due (p .sizes) (p .
   unfolding countIn
   others-tries e =
       record {
-        marks = [];
+        notes = [];
         done = kernel-done z p (finished k i (t .message) 0) [] w
-            (record {
-              events = endWith i (t .message) 0 ∷ [];
-              chain = finishes i (t .message) 0
-                  (record {
-                    within = d .within;
-                    is-ready = d .is-ready;
-                    follows = record { others = λ a b. refl; no-datum = λ a b c. refl; boxes = λ a b. (refl, refl) };
-                    unpromised = none;
-                  })
-                  stop;
-              marks = refl;
-            })
+            (one (Move.finishes i (t .message) 0 (record { within = d .within; is-ready = d .is-ready; unpromised = none })))
             (λ q l. refl);
       }
     where
@@ -117,29 +104,11 @@ module _ (p : Plant) (w : Whole (p .sizes) p) (i : ℕ) (d : Due (p .sizes) (p .
 
     free : t .call .kind ≢ 20 → Free t
     free n =
-        record {
-          is-ready = d .is-ready;
-          answers = λ m x.
-              record {
-                others = λ a b. contrary box b;
-                no-datum = λ a b. contrary box b;
-                boxes = λ a b. absurd (b (same-means (t .message) (pos 0) woken-ok));
-              };
-          unpromised = rw (ne-eqb (t .call .kind) 20 n) (and-false (isReady t));
-        }
+        record { is-ready = d .is-ready; unpromised = rw (ne-eqb (t .call .kind) 20 n) (and-false (isReady t)) }
 
     tryer : t .call .kind ≢ 20 → Tryer z k i (t .call)
     tryer n =
-        record {
-          asks = inr (d .within, free n);
-          sleeps = λ x. (d .within, (free n, (fits, λ y. (refl, (mailing n, same-means (t .message) (pos 0) woken-ok)))));
-        }
-      where
-        -- of the four kinds only the pool's is no mailbox call
-        mailing : t .call .kind ≢ 20 → isMailing (t .call .kind) ≡ true
-        mailing n =
-            or-assoc (eqb (t .call .kind) 15) (eqb (t .call .kind) 16) (eqb (t .call .kind) 17)
-            ∙ (rw (ne-eqb (t .call .kind) 20 n, or-false (eqb (t .call .kind) 17)) at box)
+        record { asks = inr (d .within, free n); sleeps = λ x. (d .within, (free n, fits)) }
 
     fetch-again : t .call .kind ≡ 17 → Tries z p (fetchTried p i (t .call))
     fetch-again f =
@@ -349,12 +318,12 @@ pub record Settled (z : Sizes) (p h : Plant) : Type 0 where
 tries-then : {z : Sizes} {p j h : Plant} → Tries z p j → Tries z j h → Tries z p h
 tries-then a b =
     record {
-      marks = a .marks ++ b .marks;
+      notes = a .notes ++ b .notes;
       done = record { chained = after (a .done .chained) (b .done .chained); whole = b .done .whole };
     }
 
 tries-none : {z : Sizes} {p : Plant} → Whole z p → Tries z p p
-tries-none w = record { marks = []; done = record { chained = rested; whole = w } }
+tries-none w = record { notes = []; done = record { chained = rested; whole = w } }
 
 -- one call continued, of tables whose sizes are z
 continue-at : (z : Sizes) (p : Plant) → Whole z p → isSettled p ≡ false

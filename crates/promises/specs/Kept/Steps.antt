@@ -3,7 +3,7 @@ use Prim.Native.Nat.{ℕ, _≤_}
 use native.Mathlib.Omega.{arith}
 use mathlib.Core.Path.{_≡_, refl, sym, _∙_, subst}
 use mathlib.Core.Bool.{true}
-use mathlib.Core.List.{[], _∷_}
+use mathlib.Core.List.{[]}
 use lib.Dec.{eqb}
 use borrow.Author.Tests.{eqb-true}
 use Rattle.kernel.specs.declared.clock.Clock.{Clock}
@@ -29,8 +29,7 @@ use Rattle.promises.specs.Runs.Answers.{step-done}
 use Rattle.promises.specs.Together.Good.{RulesHold}
 use Rattle.promises.specs.Together.Hanging.{test-hangs, all-blank, made-hangs}
 use Rattle.promises.specs.Kept.Accepting.{Accepted, refusal-none}
-use Rattle.promises.specs.Kept.Story.{endStep, countIn}
-use Rattle.promises.specs.Kept.Chain.{stop, begins}
+use Rattle.promises.specs.Kept.Chain.{Move, one, countIn}
 use Rattle.promises.specs.Kept.Whole.{PlantSized, Whole, good-whole, whole-good, whole-sized, kernel-done}
 use Rattle.promises.specs.Kept.KernelActs.{Acts}
 use Rattle.promises.specs.Kept.Acts.{step-acts}
@@ -53,8 +52,7 @@ closed-hangs z h c w e f =
   where
     v : Whole z (opened (closed h))
     v =
-        kernel-done z h (begun (ended (h .kernel))) (endStep ∷ []) w
-        (record { events = endStep ∷ []; chain = begins stop; marks = refl }) (λ q l. refl) .whole
+        kernel-done z h (begun (ended (h .kernel))) [] w (one Move.begins) (λ q l. refl) .whole
 
 -- a tick leaves the frequency
 frequency-kept : (c : Clock) (kind : ℕ) → clockAfter c kind .frequency ≡ c .frequency

@@ -12,7 +12,7 @@ use Rattle.kernel.specs.Numbers.{nobody}
 use Rattle.kernel.specs.Places.{poolPlace}
 use Rattle.kernel.specs.Tables.{threadAt, counterAt}
 use Rattle.kernel.specs.Waiters.{isReady}
-use Rattle.kernel.proofs.Cases.{contrary, second-fails}
+use Rattle.kernel.proofs.Cases.{second-fails}
 use Rattle.kernel.proofs.TablesLaws.{Sized}
 use Rattle.library.specs.declared.sizes.Sizes.{Sizes}
 use Rattle.library.specs.declared.tables.Plant.{Plant}
@@ -23,9 +23,9 @@ use Rattle.promises.specs.Kept.CounterRule.{counters-tally, tally-counte
 use Rattle.promises.specs.Kept.ReferenceRule.{references-hold, holds-references}
 use Rattle.promises.specs.Kept.RingKept.{MailboxesGood}
 use Rattle.promises.specs.Kept.PoolKept.{PoolsListed, PoolSized, stock, good-listed, listed-good, good-length, length-promises}
-use Rattle.promises.specs.Kept.Story.{Event, countIn, isSlept, Idle, story-idle}
-use Rattle.promises.specs.Kept.Chain.{Sound, chain-sound, chain-story}
-use Rattle.promises.specs.Kept.Moving.{Chained, Free, Caller, marks-count}
+use Rattle.promises.specs.Kept.Rows.{Idle}
+use Rattle.promises.specs.Kept.Chain.{Note, Chained, countIn, isSlept, Sound, chain-sound, chain-idle}
+use Rattle.promises.specs.Kept.Moving.{Free, Caller}
 use Rattle.promises.specs.Kept.Owed.{isSignal, isTake, owed-is, chain-owed}
 
 -- the lists are as long as the tables of a host
@@ -97,26 +97,24 @@ module _ (p : Plant) where
 
 -- ---- a chain leaves them so
 
--- the pools of h are as much longer than those of p as the marks say
-abbrev pub InStep : Sizes → Plant → Plant → List Event → Type 0
+-- the pools of h are as much longer than those of p as the notes say
+abbrev pub InStep : Sizes → Plant → Plant → List Note → Type 0
 InStep z p h ms = (q : ℕ) → q < z .pools
     → poolAt h q .length + countIn (isTake (poolPlace q)) ms ≡ poolAt p q .length + countIn (isSignal (poolPlace q)) ms
 
--- what an operation leaves: a chain from the kernel's tables to its own, with these marks, and whole tables
-pub record Done (z : Sizes) (p h : Plant) (ms : List Event) : Type 0 where
+-- what an operation leaves: a chain from the kernel's tables to its own, with these notes, and whole tables
+pub record Done (z : Sizes) (p h : Plant) (ms : List Note) : Type 0 where
   pub chained : Chained z (p .kernel) (h .kernel) ms
   pub whole : Whole z h
 
-module _ (z : Sizes) (p h : Plant) (ms : List Event) (w : Whole z p) (c : Chained z (p .kernel) (h .kernel) ms) where
-  -- what a pool owes goes with the marks
-  pub owed-marks : (q : ℕ) (there : q < z .pools)
+module _ (z : Sizes) (p h : Plant) (ms : List Note) (w : Whole z p) (c : Chained z (p .kernel) (h .kernel) ms) where
+  -- what a pool owes goes with the notes
+  pub owed-notes : (q : ℕ) (there : q < z .pools)
       → stock (counterAt (h .kernel) (poolPlace q)) + promisedCount (h .kernel) (z .threads) q + countIn (isTake (poolPlace q)) ms
       ≡ stock (counterAt (p .kernel) (poolPlace q)) + promisedCount (p .kernel) (z .threads) q + countIn (isSignal (poolPlace q)) ms
-  owed-marks q there =
-      let e = chain-owed z (w .sizes) q there (c .chain) (w .kernel) in
-      let a = marks-count (isTake (poolPlace q)) (c .events) (λ i m. refl) (λ i m d. refl) (λ i. refl) in
-      let b = marks-count (isSignal (poolPlace q)) (c .events) (λ i m. refl) (λ i m d. refl) (λ i. refl) in
-      rw (sym (c .marks), a, b, owed-is z (w .sizes) q there (h .kernel), owed-is z (w .sizes) q there (p .kernel)) e
+  owed-notes q there =
+      rw (owed-is z (w .sizes) q there (h .kernel), owed-is z (w .sizes) q there (p .kernel))
+      (chain-owed z (w .sizes) q there c (w .kernel))
 
   -- whole tables, with mailboxes and pools kept in step
   pub done : h .sizes ≡ p .sizes → MailboxesGood h → length (h .mailboxes) ≡ 4
@@ -128,18 +126,18 @@ module _ (z : Sizes) (p h : Plant) (ms : List Event) (w : Whole z p) (c : Chaine
         whole = record {
           same = e ∙ w .same;
           sizes = w .sizes;
-          kernel = chain-sound z (w .sizes) (c .chain) (w .kernel);
+          kernel = chain-sound z (w .sizes) c (w .kernel);
           mailboxes = m;
           boxes = b;
           messages = x;
           pools = o;
           rows = r;
-          lengths = λ q there. omega (arith, l q there, owed-marks q there, w .lengths q there);
+          lengths = λ q there. omega (arith, l q there, owed-notes q there, w .lengths q there);
         };
       }
 
--- the kernel's tables alone, by marks that give and take no pool anything
-pub kernel-done : (z : Sizes) (p : Plant) (k : Kernel) (ms : List Event) → Whole z p → Chained z (p .kernel) k ms
+-- the kernel's tables alone, by notes that give and take no pool anything
+pub kernel-done : (z : Sizes) (p : Plant) (k : Kernel) (ms : List Note) → Whole z p → Chained z (p .kernel) k ms
     → ((q : ℕ) → q < z .pools → countIn (isTake (poolPlace q)) ms ≡ countIn (isSignal (poolPlace q)) ms) → Done z p (withKernel p k) ms
 kernel-done z p k ms w c e =
     done z p (withKernel p k) ms w c refl (w .mailboxes) (w .boxes) (w .messages) (record {
@@ -155,33 +153,17 @@ kernel-done z p k ms w c e =
 abbrev pub Stepper : Sizes → Kernel → ℕ → Type 0
 Stepper z k i = (i ≡ nobody) ⊎ ((i < z .threads) × Idle (threadAt k i))
 
--- its call may finish with any answer
+-- its call may finish
 pub idle-free : (t : Thread) → Idle t → Free t
-idle-free t a =
-    record {
-      is-ready = a .is-ready;
-      answers = λ m d.
-          record {
-            others = λ n. absurd (n (a .no-call));
-            no-datum = λ n. absurd (n (a .no-call));
-            boxes = λ b. contrary b (rw (a .no-call));
-          };
-      unpromised = rw (a .no-call) (second-fails (isReady t) refl);
-    }
+idle-free t a = record { is-ready = a .is-ready; unpromised = rw (a .no-call) (second-fails (isReady t) refl) }
 
 pub stepper-caller : (z : Sizes) (k : Kernel) (i : ℕ) → Stepper z k i → Caller z k i
 stepper-caller z k i (inl e) = inl e
 stepper-caller z k i (inr a) = inr (a .0, idle-free (threadAt k i) (a .1))
 
 -- and stays so while it does not sleep
-pub stepper-kept : (z : Sizes) (k h : Kernel) (i : ℕ) (ms : List Event) → GoodSizes z → Sound z k → Chained z k h ms
+pub stepper-kept : (z : Sizes) (k h : Kernel) (i : ℕ) (ms : List Note) → GoodSizes z → Sound z k → Chained z k h ms
     → countIn (isSlept i) ms ≡ 0
     → Stepper z k i → Stepper z h i
 stepper-kept z k h i ms g s c o (inl e) = inl e
-stepper-kept z k h i ms g s c o (inr a) =
-    inr (
-      a .0,
-      story-idle (chain-story z (g .threads .1) i (a .0) (c .chain) (s .rules .sized) (s .rows i (a .0)))
-          (sym (marks-count (isSlept i) (c .events) (λ j m. refl) (λ j m d. refl) (λ j. refl)) ∙ rw (c .marks) o)
-          (a .1),
-    )
+stepper-kept z k h i ms g s c o (inr a) = inr (a .0, chain-idle z g i (a .0) c s o (a .1))

@@ -27,7 +27,7 @@ use Rattle.host.specs.declared.reads.ReadResult.{ReadResult}
 use Rattle.host.specs.Request.{stepOf, resultOf}
 use Rattle.host.specs.Setup.{madeFor, prepared, tablesSet, clockSet}
 use Rattle.host.specs.Reads.{requestIn, foundNumber, readAt}
-use Rattle.host.specs.Writes.{placeAfter}
+use Rattle.host.specs.Writes.{placeWritten}
 use Rattle.promises.specs.Paper.Answers.{Said, foundSaid, writtenSaid}
 use Rattle.promises.specs.Paper.Boundary.{asked, StepCall, FreshCall, StepGiven, ReadCall, PlaceKept, SizesCall, RecordCall}
 use Rattle.promises.specs.Meant.Step.{demand-two}
@@ -153,7 +153,7 @@ written-coded : (w : Written) → writtenCode w ≡ writtenSaid w .code
 written-coded (written.Upto n) = refl
 written-coded (written.Refused c) = refl
 
-place-kept : (w : Written) (place : ℕ) → PlaceKept (writtenSaid w) place (placeAfter w place)
+place-kept : (w : Written) (place : ℕ) → PlaceKept (writtenSaid w) place (placeWritten w place)
 place-kept (written.Upto n) place = PlaceKept.moves refl refl
 place-kept (written.Refused c) place = PlaceKept.stays (λ e. omega arith) refl
 
@@ -164,7 +164,7 @@ kept-one x place m n (PlaceKept.stays a b) (PlaceKept.moves c d) = absurd (a c)
 kept-one x place m n (PlaceKept.stays a b) (PlaceKept.stays c d) = b ∙ sym d
 
 pub sizes-call-is : (z : Sizes) (l : List ℕ) (place : ℕ)
-    → SizesCall z l place (writtenCode (sizesAnswer z l)) (sizesWritten z l) (placeAfter (sizesAnswer z l) place)
+    → SizesCall z l place (writtenCode (sizesAnswer z l)) (sizesWritten z l) (placeWritten (sizesAnswer z l) place)
 sizes-call-is z l place =
     record {
       done = sizesAnswer z l;
@@ -183,7 +183,7 @@ sizes-call-one {place = place} {m = m} {n = n} a b =
     )
 
 pub record-call-is : (q : Request) (at : ℕ) (l : List ℕ) (place : ℕ)
-    → RecordCall q at l place (writtenCode (stepAnswer at l)) (stepWritten (stepOf q) at l) (placeAfter (stepAnswer at l) place)
+    → RecordCall q at l place (writtenCode (stepAnswer at l)) (stepWritten (stepOf q) at l) (placeWritten (stepAnswer at l) place)
 record-call-is q at l place =
     record {
       done = stepAnswer at l;

@@ -42,9 +42,7 @@ use Rattle.promises.specs.Kept.Tallies.{Tallies, wake-tallies}
 use Rattle.promises.specs.Kept.CounterRule.{pool-place, writers-place, readers-place}
 use Rattle.promises.specs.Kept.RingKept.{after-mod}
 use Rattle.promises.specs.Kept.Whole.{Whole, whole-good}
-use Rattle.promises.specs.Meant.Words.{waiting-waits, waits-waiting}
-use Rattle.promises.specs.Meant.Queues.{rule-below, rule-high}
-use Rattle.promises.specs.Meant.Semaphores.{not-most, signal-finds}
+use Rattle.promises.specs.Meant.Waiters.{waiting-waits, waits-waiting, rule-below, rule-high, not-most, signal-finds}
 use Rattle.promises.specs.Meant.Mailboxes.{BoxThere, good-box, full-waits, room-done, empty-waits, message-done}
 use Rattle.promises.specs.Meant.Pools.{counter-stocked}
 use Rattle.promises.specs.Paper.World.{World, boxTo, poolTo, madeReady, ended}

@@ -1,4 +1,4 @@
--- Rows 15 to 19 of document 01's table: its paragraph on mailboxes, for any mailbox.
+-- The mailbox rule of the meanings, arm by arm: a mailbox of tables that hang together has room, or is full; has a message, or is empty.
 use Prim.Native.Nat.{ℕ, _-_, _≤_, _<_}
 use native.Mathlib.Omega.{arith}
 use mathlib.Core.Path.{_≡_}

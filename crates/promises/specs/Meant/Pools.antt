@@ -1,4 +1,4 @@
--- Rows 20 to 22 of document 01's table: its paragraph on pools, for any pool.
+-- A pool of tables that hang together has an object where its rows take one.
 use Prim.Native.Nat.{ℕ, _<_}
 use native.Mathlib.Omega.{arith}
 use mathlib.Core.Path.{_≡_, refl}

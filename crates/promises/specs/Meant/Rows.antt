@@ -47,11 +47,9 @@ use Rattle.promises.specs.Kept.Chain.{queueing-place}
 use Rattle.promises.specs.Kept.PoolKept.{good-length, push-is}
 use Rattle.promises.specs.Kept.Whole.{Whole}
 use Rattle.promises.specs.Kept.Accepting.{Accepted, refusal-none, waits-thread}
-use Rattle.promises.specs.Meant.Queues.{rule-below}
-use Rattle.promises.specs.Meant.Semaphores.{not-most}
-use Rattle.promises.specs.Meant.Steps.{message-up, message-down, Rows, rows, atOnce}
-use Rattle.promises.specs.Meant.Accepted.{caller-runs}
-use Rattle.promises.specs.Meant.AcceptedBoxes.{few-free}
+use Rattle.promises.specs.Meant.Waiters.{rule-below, not-most, few-free}
+use Rattle.promises.specs.Meant.Kinds.{message-up, message-down, Rows, rows, atOnce}
+use Rattle.promises.specs.Meant.Callers.{caller-runs}
 use Rattle.promises.specs.Paper.World.{World, found, boxTo, poolTo, ended, fallAsleep, signed, kept}
 use Rattle.promises.specs.Paper.Rows.{
   inReset,

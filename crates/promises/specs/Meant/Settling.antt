@@ -1,4 +1,4 @@
--- Document 01's section "Settling", sentence by sentence, and what a step's result is.
+-- Settling of the meanings, continuation by continuation; and who runs.
 use Prim.Native.Nat.{ℕ, suc, _≤_, _<_}
 use mathlib.Core.Path.{_≡_, refl, sym}
 use mathlib.Core.Logic.{_≢_, _⊎_, inl, inr}

@@ -39,7 +39,7 @@ use Rattle.promises.specs.Kept.Acts.{step-acts}
 use Rattle.promises.specs.Kept.Whole.{PlantSized, Whole, good-whole}
 use Rattle.promises.specs.Kept.Settles.{continue-tries}
 use Rattle.promises.specs.Kept.Steps.{Hangs, settles}
-use Rattle.promises.specs.Meant.Tick.{tick-time, tick-time-wraps, other-time}
+use Rattle.promises.specs.Meant.Clock.{tick-time, tick-time-wraps, other-time}
 use Rattle.promises.specs.Meant.Pools.{promise-stocked}
 use Rattle.promises.specs.Meant.Settling.{running-first, post-again, fetch-again, alloc-again, settle-on, settle-stops}
 use Rattle.promises.specs.Meant.Refusals.{first-broken}

@@ -72,6 +72,10 @@ notAbove q p = not (above q p)
 abbrev waiting : ℕ → Plant → Bool
 waiting q p = queuedAt q (threadAt (p .kernel) 0)
 
+-- thread 0 has so many ticks left
+abbrev left : ℕ → Plant → Bool
+left n p = eqb (threadAt (p .kernel) 0 .remaining) n
+
 abbrev held : Plant → Bool
 held p = eqb (holderAt (p .kernel) 0) 0
 
@@ -91,6 +95,10 @@ holds n p = eqb (mailboxAt p 0 .positions .count) n
 abbrev kernelArms : List Bool
 kernelArms =
     met [] (by 255 1 0 0) any
+    ∷ met (by 0 11 0 5 ∷ []) (by 255 1 0 0) (left 5)
+    ∷ met (by 0 11 0 1 ∷ []) (by 255 1 0 0) (left 1)
+    ∷ met (by 0 2 0 1 ∷ []) (by 255 1 0 0) (λ p. left 1 p && waiting 0 p)
+    ∷ met (by 0 9 0 1 ∷ []) (by 255 1 0 0) (λ p. left 1 p && held p)
     ∷ met (by 0 3 0 0 ∷ []) (by 0 2 0 5) (above 0)
     ∷ met [] (by 0 2 0 0) (notAbove 0)
     ∷ met [] (by 0 2 0 5) (notAbove 0)
@@ -123,7 +131,11 @@ abbrev boxArms : List Bool
 boxArms =
     met (by 0 18 0 0 ∷ []) (by 0 15 7 5) inReset
     ∷ met [] (by 0 15 7 5) (holds 0)
+    ∷ met (by 0 18 0 0 ∷ []) (by 0 16 7 5) inReset
     ∷ met [] (by 0 16 7 5) (holds 0)
+    ∷ met (by 0 17 0 5 ∷ []) (by 1 16 7 5) (waiting 32)
+    ∷ met (by 0 15 7 5 ∷ []) (by 0 16 8 0) (holds 1)
+    ∷ met (by 0 15 7 5 ∷ []) (by 0 16 8 5) (holds 1)
     ∷ met (by 0 17 0 5 ∷ []) (by 1 15 7 5) (waiting 32)
     ∷ met (by 0 15 7 5 ∷ []) (by 0 15 8 0) (holds 1)
     ∷ met (by 0 15 7 5 ∷ []) (by 0 15 8 5) (holds 1)
@@ -140,9 +152,10 @@ boxArms =
     ∷ met (by 0 20 0 5 ∷ []) (by 1 22 5 0) (waiting 16)
     ∷ met [] (by 0 22 5 0) (λ p. not (below 16 p))
     ∷ met (by 0 22 5 0 ∷ by 0 20 0 5 ∷ []) (by 0 21 5 0) (λ p. not (below 16 p))
+    ∷ met (by 0 22 5 0 ∷ by 0 20 0 5 ∷ by 0 20 0 5 ∷ []) (by 1 21 5 0) (waiting 16)
     ∷ []
 
 -- all of them are
-pub arms-shown : (kernelArms ≡ replicate 26 true) × (boxArms ≡ replicate 19 true)
+pub arms-shown : (kernelArms ≡ replicate 30 true) × (boxArms ≡ replicate 24 true)
 unfolding firstFrom allFrom countOf firstReady firstWaiter takenOff putOn woken slept finished blocked enqueued releasedFirst releasedAll taken waited signalled resetTo suspendedOn resumed sleptFor sleptUntil tookFlags eventSignalled eventWaited ticked binarySignalled posted postedAhead fetched emptied postDone postTried fetchDone fetchTried bothReleased mailboxReset mailboxResumed popped pushed handedOver allocTried putBack sizesFit made waitBegun effected actedOnKernel boxEffected actedOnBox acted continued settled callFits waitFits ticksFit flagsFit rowFits rowsFit queuedCount countersFit holderFits referencesFit positionsFit mailboxesFit promisedCount occurrences entriesFit objectsFit poolFits poolsFit runningFree hangsTogether refusalOf maskOf outcomeOf doneWith refusedWith stepped ran
 arms-shown = (refl, refl)

@@ -33,7 +33,7 @@ use Rattle.host.specs.declared.reads.ReadResult.{ReadResult}
 use Rattle.host.specs.Setup.{prepared, clockSet}
 use Rattle.host.specs.Reads.{readAt}
 use Rattle.host.specs.Request.{stepOf}
-use Rattle.host.specs.Writes.{placeAfter}
+use Rattle.host.specs.Writes.{placeWritten}
 use Rattle.promises.specs.Paper.Together.{SizesFit}
 use Rattle.promises.specs.Paper.Fresh.{nothing}
 use Rattle.promises.specs.Paper.Answers.{foundSaid, writtenSaid}
@@ -345,6 +345,6 @@ unfolding allFrom sizesFit getN endsInside lengthRefusal stepRefusal decodedSize
 reads-shown = refl
 
 -- a write moves the host's place, a refused one leaves it
-pub places-shown : placeAfter (stepAnswer 10 (replicate 24 7)) 99 ∷ placeAfter (stepAnswer 10 (replicate 22 7)) 99 ∷ [] ≡ 23 ∷ 99 ∷ []
+pub places-shown : placeWritten (stepAnswer 10 (replicate 24 7)) 99 ∷ placeWritten (stepAnswer 10 (replicate 22 7)) 99 ∷ [] ≡ 23 ∷ 99 ∷ []
 unfolding stepAnswer
 places-shown = refl

@@ -43,7 +43,7 @@ use Rattle.kernel.specs.Clock.{tickedClock}
 use Rattle.kernel.specs.declared.clock.Clock.{Clock}
 use Rattle.library.specs.declared.tables.Tables.{Tables}
 use Rattle.steps.specs.Stepping.{stepped}
-use Rattle.host.specs.Request.{stepOf, resultOf, answered}
+use Rattle.host.specs.Request.{stepOf, resultOf, stepAnswered}
 use Rattle.host.specs.declared.request.Request.{Request}
 use Rattle.host.specs.declared.request.StepResult.{StepResult}
 use Rattle.host.specs.declared.request.Answered.{Answered}
@@ -98,8 +98,8 @@ module _ {M : Type 1} (𝓤 : URA M) (H : Heap 𝓤) (A : Atoms 𝓤) (at-mem : 
   abbrev Tick : Contract 𝓤
   Tick = tripleOf 𝓤 H A tick.signature (tick.spec 𝓤 H A at-mem run)
 
-  said : (t : Tables) (c : Clock) (q : Request) (r : Answered) → ent 𝓤 (ensured 𝓤 H A answer.ended (answer.clauses 𝓤 H A at-mem run) tt (t, (c, (q, tt))) tt r) (fact 𝓤 (r ≡ answered t c q))
-  said t c q r = exE 𝓤 _ (λ ws. snd∗ 𝓤 (sem 𝓤 H A (lasts answer.ended tt (t, (c, (q, tt))) ws)) (fact 𝓤 (r ≡ answered t c q)))
+  said : (t : Tables) (c : Clock) (q : Request) (r : Answered) → ent 𝓤 (ensured 𝓤 H A answer.ended (answer.clauses 𝓤 H A at-mem run) tt (t, (c, (q, tt))) tt r) (fact 𝓤 (r ≡ stepAnswered t c q))
+  said t c q r = exE 𝓤 _ (λ ws. snd∗ 𝓤 (sem 𝓤 H A (lasts answer.ended tt (t, (c, (q, tt))) ws)) (fact 𝓤 (r ≡ stepAnswered t c q)))
 
 module _ {M : Type 1} (𝓤 : URA M) (H : Heap 𝓤) (A : Atoms 𝓤) (W : Given 𝓤 H A) (at-mem : Memory → SProp 𝓤) (run : Routine → Fun 𝓤) (κ₁ κ₂ κ₃ κ₄ : Lft) (q₁ q₂ q₃ q₄ : Share) (x₁ : RefT Tables) (x₂ : RefT Clock) (x₃ : RefT Request) (x₄ : RefT StepResult) where
   abbrev b₁ : ℕ
@@ -192,7 +192,7 @@ module _ {M : Type 1} (𝓤 : URA M) (H : Heap 𝓤) (A : Atoms 𝓤) (W : Given
           keep ! (0 ∷ 1 ∷ 2 ∷ 3 ∷ 4 ∷ 5 ∷ 6 ∷ 7 ∷ 8 ∷ 9 ∷ 10 ∷ []) $ by ! (exits r t w e₁ e₂ e₃)
 
       -- once the result is stored: by whether the step was accepted, and whether it is a tick
-      decides : (r : Answered) → r ≡ answered h c q → {vs : List Val} → Is O.the-row r vs
+      decides : (r : Answered) → r ≡ stepAnswered h c q → {vs : List Val} → Is O.the-row r vs
           → Sq W (‵ (flft κ₁ q₁) ∷ ‵ (flft κ₂ q₂) ∷ ‵ (flft κ₃ q₃) ∷ ‵ (flft κ₄ q₄) ∷ ‵ (fobs (x₁ .name) (T.the-row .coded .code h)) ∷ ‵ (fbor κ₁ (Body (mem T.the-row) b₁ o₁ (x₁ .name))) ∷ ‵ (fobs (x₂ .name) (K.the-row .coded .code c)) ∷ ‵ (fbor κ₂ (Body (mem K.the-row) b₂ o₂ (x₂ .name))) ∷ ‵ (fres (x₃ .name) (Q.the-row .coded .code q)) ∷ ‵ (fshr-bor κ₃ (λ s. partAt Q.the-row s q b₃ o₃)) ∷ ‵ (fobs (x₄ .name) (R.the-row .coded .code (r .result))) ∷ ‵ (fbor κ₄ (Body (mem R.the-row) b₄ o₄ (x₄ .name))) ∷ ‵ (froom (tyRef erased mut (pointee (K.the-row .written))) l12 0) ∷ ‵ (fdies (tyRef erased mut (pointee (K.the-row .written))) l12) ∷ ‵ (froom tyUnit l11 0) ∷ ‵ (fdies tyUnit l11) ∷ ‵ (froom tyBool l10 0) ∷ ‵ (fdies tyBool l10) ∷ ‵ (froom tyBool l9 0) ∷ ‵ (fdies tyBool l9) ∷ ‵ (fat fullShare O′.mir l8 0 (LL.val O.the-type O′.the-laws r)) ∷ ‵ (fdies O′.mir l8) ∷ ‵ (froom Q′.mir l7 0) ∷ ‵ (fdies Q′.mir l7) ∷ ‵ (froom K′.mir l6 0) ∷ ‵ (fdies K′.mir l6) ∷ ‵ (froom T′.mir l5 0) ∷ ‵ (fdies T′.mir l5) ∷ ‵ (froom (tyRef (named 3) mut (pointee (R.the-row .written))) l4 0) ∷ ‵ (fdies (tyRef (named 3) mut (pointee (R.the-row .written))) l4) ∷ ‵ (froom (tyRef (named 2) imm (pointee (Q.the-row .written))) l3 0) ∷ ‵ (fdies (tyRef (named 2) imm (pointee (Q.the-row .written))) l3) ∷ ‵ (fat fullShare (tyRef (named 1) mut (pointee (K.the-row .written))) l2 0 (vptr b₂ o₂)) ∷ ‵ (fdies (tyRef (named 1) mut (pointee (K.the-row .written))) l2) ∷ ‵ (fat fullShare (tyRef (named 0) mut (pointee (T.the-row .written))) l1 0 (vptr b₁ o₁)) ∷ ‵ (fdies (tyRef (named 0) mut (pointee (T.the-row .written))) l1) ∷ ‵ (froom tyUnit l0 0) ∷ ‵ (fdies tyUnit l0) ∷ []) (runs C Λ (E l0 l1 l2 l3 l4 l5 l6 l7 l8 l9 l10 l11 l12) body.t-6 (atRet (E l0 l1 l2 l3 l4 l5 l6 l7 l8 l9 l10 l11 l12) Post))
       decides r e is =
           assigns ! (of-opd ! (loads-field ! O.the-type O′.the-laws r 8 20 2 l8 tyBool 1380 (vbool (r .accepted)) refl refl refl refl)) (from ! (stop !)) (init ! 18 refl (tt, tt)) $ first ! $ branches ! (load ! (from ! (stop !)) (look ! 18 refl))
@@ -232,7 +232,7 @@ module _ {M : Type 1} (𝓤 : URA M) (H : Heap 𝓤) (A : Atoms 𝓤) (W : Given
         -- the step is made by value
         use0 W (raw (Answer 𝓤 H A at-mem run .pre to-answer)) (goes-answer was₁ was₂ was₃) $ calls-at ! fm (Answer 𝓤 H A at-mem run) known-answer to-answer (and-then ! (load ! (from ! (stop !)) (look ! 24 refl)) (and-then ! (load ! (from ! (stop !)) (look ! 22 refl)) (and-then ! (load ! (from ! (stop !)) (look ! 20 refl)) (no-more !)))) (λ v.
         use1 W (later (some (λ (r : Answered). (‵ ftrue ⊛ ‵ (O.the-row .own r (v ∷ []))) ⊛ raw (ensured 𝓤 H A answer.ended (answer.clauses 𝓤 H A at-mem run) tt (h, (c, (q, tt))) tt r)))) (id⊢ 𝓤 _) $ await ! tt $ pick ! (λ r.
-        split ! $ move ! (1 ∷ []) $ use1 W (raw (fact 𝓤 (r ≡ answered h c q))) (said 𝓤 H A at-mem run h c q r) $ heard ! (r ≡ answered h c q) (λ e. split ! $ drop ! $ peeks ! O.the-row (Is O.the-row) (shows 𝓤 H A O.the-row) r (v ∷ []) (λ is. drop ! $
+        split ! $ move ! (1 ∷ []) $ use1 W (raw (fact 𝓤 (r ≡ stepAnswered h c q))) (said 𝓤 H A at-mem run h c q r) $ heard ! (r ≡ stepAnswered h c q) (λ e. split ! $ drop ! $ peeks ! O.the-row (Is O.the-row) (shows 𝓤 H A O.the-row) r (v ∷ []) (λ is. drop ! $
         land ! (from ! (stop !)) (init ! 17 refl (LL.lawful O.the-type O′.the-laws 𝓤 H A W .typed r _ is .0)) $ rewrite ! 17 (λ (u : Val). ‵ (fat fullShare O′.mir l8 0 u)) (ap only (LL.tells O.the-type O′.the-laws r _ is)) refl $
         -- the result is stored
         move ! (35 ∷ []) $ fsplit3 ! $ drop ! $ move ! (0 ∷ 1 ∷ 37 ∷ []) $ opens-plain ! tt R.the-type R′.the-laws (x₄ .now) b₄ o₄ (λ was₄.

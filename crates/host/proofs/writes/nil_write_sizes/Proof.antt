@@ -40,7 +40,7 @@ use denote.Triple.Walked.{says, Stays, gave-ref, gave-slice, stay-none-ref, walk
 use denote.Triple.Clauses.{ensured, lasts}
 use Rattle.library.specs.declared.sizes.Sizes.{Sizes}
 use Rattle.trace.specs.Writer.{writtenCode, sizesAnswer, sizesWritten}
-use Rattle.host.specs.Writes.{placeAfter}
+use Rattle.host.specs.Writes.{placeWritten}
 use Rattle.kernel.proofs.Lent.{looks-plain, shuts-plain}
 use Rattle.library.proofs.sizes.Sizes as Z
 use Rattle.library.proofs.sizes.Sizes.Laws as Z′
@@ -105,7 +105,7 @@ module _ {M : Type 1} (𝓤 : URA M) (H : Heap 𝓤) (A : Atoms 𝓤) (W : Given
 
   -- what both contracts say of the code, the last list and the last place
   abbrev Said : ℕ → List ℕ → ℕ → Type 0
-  Said r zs p = (r ≡ writtenCode (sizesAnswer z (now y))) × (zs ≡ sizesWritten z (now y)) × (p ≡ placeAfter (sizesAnswer z (now y)) (now g))
+  Said r zs p = (r ≡ writtenCode (sizesAnswer z (now y))) × (zs ≡ sizesWritten z (now y)) × (p ≡ placeWritten (sizesAnswer z (now y)) (now g))
 
   exits : (r : ℕ) (w : Val) (zs : List ℕ) (p : ℕ) → Said r zs p → length zs ≡ length (now y)
       → ent 𝓤 (⋆ 𝓤 H A (‵ (flft κ₀ q₀) ∷ ‵ (flft κ₁ q₁) ∷ ‵ (flft κ₂ q₂) ∷ ‵ (finally u8 (y .name) zs) ∷ ‵ (fres (x .name) (Z.the-row .coded .code z)) ∷ ‵ (fshr-bor κ₁ (λ s. partAt Z.the-row s z b₁ o₁)) ∷ ‵ (fres (g .name) (usize .coded .code p)) ∷ ‵ (u8 .own r (w ∷ [])) ∷ [])) (Post w)

@@ -40,7 +40,7 @@ use denote.Triple.Walked.{says, Stays, gave-ref, gave-slice, stay-none, stay-non
 use denote.Triple.Clauses.{ensured, lasts}
 use Rattle.host.specs.Request.{stepOf}
 use Rattle.trace.specs.Writer.{writtenCode, stepAnswer, stepWritten}
-use Rattle.host.specs.Writes.{placeAfter}
+use Rattle.host.specs.Writes.{placeWritten}
 use Rattle.host.specs.declared.request.Request.{Request}
 use Rattle.kernel.proofs.Lent.{looks-plain, shuts-plain}
 use Rattle.host.proofs.request.Request as Q
@@ -106,7 +106,7 @@ module _ {M : Type 1} (𝓤 : URA M) (H : Heap 𝓤) (A : Atoms 𝓤) (W : Given
 
   -- what both contracts say of the code, the last list and the last place
   abbrev Said : ℕ → List ℕ → ℕ → Type 0
-  Said r zs p = (r ≡ writtenCode (stepAnswer n (now y))) × (zs ≡ stepWritten (stepOf q) n (now y)) × (p ≡ placeAfter (stepAnswer n (now y)) (now g))
+  Said r zs p = (r ≡ writtenCode (stepAnswer n (now y))) × (zs ≡ stepWritten (stepOf q) n (now y)) × (p ≡ placeWritten (stepAnswer n (now y)) (now g))
 
   exits : (r : ℕ) (w : Val) (zs : List ℕ) (p : ℕ) → Said r zs p → length zs ≡ length (now y)
       → ent 𝓤 (⋆ 𝓤 H A (‵ (flft κ₀ q₀) ∷ ‵ (flft κ₁ q₁) ∷ ‵ (flft κ₂ q₂) ∷ ‵ (finally u8 (y .name) zs) ∷ ‵ (fres (x .name) (Q.the-row .coded .code q)) ∷ ‵ (fshr-bor κ₁ (λ s. partAt Q.the-row s q b₁ o₁)) ∷ ‵ (fres (g .name) (usize .coded .code p)) ∷ ‵ (u8 .own r (w ∷ [])) ∷ [])) (Post w)

@@ -1,5 +1,4 @@
--- What an ACCEPTED step does before settling, row by row of document 01's table. What the laws of the other Paper files ask for, an
--- accepted step has: its tables hang together, so that counters tell who waits, and its caller is the running thread or an interrupt.
+-- An accepted step has what its row asks for: its tables hang together, and its caller is the running thread or an interrupt.
 use Prim.Native.Nat.{ℕ, _≤_}
 use native.Mathlib.Omega.{arith}
 use mathlib.Core.Path.{_≡_, _∙_}

@@ -1,5 +1,4 @@
--- Which row of document 01's table a kind is: the operation that an accepted step of it does before settling. What each operation does
--- is said in the other Paper files.
+-- Which operation of the meanings each of the 22 kinds is, before settling.
 use Prim.Native.Nat.{ℕ, suc, _-_, _%_, _≤_, _<_}
 use native.Mathlib.Nat.{mod-eq-of-lt}
 use native.Mathlib.Omega.{arith}

@@ -1,4 +1,4 @@
--- Row 1 of document 01's table.
+-- The clock after a step.
 use Prim.Native.Nat.{ℕ, _+_, _<_}
 use native.Mathlib.Omega.{arith}
 use mathlib.Core.Path.{_≡_}
