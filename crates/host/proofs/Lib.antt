@@ -3,4 +3,5 @@ pub mod Told
 pub mod Fields
 pub mod RequestLaws
 pub mod SetupLaws
+pub mod BrokenLaws
 pub mod Unique

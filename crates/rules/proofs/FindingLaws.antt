@@ -90,6 +90,14 @@ none-broken p clock =
     (λ e. rw e (sym e ∙ none-fails (isKept p clock) 1 12 (omega arith)))
     (λ e. rw e (ne-eqb first 0 (λ q. omega arith) ∙ sym e ∙ none-fails (isKept p clock) 1 12 (omega arith)))
 
+-- no rule has no row
+pub no-rule-no-row : (p : Plant) (clock : Clock) → broken p clock .rule ≡ 0 → broken p clock .row ≡ 0
+unfolding broken
+no-rule-no-row p clock =
+    let first = firstFrom (breaks p clock) 1 12 in
+    let least : 1 ≤ first = at-least (breaks p clock) 1 12 (omega arith) (omega arith) in
+    split (eqb first nobody) (λ e. rw e (λ none. refl)) (λ e. rw e (λ none. absurd (omega arith)))
+
 module _ (p : Plant) (clock : Clock) where
   whole-kept : (b : Bool) → eqb (wholly b) nobody ≡ b
   whole-kept true = refl
