@@ -38,6 +38,7 @@ use Rattle.promises.specs.Kept.Tallies.{Tallies}
 use Rattle.promises.specs.Kept.CounterRule.{pool-place, writers-place, readers-place}
 use Rattle.promises.specs.Kept.RingKept.{MailboxesKept, post-tried-kept, fetch-tried-kept, reset-kept, resume-kept}
 use Rattle.promises.specs.Kept.PoolKept.{
+  stock-below,
   PoolsKept,
   stock,
   stocked,
@@ -162,11 +163,6 @@ module _ (z : Sizes) (g : GoodSizes z) (k : Kernel) (s : Sound z k) where
     readers-level =
         let x = readers-place k z g o there (readersPlace o) refl in
         s .rules .places (readersPlace o) (x .1 .0) (x .1 .1) .level (omega (arith, x .0))
-
--- a stock of at most 32 is below the top
-below-top : (c : ℤ) → stock c ≤ 32 → ltZ c (pos 2147483647) ≡ true
-below-top (pos m) h = lt-ltb m 2147483647 (omega arith)
-below-top (negsuc m) h = refl
 
 -- ---- mailboxes
 
@@ -328,7 +324,7 @@ module _ (p : Plant) (w : Whole (p .sizes) p) where
         chain : Chained z k (putBack p o x .kernel) (signalAt (poolPlace o) ∷ [])
         chain =
             signal-chained z g k (poolPlace o) place-low tally
-            (below-top (counterAt k (poolPlace o)) (omega (arith, w .lengths o there, w .pools .listed o there .length)))
+            (stock-below (counterAt k (poolPlace o)) (omega (arith, w .lengths o there, w .pools .listed o there .length)))
 
   -- "Alloc waits on the counter, then takes the top as its datum"
   pub alloc-tries : (i : ℕ) (c : Call) → Tryer z k i c → c .kind ≡ 20 → c .object < z .pools → Tries z p (allocTried p i c)

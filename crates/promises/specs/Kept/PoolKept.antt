@@ -65,6 +65,11 @@ abbrev pub stock : ℤ → ℕ
 stock (pos n) = n
 stock (negsuc n) = 0
 
+-- a stock of at most 32 is below the top
+pub stock-below : (c : ℤ) → stock c ≤ 32 → ltZ c (pos 2147483647) ≡ true
+stock-below (pos m) h = lt-ltb m 2147483647 (omega arith)
+stock-below (negsuc m) h = refl
+
 larger-stock : (c : ℤ) → larger c ≡ pos (stock c)
 larger-stock (pos n) = rw (le-ltb n 0 (omega arith))
 larger-stock (negsuc n) = refl

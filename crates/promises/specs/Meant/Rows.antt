@@ -44,10 +44,10 @@ use Rattle.promises.specs.Together.Good.{GoodSizes, GoodThread}
 use Rattle.promises.specs.Kept.Tallies.{Tallies, wake-tallies, row-tallies, release-all-tallies}
 use Rattle.promises.specs.Kept.CounterRule.{semaphore-place, queue-place}
 use Rattle.promises.specs.Kept.Chain.{queueing-place}
-use Rattle.promises.specs.Kept.PoolKept.{good-length, push-is}
+use Rattle.promises.specs.Kept.PoolKept.{stock-below, good-length, push-is}
 use Rattle.promises.specs.Kept.Whole.{Whole}
 use Rattle.promises.specs.Kept.Accepting.{Accepted, refusal-none, waits-thread}
-use Rattle.promises.specs.Meant.Waiters.{rule-below, not-most, few-free}
+use Rattle.promises.specs.Meant.Waiters.{rule-below, not-most}
 use Rattle.promises.specs.Meant.Kinds.{message-up, message-down, Rows, rows, atOnce}
 use Rattle.promises.specs.Meant.Callers.{caller-runs}
 use Rattle.promises.specs.Paper.World.{World, found, boxTo, poolTo, ended, fallAsleep, signed, kept}
@@ -502,7 +502,7 @@ module _ (t : Tables) (c : Clock) (s : Step) (w : Whole (t .sizes) (opened t)) (
         let g = good p w .pools o l in
         from (λ v. Signal v (16 + o) (worldOf (withKernel p (signalled kern n (16 + o)))))
         (signal-is p z low (16 + o) (pool-used p w o l)
-        (few-free (counterAt kern (16 + o)) (omega (arith, rw (at-pool p w o l) at (good-length g), g .length))))
+        (stock-below (counterAt kern (16 + o)) (omega (arith, rw (at-pool p w o l) at (good-length g), g .length))))
 
     put-is : worldOf h ≡ ended (poolTo after o (onTop (poolAt p o) (s .a))) (s .caller) (pos 0) 0
     unfolding putBack

@@ -56,11 +56,6 @@ rule-high k n p few g = high (counterAt k p) (omega (arith, g .tally, count-le (
 pub rule-below : (k : Kernel) (n p i : ℕ) → Tallies n p k → i < n → Waiting k p i → ltZ (counterAt k p) (pos 0) ≡ true
 rule-below k n p i g h w = debt-below (counterAt k p) (omega (arith, g .tally, count-some (waits k p) n i h (waiting-waits w)))
 
--- a counter of at most 32 is below the top
-pub few-free : (c : ℤ) → stock c ≤ 32 → ltZ c (pos 2147483647) ≡ true
-few-free (pos m) h = lt-ltb m 2147483647 (omega arith)
-few-free (negsuc m) h = refl
-
 -- a counter below 0 is below the top
 pub not-most : (c : ℤ) → ltZ c (pos 0) ≡ true → ltZ c (pos 2147483647) ≡ true
 not-most (pos n) e = absurd (omega (arith, ltb-true n 0 e))
