@@ -22,6 +22,7 @@ SAME(NIL_MAILBOXES, MAX_MAILBOXES);
 SAME(NIL_SLOTS, MAX_SLOTS);
 SAME(NIL_POOLS, MAX_POOLS);
 SAME(NIL_OBJECTS, POOL_OBJECTS);
+SAME(NIL_PLACES, MAX_PLACES);
 SAME(NIL_NOBODY, NOBODY);
 SAME(NIL_OK, MSG_OK);
 SAME(NIL_TIMEOUT, MSG_TIMEOUT);
@@ -118,7 +119,7 @@ static struct place place_of(const nil_thread *t)
     return (struct place){ t->place == 0 ? NOWHERE : NO_SUCH_TAG, t->place };
 }
 
-static uint16_t number_of(struct place at)
+uint16_t nil_place_of(struct place at)
 {
     for (uint32_t k = 0; k < RANGES_NUMBER; k++) {
         if (at.tag == RANGES[k].tag) {
@@ -147,7 +148,7 @@ static void thread_to_second(const nil_thread *from, struct thread *to)
 static void thread_from_second(const struct thread *from, nil_thread *to)
 {
     to->state = (uint16_t)from->state;
-    to->place = number_of(from->place);
+    to->place = nil_place_of(from->place);
     to->remaining = from->remaining;
     to->pending = from->pending;
     to->awaited = from->awaited;
@@ -215,6 +216,25 @@ static int32_t *counter_of(struct tables *t, uint32_t place)
     }
 }
 
+static void words_to_second(const nil_words *from, struct words *to)
+{
+    to->ready = from->ready;
+    for (uint32_t place = 0; place < NIL_PLACES; place++) {
+        *word_at(to, queue_place(place)) = from->waiting[place];
+    }
+    to->filler = from->unused;
+}
+
+/* By value: word_at wants words that it may change. */
+static void words_from_second(struct words from, nil_words *to)
+{
+    to->ready = (uint16_t)from.ready;
+    for (uint32_t place = 0; place < NIL_PLACES; place++) {
+        to->waiting[place] = (uint16_t)*word_at(&from, queue_place(place));
+    }
+    to->unused = (uint16_t)from.filler;
+}
+
 static struct sizes sizes_to_second(const nil_sizes *z)
 {
     struct sizes s = { z->threads, z->semaphores, z->queues, z->references,
@@ -262,6 +282,7 @@ void to_second(const nil_tables *from, const nil_clock *clock,
     for (uint32_t place = 0; place < NIL_PLACES; place++) {
         *counter_of(to, place) = from->counters[place];
     }
+    words_to_second(&from->words, &to->words);
     to->clock.time = clock->time;
     to->clock.frequency = clock->frequency;
 }
@@ -286,6 +307,7 @@ void from_second(const struct tables *from, nil_tables *to, nil_clock *clock)
     for (uint32_t place = 0; place < NIL_PLACES; place++) {
         to->counters[place] = *counter_of(&t, place);
     }
+    words_from_second(t.words, &to->words);
     clock->time = t.clock.time;
     clock->frequency = t.clock.frequency;
 }

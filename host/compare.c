@@ -3,8 +3,9 @@
  * the second program, with STEPS steps of the random traces that ./fuzz has,
  * read and written back through the archive too, and with one step on each of
  * TABLES damaged tables, of which both say which rule is broken first; and for
- * each of these the nine functions of time. It stops at the first answer or
- * byte that differs.
+ * each of these the nine functions of time. At each step the archive also says
+ * for a screen who is ready and who waits where. It stops at the first answer
+ * or byte that differs.
  *
  * Seeds count up from SEED: one for each trace, and then one for each plant
  * whose tables are damaged.
@@ -119,11 +120,13 @@ static void step_on_damaged(struct random *r, struct where at,
                             const struct plant *good, const struct step *s)
 {
     struct plant damaged = *good;
-    uint32_t way = some_way(r);
+    uint32_t way = some_way(r), code;
 
     spoil(r, way, &damaged);
     try_times(at);
-    table_codes[way][both_step(at, &damaged, s)]++;
+    code = both_step(at, &damaged, s);
+    expect(spoil_allows(way, code), at, "a word was judged wrongly");
+    table_codes[way][code]++;
 }
 
 /* A plant lives on between its damages. Returns how many there were. */

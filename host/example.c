@@ -169,6 +169,20 @@ static void show_damage(const struct plant *p)
            (unsigned)nil_row(broken));
 }
 
+/* What an operators' screen polls: how many are ready, and who waits where, bit
+   i for thread i. */
+static void show_screen(const struct plant *p)
+{
+    uint32_t bottles = NIL_SEMAPHORE_PLACE + BOTTLES;
+    uint32_t labels = NIL_READERS_PLACE + LABELS;
+
+    printf("ready: %u, the first %u; waiting for bottles: %u, for labels: %u\n",
+           (unsigned)nil_ready_count(&p->tables),
+           (unsigned)nil_first_ready(&p->tables),
+           (unsigned)nil_waiting(&p->tables, bottles),
+           (unsigned)nil_waiting(&p->tables, labels));
+}
+
 /* Times of the firmware in ticks of the plant's clock, and back. */
 static void show_time(const struct plant *p)
 {
@@ -205,6 +219,7 @@ int main(void)
         printf("refused with %u\n", (unsigned)code);
         return 1;
     }
+    show_screen(&plant);
     show_refusal(&plant);
     show_damage(&plant);
     show_time(&plant);

@@ -20,7 +20,7 @@
 
 /* The number of this header's layout: it rises with every change of a struct.
    The archive's own is nil_layout(); NIL_LAYOUT_FITS() compares them. */
-#define NIL_LAYOUT UINT32_C(1)
+#define NIL_LAYOUT UINT32_C(2)
 
 #ifdef __cplusplus
 extern "C" {
@@ -177,7 +177,7 @@ enum {
 
 /* Bytes of stack that are enough for any call, whatever the tables hold; what
    a handler takes on the same stack is not counted. */
-enum { NIL_STACK = 53248 };
+enum { NIL_STACK = 60416 };
 
 /* What nil_read found. */
 enum { NIL_FOUND_NOTHING = 0, NIL_FOUND_SIZES = 1, NIL_FOUND_STEP = 2 };
@@ -209,6 +209,13 @@ typedef struct nil_thread {
     nil_answer answer; /* of its last finished call; 0 and 0 in a sleep */
 } nil_thread;
 
+/* Who is ready and who waits where: bit i of a word stands for thread i. */
+typedef struct nil_words {
+    uint16_t ready;
+    uint16_t waiting[NIL_PLACES]; /* by place */
+    uint16_t unused;              /* fills the struct; any value, kept */
+} nil_words;
+
 typedef struct nil_mailbox {
     uint16_t read;
     uint16_t write;
@@ -238,6 +245,7 @@ typedef struct nil_tables {
     nil_thread threads[NIL_THREADS];
     int32_t counters[NIL_PLACES];
     uint8_t references[NIL_REFERENCES]; /* a thread, or NIL_NOBODY */
+    nil_words words;
     nil_mailbox mailboxes[NIL_MAILBOXES];
     nil_pool pools[NIL_POOLS];
     nil_sizes sizes;
@@ -315,6 +323,13 @@ static inline uint32_t nil_row(uint32_t broken)
     return broken % 256;
 }
 
+/* For a screen: how many threads are ready, the first of them (NIL_IDLE for
+   none), and who waits at a place, as a word with bit i for thread i; 0 for a
+   place that there is not. They read the words alone, and change nothing. */
+uint32_t nil_ready_count(const nil_tables *tables);
+uint32_t nil_first_ready(const nil_tables *tables);
+uint16_t nil_waiting(const nil_tables *tables, uint32_t place);
+
 /* Reads the record at a place of a trace of `length` bytes: the sizes at place
    0, a step elsewhere. The next read goes to `next`. Any place gets an answer:
    where no record begins, it is what the bytes there happen to say. */
@@ -389,6 +404,11 @@ NIL_AT(nil_thread, message, 16);
 NIL_AT(nil_thread, call, 20);
 NIL_AT(nil_thread, answer, 32);
 
+NIL_HOLDS(sizeof(nil_words) == 76);
+NIL_AT(nil_words, ready, 0);
+NIL_AT(nil_words, waiting, 2);
+NIL_AT(nil_words, unused, 74);
+
 NIL_HOLDS(sizeof(nil_mailbox) == 72);
 NIL_AT(nil_mailbox, read, 0);
 NIL_AT(nil_mailbox, write, 2);
@@ -410,13 +430,14 @@ NIL_AT(nil_sizes, mailboxes, 8);
 NIL_AT(nil_sizes, pools, 10);
 NIL_AT(nil_sizes, slots, 12);
 
-NIL_HOLDS(sizeof(nil_tables) == 1364);
+NIL_HOLDS(sizeof(nil_tables) == 1440);
 NIL_AT(nil_tables, threads, 0);
 NIL_AT(nil_tables, counters, 640);
 NIL_AT(nil_tables, references, 784);
-NIL_AT(nil_tables, mailboxes, 792);
-NIL_AT(nil_tables, pools, 1080);
-NIL_AT(nil_tables, sizes, 1344);
+NIL_AT(nil_tables, words, 792);
+NIL_AT(nil_tables, mailboxes, 868);
+NIL_AT(nil_tables, pools, 1156);
+NIL_AT(nil_tables, sizes, 1420);
 
 NIL_HOLDS(sizeof(nil_clock) == 8);
 NIL_AT(nil_clock, time, 0);

@@ -20,10 +20,10 @@ pub const OBJECTS: usize = 32;
 pub const PLACES: usize = 36;
 
 /// The number of this file's layout, as `NIL_LAYOUT` of the header: it rises with every change of a struct.
-pub const LAYOUT: u32 = 1;
+pub const LAYOUT: u32 = 2;
 
 /// Bytes of stack that are enough for any call, whatever the tables hold.
-pub const STACK: usize = 53248;
+pub const STACK: usize = 60416;
 
 /// Idle as the running thread, an interrupt as the caller, nobody in an empty reference.
 pub const NOBODY: u8 = 255;
@@ -127,6 +127,16 @@ pub struct Thread {
     pub answer: Answer,
 }
 
+/// Who is ready and who waits at each place: bit i of a word stands for thread i. `unused` fills the struct; it may have any
+/// value, and keeps it.
+#[repr(C)]
+#[derive(Clone, Copy, Debug, PartialEq, Eq)]
+pub struct Words {
+    pub ready: u16,
+    pub waiting: [u16; PLACES],
+    pub unused: u16,
+}
+
 /// Any value of `reset` but 0 is the reset state.
 #[repr(C)]
 #[derive(Clone, Copy, Debug, Default, PartialEq, Eq)]
@@ -166,6 +176,7 @@ pub struct Tables {
     pub threads: [Thread; THREADS],
     pub counters: [i32; PLACES],
     pub references: [u8; REFERENCES],
+    pub words: Words,
     pub mailboxes: [Mailbox; MAILBOXES],
     pub pools: [Pool; POOLS],
     pub sizes: Sizes,
@@ -262,6 +273,9 @@ declare! {
     ) -> u8;
     fn nil_layout() -> u32;
     fn nil_broken(tables: *const Tables, clock: *const Clock) -> u32;
+    fn nil_ready_count(tables: *const Tables) -> u32;
+    fn nil_first_ready(tables: *const Tables) -> u32;
+    fn nil_waiting(tables: *const Tables, place: u32) -> u16;
     fn nil_time_add(time: u32, interval: u32) -> u32;
     fn nil_time_diff(start: u32, end: u32) -> u32;
     fn nil_time_in_range(time: u32, start: u32, end: u32) -> u8;
@@ -296,6 +310,11 @@ impl Tables {
         }; THREADS],
         counters: [0; PLACES],
         references: [NOBODY; REFERENCES],
+        words: Words {
+            ready: 0,
+            waiting: [0; PLACES],
+            unused: 0,
+        },
         mailboxes: [Mailbox {
             read: 0,
             write: 0,
@@ -365,6 +384,27 @@ pub fn broken(tables: &Tables, clock: &Clock) -> Option<Broken> {
             row: (number % 256) as u8,
         }),
     }
+}
+
+/// For a screen: how many threads are ready. This and the two below read the words alone.
+pub fn ready_count(tables: &Tables) -> u32 {
+    // SAFETY: the reference is valid and aligned, here and below.
+    unsafe { nil_ready_count(tables) }
+}
+
+/// The first ready thread, if there is one.
+pub fn first_ready(tables: &Tables) -> Option<usize> {
+    // SAFETY: as in `ready_count`.
+    match unsafe { nil_first_ready(tables) } {
+        255 => None,
+        thread => Some(thread as usize),
+    }
+}
+
+/// Who waits at a place, as a word with bit i for thread i; 0 for a place that there is not.
+pub fn waiting(tables: &Tables, place: u32) -> u16 {
+    // SAFETY: as in `ready_count`.
+    unsafe { nil_waiting(tables, place) }
 }
 
 /// Whether archive and wrapper belong together: a host asks when it starts.
@@ -511,6 +551,11 @@ mod layout {
         call: CALL,
         answer: ANSWER,
     };
+    const WORDS: Words = Words {
+        ready: 1,
+        waiting: [2; PLACES],
+        unused: 3,
+    };
     const MAILBOX: Mailbox = Mailbox {
         read: 1,
         write: 2,
@@ -552,6 +597,8 @@ mod layout {
     };
 
     const _: () = {
+        let b: [u8; 76] = unsafe { transmute(WORDS) };
+        assert!(b[0] == 1 && b[2] == 2 && b[72] == 2 && b[74] == 3);
         let b: [u8; 72] = unsafe { transmute(MAILBOX) };
         assert!(b[0] == 1 && b[2] == 2 && b[4] == 3 && b[6] == 4 && b[8] == 5 && b[68] == 5);
         let b: [u8; 66] = unsafe { transmute(POOL) };
@@ -562,11 +609,12 @@ mod layout {
     };
 
     const _: () = {
-        let b: [u8; 1364] = unsafe {
+        let b: [u8; 1440] = unsafe {
             transmute(Tables {
                 threads: [THREAD; THREADS],
                 counters: [11; PLACES],
                 references: [12; REFERENCES],
+                words: WORDS,
                 mailboxes: [MAILBOX; MAILBOXES],
                 pools: [POOL; POOLS],
                 sizes: SIZES,
@@ -582,11 +630,13 @@ mod layout {
         );
         assert!(
             b[792] == 1
-                && b[800] == 5
-                && b[1080] == 1
-                && b[1082] == 2
-                && b[1344] == 1
-                && b[1362] == 10
+                && b[866] == 3
+                && b[868] == 1
+                && b[876] == 5
+                && b[1156] == 1
+                && b[1158] == 2
+                && b[1420] == 1
+                && b[1438] == 10
         );
     };
 

@@ -168,6 +168,61 @@ fn knows_its_archive() {
     );
 }
 
+fn shows_who_is_ready_and_who_waits() {
+    let (mut tables, mut clock) = (Tables::NONE, Clock::default());
+    assert_eq!(
+        (nil::ready_count(&tables), nil::first_ready(&tables)),
+        (0, None)
+    );
+    nil::fresh(&mut tables, &mut clock, &SIZES, nil::FREQUENCY).unwrap();
+    assert_eq!(
+        (nil::ready_count(&tables), nil::first_ready(&tables)),
+        (2, Some(0))
+    );
+    let mut shown = [(0, None, 0); 6];
+    for (step, shown) in six_steps().iter().zip(shown.iter_mut()) {
+        nil::step(&mut tables, &mut clock, step);
+        *shown = (
+            nil::ready_count(&tables),
+            nil::first_ready(&tables),
+            nil::waiting(&tables, 0),
+        );
+    }
+    let (waits, ready) = ((1, Some(1), 1), (2, Some(0), 0));
+    assert_eq!(shown, [waits, ready, waits, waits, ready, ready]);
+    assert_eq!(
+        [36, 65536, 4294967295].map(|place| nil::waiting(&tables, place)),
+        [0; 3]
+    );
+}
+
+/// A wrong word is refused, with its rule and its place; a word of a place that there is not goes through and stays.
+fn refuses_wrong_words() {
+    let (mut good, mut clock) = (Tables::NONE, Clock::default());
+    nil::fresh(&mut good, &mut clock, &SIZES, nil::FREQUENCY).unwrap();
+    let tick = request(TICK, NOBODY, 0);
+    let mut tables = good;
+    for (ready, waiting, rule) in [(1, 0, 13), (7, 0, 13), (3, 2, 14), (3, 4, 14)] {
+        tables.words.ready = ready;
+        tables.words.waiting[0] = waiting;
+        let damaged = tables;
+        assert_eq!(
+            nil::broken(&tables, &clock),
+            Some(nil::Broken { rule, row: 0 })
+        );
+        assert_eq!(nil::step(&mut tables, &mut clock, &tick).code, 1);
+        assert_eq!(tables, damaged);
+    }
+    tables = good;
+    tables.words.waiting[1] = 65535;
+    tables.words.unused = 7;
+    let odd = tables;
+    assert_eq!(nil::broken(&tables, &clock), None);
+    assert_eq!(nil::step(&mut tables, &mut clock, &tick).code, 0);
+    assert_eq!(tables, odd);
+    assert_eq!(nil::waiting(&tables, 1), 65535);
+}
+
 /// The paper's own numbers, and a refusal each way.
 fn tells_the_time() {
     assert_eq!(nil::time_add(4294967295, 1), 0);
@@ -190,6 +245,8 @@ pub extern "C" fn main() -> i32 {
     refuses_traces_and_buffers();
     translates_timeouts();
     knows_its_archive();
+    shows_who_is_ready_and_who_waits();
+    refuses_wrong_words();
     tells_the_time();
     println!("nil_test: the wrapper does as the paper lists");
     0

@@ -62,6 +62,76 @@ static bool both_broken(struct where at, const struct plant *plant,
     return number != 0;
 }
 
+/* ---- for a screen ----------------------------------------------------- */
+
+/* What the words themselves say, whatever they are. */
+static void expect_words(struct where at, const nil_tables *t)
+{
+    uint32_t ones = 0, first = NIL_IDLE;
+
+    for (uint32_t i = NIL_THREADS; i-- > 0;) {
+        if (t->words.ready >> i & 1) {
+            ones++;
+            first = i;
+        }
+    }
+    expect(nil_ready_count(t) == ones, at, "another number of ready threads");
+    expect(nil_first_ready(t) == first, at, "another first ready thread");
+    for (uint32_t place = 0; place < NIL_PLACES; place++) {
+        expect(nil_waiting(t, place) == t->words.waiting[place], at,
+               "another word for a place");
+    }
+}
+
+/* The lowest bits of some are a place that there is. */
+static void expect_no_places(struct where at, const nil_tables *t)
+{
+    static const uint32_t none[] = {
+        NIL_PLACES, NIL_PLACES + 1, 64, 255, 256, 65535, 65536, 65571,
+        UINT32_C(2147483648), UINT32_MAX
+    };
+
+    for (uint32_t k = 0; k < sizeof none / sizeof none[0]; k++) {
+        expect(nil_waiting(t, none[k]) == 0, at, "a word for no place");
+    }
+}
+
+/* The second program's walks over the records of good tables. */
+static void expect_walks(struct where at, const nil_tables *t,
+                         const struct tables *walked)
+{
+    struct places all = places_in_use(&walked->sizes);
+    uint32_t ready = 0;
+
+    for (uint32_t i = 0; i < walked->sizes.threads; i++) {
+        ready += walked->thread[i].state == READY;
+    }
+    expect(nil_ready_count(t) == ready, at, "no walk counts so many ready");
+    expect(nil_first_ready(t) == running_thread(walked), at,
+           "the first ready thread does not run");
+    for (uint32_t k = 0; k < all.number; k++) {
+        expect(nil_waiting(t, nil_place_of(all.at[k]))
+                   == walk_waiting(walked, all.at[k]),
+               at, "no walk finds these waiters");
+    }
+}
+
+static void try_screen(struct where at, const struct plant *plant,
+                       const struct tables *t, bool broken)
+{
+    struct plant before = *plant;
+
+    expect_words(at, &plant->tables);
+    expect_no_places(at, &plant->tables);
+    if (!broken) {
+        expect_walks(at, &plant->tables, t);
+    }
+    expect(memcmp(&before, plant, sizeof before) == 0, at,
+           "a look at the screen changed a byte");
+}
+
+/* ---- a step ----------------------------------------------------------- */
+
 uint32_t both_step(struct where at, struct plant *plant, const struct step *s)
 {
     nil_request request = nil_request_of(s);
@@ -75,6 +145,7 @@ uint32_t both_step(struct where at, struct plant *plant, const struct step *s)
     to_second(&plant->tables, &plant->clock, &t);
     expect_same_plant(at, plant, &t, "the bridge lost a byte");
     broken = both_broken(at, plant, &t);
+    try_screen(at, plant, &t, broken);
     nil_step(&plant->tables, &plant->clock, &request, &r);
     q = do_step(&t, s);
     expect(same_answer(&r, &q), at, "the answers differ");
@@ -83,5 +154,6 @@ uint32_t both_step(struct where at, struct plant *plant, const struct step *s)
     expect_same_plant(at, plant, &t, "the bytes differ");
     expect(r.code == 0 || memcmp(&before, plant, sizeof before) == 0, at,
            "a refused step changed a byte");
+    try_screen(at, plant, &t, broken);
     return r.code;
 }

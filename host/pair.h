@@ -34,7 +34,10 @@ uint32_t both_fresh(struct where at, const struct sizes *z, uint32_t frequency,
 
 /* One step by both sides from the same tables, whatever they hold. The plant
    is then as the archive leaves it, and the code is returned. Before it both
-   say which rule the tables break first: one exactly if the code is 1. */
+   say which rule the tables break first: one exactly if the code is 1. Before
+   and after it the archive says for a screen who is ready and who waits: what
+   the words say, and where no rule is broken what a walk over the records
+   says. */
 uint32_t both_step(struct where at, struct plant *plant, const struct step *s);
 
 /* How often each rule was the first to be broken; 0 for none. */

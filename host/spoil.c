@@ -44,6 +44,7 @@ static void find_fields(void)
     thread_fields = fields_number / NIL_THREADS;
     add_fields(offsetof(struct plant, tables.counters), 4, NIL_PLACES);
     add_fields(offsetof(struct plant, tables.references), 1, NIL_REFERENCES);
+    add_fields(offsetof(struct plant, tables.words), 2, NIL_PLACES + 2);
     for (size_t m = 0; m < NIL_MAILBOXES; m++) {
         size_t at = offsetof(struct plant, tables.mailboxes)
                   + m * sizeof(nil_mailbox);
@@ -137,6 +138,93 @@ static void spoil_bit(struct random *r, struct plant *p)
     ((uint8_t *)p)[bit / 8] ^= (uint8_t)(1u << bit % 8);
 }
 
+/* ---- words ------------------------------------------------------------ */
+
+/* The words of the records as they are now: so that a damage to a record shows
+   by what the other rules say of it. */
+static void mend_words(struct plant *p)
+{
+    struct tables t;
+
+    to_second(&p->tables, &p->clock, &t);
+    if (sizes_in_limits(&t.sizes)) {
+        make_words(&t);
+        from_second(&t, &p->tables, &p->clock);
+    }
+}
+
+static bool in_use(const nil_sizes *z, uint32_t place)
+{
+    return place < NIL_POOL_PLACE ? place < z->semaphores
+         : place < NIL_QUEUE_PLACE ? place - NIL_POOL_PLACE < z->pools
+         : place < NIL_WRITERS_PLACE ? place - NIL_QUEUE_PLACE < z->queues
+         : (place - NIL_WRITERS_PLACE) % NIL_MAILBOXES < z->mailboxes;
+}
+
+/* The ready word, the word of a place where some thread waits, or of any place
+   in use; the ready word where there is none. */
+static uint16_t *some_word(struct random *r, nil_tables *t)
+{
+    uint32_t place = random_below(r, NIL_PLACES);
+    const nil_thread *th = &t->threads[random_below(r, t->sizes.threads)];
+
+    if (random_chance(r, 40)) {
+        return &t->words.ready;
+    }
+    if (th->state == NIL_QUEUED) {
+        return &t->words.waiting[th->place];
+    }
+    return in_use(&t->sizes, place) ? &t->words.waiting[place]
+                                    : &t->words.ready;
+}
+
+/* Turns round one bit of those in the mask; of an empty mask some other ones,
+   one at least. */
+static void turn_bit(struct random *r, uint16_t *word, uint32_t mask)
+{
+    uint32_t bit = random_below(r, 16);
+
+    if (mask == 0) {
+        *word ^= (uint16_t)random_between(r, 1, 65535);
+        return;
+    }
+    while ((mask >> bit & 1) == 0) {
+        bit = (bit + 1) % 16;
+    }
+    *word ^= (uint16_t)(UINT32_C(1) << bit);
+}
+
+static void spoil_word(struct random *r, uint32_t way, nil_tables *t)
+{
+    uint32_t threads = (UINT32_C(1) << t->sizes.threads) - 1;
+    uint16_t *word = some_word(r, t);
+
+    switch (way) {
+    case BIT_MISSING:
+        turn_bit(r, word, *word);
+        break;
+    case BIT_TOO_MANY:
+        turn_bit(r, word, ~(uint32_t)*word & threads);
+        break;
+    case BIT_BEYOND:
+        turn_bit(r, word, UINT32_C(65535) & ~threads);
+        break;
+    default:
+        turn_bit(r, word, 0);
+        break;
+    }
+}
+
+static void spoil_unused(struct random *r, nil_tables *t)
+{
+    for (uint32_t place = 0; place < NIL_PLACES; place++) {
+        if (!in_use(&t->sizes, place)) {
+            t->words.waiting[place] = (uint16_t)random_below(r, 65536);
+        }
+    }
+    t->words.unused = (uint16_t)random_below(r, 65536);
+}
+
 /* ---- nearly good ------------------------------------------------------ */
 
 /* The calls that wait at a counter: their places, and how many objects. */
@@ -166,7 +254,7 @@ static uint32_t first_place(const nil_sizes *z, uint32_t kind, uint32_t *limit)
 }
 
 /* A thread's call goes to another object, or just past the last one, with its
-   place and both counters. */
+   place and both counters; the words are mended afterwards. */
 static void move_call(struct random *r, nil_tables *t)
 {
     nil_thread *th = &t->threads[random_below(r, t->sizes.threads)];
@@ -245,17 +333,30 @@ const char *spoil_name(uint32_t way)
     static const char *const names[SPOIL_WAYS] = {
         "one field", "2 to 5 fields", "one bit", "1 to 40 random bytes",
         "nearly good", "two rows exchanged", "random, sizes good",
-        "all bytes random"
+        "all bytes random", "a word's bit missing", "a word's bit too many",
+        "a word's bit from T on", "another word", "words not in use"
     };
 
     return names[way];
 }
 
-void spoil(struct random *r, uint32_t way, struct plant *p)
+bool spoil_allows(uint32_t way, uint32_t code)
 {
-    if (fields_number == 0) {
-        find_fields();
+    switch (way) {
+    case BIT_MISSING:
+    case BIT_TOO_MANY:
+    case BIT_BEYOND:
+    case OTHER_WORD:
+        return code == BROKEN_TABLES;
+    case UNUSED_WORDS:
+        return code != BROKEN_TABLES;
+    default:
+        return true;
     }
+}
+
+static void spoil_tables(struct random *r, uint32_t way, struct plant *p)
+{
     switch (way) {
     case ONE_FIELD:
         spoil_field(r, p);
@@ -280,8 +381,27 @@ void spoil(struct random *r, uint32_t way, struct plant *p)
     case BUT_SIZES:
         spoil_bytes(r, p, 0, offsetof(struct plant, tables.sizes));
         break;
-    default:
+    case ALL_BYTES:
         spoil_bytes(r, p, 0, sizeof *p);
         break;
+    case UNUSED_WORDS:
+        spoil_unused(r, &p->tables);
+        break;
+    default:
+        spoil_word(r, way, &p->tables);
+        break;
+    }
+}
+
+/* Half of the damages to records go without wrong words: these would refuse
+   many tables that are odd and no more. */
+void spoil(struct random *r, uint32_t way, struct plant *p)
+{
+    if (fields_number == 0) {
+        find_fields();
+    }
+    spoil_tables(r, way, p);
+    if (way == NEARLY_GOOD || (way < BIT_MISSING && random_chance(r, 50))) {
+        mend_words(p);
     }
 }

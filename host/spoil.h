@@ -1,4 +1,5 @@
-/* Damages to a plant's tables: one field, a few, a stretch, or all of them. */
+/* Damages to a plant's tables: one field, a few, a stretch, or all of them; and
+   to the words of good tables. */
 #ifndef SPOIL_H
 #define SPOIL_H
 
@@ -14,10 +15,21 @@ enum spoil_way {
     TWO_ROWS,    /* two threads in use exchange their records */
     BUT_SIZES,   /* random bytes in all places but the sizes and the clock */
     ALL_BYTES,   /* nothing but random bytes */
+    /* the ready word, or the word of a place in use: */
+    BIT_MISSING,  /* a thread that is ready, or waits there, is left out */
+    BIT_TOO_MANY, /* one that is not, or does not */
+    BIT_BEYOND,   /* one that there is not */
+    OTHER_WORD,   /* some other word */
+    UNUSED_WORDS, /* words of places not in use, and what fills the struct */
     SPOIL_WAYS
 };
 
 const char *spoil_name(uint32_t way);
+
+/* Whether the code of a step on good tables that were spoilt so can be: a wrong
+   word is always refused with 1, and words not in use never are. */
+bool spoil_allows(uint32_t way, uint32_t code);
+
 void spoil(struct random *r, uint32_t way, struct plant *plant);
 
 #endif

@@ -1,6 +1,7 @@
 /*
- * "Tables that hang together", sentence by sentence in the paper's order: each
- * rule is asked of row after row, until one breaks it.
+ * "Tables that hang together", sentence by sentence in the paper's order, and
+ * the words of document 02, 1/13: each rule is asked of row after row, until
+ * one breaks it.
  */
 #include "broken.h"
 
@@ -12,50 +13,56 @@ static bool queued_at(const struct thread *th, uint32_t tag, uint32_t index)
         && th->place.index == index;
 }
 
+/* What a place's number leads to. */
+struct spot {
+    uint32_t tag;
+    uint32_t index;
+    uint32_t objects; /* that there are; from there on nothing is asked */
+    int32_t counter;
+    uint32_t word;
+};
+
+static struct spot spot_of(const struct tables *t, uint32_t place)
+{
+    const struct sizes *z = &t->sizes;
+    const struct words *w = &t->words;
+    uint32_t p = place - 16, q = place - 20, m = place - 28;
+
+    if (place < 16) {
+        return (struct spot){ AT_SEMAPHORE, place, z->semaphores,
+                              t->semaphore[place], w->semaphore[place] };
+    }
+    if (p < 4) {
+        return (struct spot){ AT_POOL, p, z->pools, t->pool[p].counter,
+                              w->pool[p] };
+    }
+    if (q < 8) {
+        return (struct spot){ AT_QUEUE, q, z->queues, t->queue[q],
+                              w->queue[q] };
+    }
+    if (m < 4) {
+        return (struct spot){ AT_WRITERS, m, z->mailboxes,
+                              t->mailbox[m].writers, w->writers[m] };
+    }
+    m -= 4;
+    return (struct spot){ AT_READERS, m, z->mailboxes, t->mailbox[m].readers,
+                          w->readers[m] };
+}
+
 /* "A semaphore (a pool's too) or queue with n > 0 threads queued has counter
    -n; with none, a semaphore is at least 0 and a queue exactly 0." */
-static bool counter_is_right(const struct tables *t, uint32_t tag,
-                             uint32_t index, int32_t counter)
+static bool counter_is_right(const struct tables *t, uint32_t place)
 {
+    struct spot at = spot_of(t, place);
     int64_t owed = 0;
 
     for (uint32_t i = 0; i < t->sizes.threads; i++) {
-        owed += queued_at(&t->thread[i], tag, index);
+        owed += queued_at(&t->thread[i], at.tag, at.index);
     }
-    if (owed == 0 && (tag == AT_SEMAPHORE || tag == AT_POOL)) {
-        return counter >= 0;
+    if (owed == 0 && (at.tag == AT_SEMAPHORE || at.tag == AT_POOL)) {
+        return at.index >= at.objects || at.counter >= 0;
     }
-    return counter + owed == 0;
-}
-
-/* A place without an object is no part of the tables. */
-static bool place_is_right(const struct tables *t, uint32_t place)
-{
-    if (place < 16) {
-        return place >= t->sizes.semaphores
-            || counter_is_right(t, AT_SEMAPHORE, place, t->semaphore[place]);
-    }
-    if (place < 20) {
-        uint32_t p = place - 16;
-
-        return p >= t->sizes.pools
-            || counter_is_right(t, AT_POOL, p, t->pool[p].counter);
-    }
-    if (place < 28) {
-        uint32_t q = place - 20;
-
-        return q >= t->sizes.queues
-            || counter_is_right(t, AT_QUEUE, q, t->queue[q]);
-    }
-    if (place < 32) {
-        uint32_t m = place - 28;
-
-        return m >= t->sizes.mailboxes
-            || counter_is_right(t, AT_WRITERS, m, t->mailbox[m].writers);
-    }
-    return place - 32 >= t->sizes.mailboxes
-        || counter_is_right(t, AT_READERS, place - 32,
-                            t->mailbox[place - 32].readers);
+    return at.index >= at.objects || at.counter + owed == 0;
 }
 
 /* "Reference r holds i exactly if i is suspended on r." */
@@ -243,6 +250,32 @@ static bool running_is_right(const struct tables *t, uint32_t i)
     return i != running_thread(t) || t->thread[i].call.kind == 0;
 }
 
+/* Each thread in its turn is struck out of the word: nothing may be left, and
+   a bit that was not there is left too. */
+static bool ready_is_right(const struct tables *t, uint32_t row)
+{
+    uint32_t left = t->words.ready;
+
+    (void)row;
+    for (uint32_t i = 0; i < t->sizes.threads; i++) {
+        left ^= (t->thread[i].state == READY ? UINT32_C(1) : 0) << i;
+    }
+    return left == 0;
+}
+
+static bool waiting_is_right(const struct tables *t, uint32_t place)
+{
+    struct spot at = spot_of(t, place);
+    uint32_t left = at.word;
+
+    for (uint32_t i = 0; i < t->sizes.threads; i++) {
+        bool here = queued_at(&t->thread[i], at.tag, at.index);
+
+        left ^= (here ? UINT32_C(1) : 0) << i;
+    }
+    return at.index >= at.objects || left == 0;
+}
+
 static bool sizes_are_right(const struct tables *t, uint32_t row)
 {
     (void)row;
@@ -265,7 +298,7 @@ struct broken broken_rule(const struct tables *t)
     } rules[RULES] = {
         [SIZES_RULE] = { sizes_are_right, 1 },
         [FREQUENCY_RULE] = { frequency_is_right, 1 },
-        [COUNTER_RULE] = { place_is_right, 36 },
+        [COUNTER_RULE] = { counter_is_right, 36 },
         [REFERENCE_RULE] = { reference_is_right, z->references },
         [MAILBOX_RULE] = { mailbox_is_right, z->mailboxes },
         [POOL_RULE] = { pool_is_right, z->pools },
@@ -274,7 +307,9 @@ struct broken broken_rule(const struct tables *t)
         [WAIT_RULE] = { wait_is_right, z->threads },
         [AWAITED_RULE] = { awaited_is_right, z->threads },
         [PENDING_RULE] = { pending_is_right, z->threads },
-        [RUNNING_RULE] = { running_is_right, z->threads }
+        [RUNNING_RULE] = { running_is_right, z->threads },
+        [READY_RULE] = { ready_is_right, 1 },
+        [WAITING_RULE] = { waiting_is_right, 36 }
     };
 
     for (uint32_t rule = SIZES_RULE; rule < RULES; rule++) {

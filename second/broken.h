@@ -4,7 +4,8 @@
 
 #include "model.h"
 
-/* The rules in the order of the paper's section; docs/RULES.md has them. */
+/* The rules in the order of the paper's section, then those of the words;
+   docs/RULES.md has them. */
 enum rule {
     NO_RULE = 0,
     SIZES_RULE = 1,
@@ -19,12 +20,15 @@ enum rule {
     AWAITED_RULE = 10,
     PENDING_RULE = 11,
     RUNNING_RULE = 12,
-    RULES = 13
+    READY_RULE = 13,
+    WAITING_RULE = 14,
+    RULES = 15
 };
 
 /* The first rule that is broken, and the first row that breaks it: 0 and 0
-   where none is. A counter's row is its place: semaphores from 0, pools from
-   16, queues from 20, mailboxes' writers from 28, their readers from 32. */
+   where none is. The row of a counter and of a waiting word is its place:
+   semaphores from 0, pools from 16, queues from 20, mailboxes' writers from 28,
+   their readers from 32. */
 struct broken {
     uint32_t rule;
     uint32_t row;

@@ -103,6 +103,7 @@ int main(void)
     check_pools();
     check_refusals();
     check_tables();
+    check_words();
     check_traces();
     printf("check: %u tests, %u failed\n", tests, failures);
     return failures == 0 && fflush(stdout) == 0 ? 0 : 1;

@@ -51,6 +51,7 @@ void check_mailboxes(void);
 void check_pools(void);
 void check_refusals(void);
 void check_tables(void);
+void check_words(void);
 void check_traces(void);
 
 #endif

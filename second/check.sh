@@ -82,26 +82,54 @@ rows() {
     echo "pool 0 1 1 5"
     echo "marks 0 0 0 0 0 0 1 0 0 0 0 0 0 0 0 0 0 0 0 0 0 0 0 0 0 0 0 0 0" \
          "0 0 0 0"
+    echo "ready $2"
+    printf 'waiting %s 0\n' s0 q0 w0 f0 p0
     echo "clock 0 1000"
 }
 {
     printf 'step code run woke done\n1 0 0 0 0\nanswer 0 0\n'
     echo 'thread 0 0 - 0 0 0 0 0 0 0 0 0 0'
-    rows '0 0 0 0 0 0 0 0'
+    rows '0 0 0 0 0 0 0 0' 1
     printf '2 0 0 0 1\nanswer 0 0\n'
     echo 'thread 0 0 - 0 0 0 0 0 0 0 0 0 0'
-    rows '0 1 1 0 0 0 -7 0'
+    rows '0 1 1 0 0 0 -7 0' 1
     printf '3 5 0 0 0\nanswer 0 0\n'
     echo 'thread 0 0 - 0 0 0 0 0 0 0 0 0 0'
-    rows '0 1 1 0 0 0 -7 0'
+    rows '0 1 1 0 0 0 -7 0' 1
     printf '4 0 255 0 0\nanswer 0 0\n'
     echo 'thread 0 4 - 4294967294 0 4294967295 0 14 0 4294967295 4294967294' \
          '0 0'
-    rows '0 1 1 0 0 0 -7 0'
+    rows '0 1 1 0 0 0 -7 0' 0
 } > "$dir/want"
 "$out/second" --tables "$dir/all" > "$dir/got"
 status 'all tables' 0 $?
 same 'all tables'
+
+# The words: seven threads that wait at two semaphores, a queue, the readers of
+# two mailboxes and a pool; thread 6 stays ready.
+{
+    printf '\001\000\010\007\002\001\000\002\001\001\001'
+    printf "$step"'\002\000\001\000\000\000\000\000\000\000\011'
+    printf "$step"'\006\001\000\000\000\000\000\000\000\000\011'
+    printf "$step"'\021\002\001\000\000\000\000\000\000\000\011'
+    printf "$step"'\024\003\000\000\000\000\000\000\000\000\011'
+    printf "$step"'\002\004\001\000\000\000\000\000\000\000\011'
+    printf "$step"'\021\005\000\000\000\000\000\000\000\000\011'
+} > "$dir/words"
+cat > "$dir/want" <<'END'
+ready 64
+waiting s0 0
+waiting s1 17
+waiting q0 2
+waiting w0 0
+waiting f0 32
+waiting w1 0
+waiting f1 4
+waiting p0 8
+clock 0 1000
+END
+"$out/second" --tables "$dir/words" | tail -n 10 > "$dir/got"
+same 'words'
 
 # No listing without a readable file; a clear message instead.
 : > "$dir/want"

@@ -1,5 +1,6 @@
 /*
- * Refusal 1: every sentence of "Tables that hang together" as a test.
+ * Refusal 1: every sentence of "Tables that hang together" as a test, and
+ * document 02's word for it on the ready and waiting words.
  *
  * The order matters for safety only: sizes first, then the threads' records,
  * then the objects, so that no test ever uses an index not yet found good.
@@ -298,6 +299,60 @@ static bool pools_hang(const struct tables *t)
     return true;
 }
 
+/* Document 02, 1/13: "bit i set exactly when thread i is ready". No bit stands
+   for a thread that there is not. */
+static bool ready_word_agrees(const struct tables *t)
+{
+    for (uint32_t i = 0; i < t->sizes.threads; i++) {
+        bool is_ready = t->thread[i].state == READY;
+
+        if ((t->words.ready >> i & 1) != is_ready) {
+            return false;
+        }
+    }
+    return t->words.ready >> t->sizes.threads == 0;
+}
+
+/* The same "with the threads waiting there". */
+static bool word_agrees(const struct tables *t, uint32_t tag, uint32_t index,
+                        uint32_t word)
+{
+    for (uint32_t i = 0; i < t->sizes.threads; i++) {
+        const struct thread *th = &t->thread[i];
+        bool waits_here = th->state == QUEUED && stands_at(th, tag, index);
+
+        if ((word >> i & 1) != waits_here) {
+            return false;
+        }
+    }
+    return word >> t->sizes.threads == 0;
+}
+
+static bool words_agree(const struct tables *t, uint32_t tag, uint32_t number,
+                        const uint32_t *word)
+{
+    for (uint32_t k = 0; k < number; k++) {
+        if (!word_agrees(t, tag, k, word[k])) {
+            return false;
+        }
+    }
+    return true;
+}
+
+/* "Words that disagree don't hang together." */
+static bool words_hang(const struct tables *t)
+{
+    const struct sizes *z = &t->sizes;
+    const struct words *w = &t->words;
+
+    return ready_word_agrees(t)
+        && words_agree(t, AT_SEMAPHORE, z->semaphores, w->semaphore)
+        && words_agree(t, AT_QUEUE, z->queues, w->queue)
+        && words_agree(t, AT_WRITERS, z->mailboxes, w->writers)
+        && words_agree(t, AT_READERS, z->mailboxes, w->readers)
+        && words_agree(t, AT_POOL, z->pools, w->pool);
+}
+
 bool tables_hang_together(const struct tables *t)
 {
     return sizes_in_limits(&t->sizes)
@@ -308,5 +363,6 @@ bool tables_hang_together(const struct tables *t)
         && queues_hang(t)
         && references_hang(t)
         && mailboxes_hang(t)
-        && pools_hang(t);
+        && pools_hang(t)
+        && words_hang(t);
 }

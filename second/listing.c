@@ -63,6 +63,18 @@ static void print_pool(uint32_t p, const struct pool *pool)
     putchar('\n');
 }
 
+static void print_words(struct words w, const struct sizes *z)
+{
+    struct places all = places_in_use(z);
+
+    printf("ready %" PRIu32 "\n", w.ready);
+    for (uint32_t k = 0; k < all.number; k++) {
+        printf("waiting ");
+        print_place(all.at[k]);
+        printf(" %" PRIu32 "\n", *word_at(&w, all.at[k]));
+    }
+}
+
 /* Rows within the sizes only. */
 static void print_tables(const struct tables *t)
 {
@@ -84,6 +96,7 @@ static void print_tables(const struct tables *t)
     for (uint32_t p = 0; p < t->sizes.pools; p++) {
         print_pool(p, &t->pool[p]);
     }
+    print_words(t->words, &t->sizes);
     printf("clock %" PRIu32 " %" PRIu32 "\n", t->clock.time,
            t->clock.frequency);
 }

@@ -58,6 +58,7 @@ struct result do_step(struct tables *t, const struct step *s)
         finish(&w, s->caller, answer);
     }
     r.continued = settle(&w);
+    make_words(t);
     r.running = running_thread(t);
     r.woken = w.woken;
     r.finished = w.finished;

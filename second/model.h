@@ -21,7 +21,9 @@ enum {
     MAX_MAILBOXES = 4,
     MAX_SLOTS = 16,
     MAX_POOLS = 4,
-    POOL_OBJECTS = 32 /* "object numbers 0 to 31" */
+    POOL_OBJECTS = 32, /* "object numbers 0 to 31" */
+    /* where threads queue: a mailbox has two sides */
+    MAX_PLACES = MAX_SEMAPHORES + MAX_QUEUES + 2 * MAX_MAILBOXES + MAX_POOLS
 };
 
 /* 255 is idle among threads, an interrupt among callers, and nobody in an
@@ -148,6 +150,18 @@ struct pool {
     uint32_t mark[POOL_OBJECTS];
 };
 
+/* Document 02, 1/13: bit i of a word stands for thread i. One word is for the
+   ready threads, and one for those that wait at each place. */
+struct words {
+    uint32_t ready;
+    uint32_t semaphore[MAX_SEMAPHORES];
+    uint32_t queue[MAX_QUEUES];
+    uint32_t writers[MAX_MAILBOXES];
+    uint32_t readers[MAX_MAILBOXES];
+    uint32_t pool[MAX_POOLS];
+    uint32_t filler; /* lies beside the words at a host's; means nothing */
+};
+
 struct system_clock {
     uint32_t time;
     uint32_t frequency;
@@ -161,6 +175,7 @@ struct tables {
     uint32_t reference[MAX_REFERENCES];
     struct mailbox mailbox[MAX_MAILBOXES];
     struct pool pool[MAX_POOLS];
+    struct words words;
     struct system_clock clock;
 };
 
@@ -188,6 +203,19 @@ bool sizes_in_limits(const struct sizes *sizes);
 uint32_t fresh_tables(struct tables *t, const struct sizes *sizes,
                       const uint32_t *frequency);
 uint32_t running_thread(const struct tables *t);
+
+/* words.c: all asked of sizes in their limits only. */
+struct places {
+    uint32_t number;
+    struct place at[MAX_PLACES];
+};
+/* Semaphores, queues, each mailbox's writers and readers, pools. */
+struct places places_in_use(const struct sizes *sizes);
+uint32_t *word_at(struct words *w, struct place at);
+uint32_t walk_ready(const struct tables *t);
+uint32_t walk_waiting(const struct tables *t, struct place at);
+/* The ready word and those of the places in use, from the records alone. */
+void make_words(struct tables *t);
 
 /* hang.c: safe on tables of any values. */
 bool tables_hang_together(const struct tables *t);

@@ -4,9 +4,11 @@
  * leads to. Asserted:
  *   - where the change breaks the tables, a step is refused with 1, running
  *     is 255 and every byte is kept; the change is then taken back;
+ *   - a rule can be named exactly where the tables are broken;
  *   - where it does not, it stays (but for a size's, since the director has
  *     an object in mind), and "accepted steps keep it so".
  */
+#include "broken.h"
 #include "director.h"
 
 #include <inttypes.h>
@@ -71,7 +73,8 @@ static uint32_t some_word(struct random *r, const struct tables *t,
     }
 }
 
-/* A word of some used thread's record, or any word of all. */
+/* A value of some used thread's record, one of the words of document 02, or any
+   value of all. */
 static size_t some_number(struct random *r, const struct tables *t)
 {
     size_t each = sizeof t->thread[0] / WORD;
@@ -80,6 +83,10 @@ static size_t some_number(struct random *r, const struct tables *t)
         size_t thread = random_below(r, t->sizes.threads);
 
         return FIRST + thread * each + random_below(r, (uint32_t)each);
+    }
+    if (random_chance(r, 20)) {
+        return offsetof(struct tables, words) / WORD
+             + random_below(r, sizeof t->words / WORD);
     }
     return random_below(r, sizeof *t / WORD);
 }
@@ -96,13 +103,20 @@ static void expect_refusal_1(uint64_t seed, uint32_t step, struct tables *t)
            "broken tables changed");
 }
 
+/* The words may be made anew for a changed record: else a thread that became
+   ready by the change would always be found out by them. */
 static void change_something(struct random *r, uint64_t seed, uint32_t step,
                              struct tables *t)
 {
+    struct tables old = *t;
     size_t number = some_number(r, t);
-    uint32_t old = get_word(t, number);
 
     set_word(t, number, some_word(r, t, number));
+    if (number >= FIRST && random_chance(r, 50)) {
+        make_words(t);
+    }
+    expect((broken_rule(t).rule == NO_RULE) == tables_hang_together(t), seed,
+           step, "a broken rule and the test do not go together");
     if (tables_hang_together(t)) {
         seen.kept++;
         if (number >= FIRST) {
@@ -112,7 +126,7 @@ static void change_something(struct random *r, uint64_t seed, uint32_t step,
         seen.broken++;
         expect_refusal_1(seed, step, t);
     }
-    set_word(t, number, old);
+    *t = old;
 }
 
 static void shaken_step(struct director *d, uint64_t seed, uint32_t step,

@@ -3,6 +3,8 @@
  * and the model and asserts what document 01 promises of every one of them:
  *   - from fresh tables every step, accepted or refused, leaves tables that
  *     hang together, and settling never exhausts its budget;
+ *   - the running thread and the number of ready ones can be read from the
+ *     ready word alone;
  *   - a refused step keeps all bytes and gives masks, message and datum 0;
  *   - a clean trace, read and written again, gives the same bytes.
  * At the end it prints what the traces covered.
@@ -131,6 +133,23 @@ static bool is_settled(const struct tables *t)
     return i == IDLE || t->thread[i].call.kind == 0;
 }
 
+/* "The number of ready threads is the number of ones; the first ready thread
+   is the number of trailing zeros of the word, and an empty word means idle."
+   (document 02) */
+static bool word_tells(const struct tables *t, uint32_t running)
+{
+    uint32_t word = t->words.ready, first = 0, ready = 0;
+
+    for (uint32_t i = 0; i < t->sizes.threads; i++) {
+        ready += t->thread[i].state == READY;
+    }
+    while (first < MAX_THREADS && (word >> first & 1) == 0) {
+        first++;
+    }
+    return bits_in(word) == ready
+        && running == (word == 0 ? (uint32_t)IDLE : first);
+}
+
 static void run_step(uint64_t seed, uint32_t record, struct tables *t,
                      const struct step *s)
 {
@@ -142,6 +161,7 @@ static void run_step(uint64_t seed, uint32_t record, struct tables *t,
     expect(is_settled(t), seed, record, "settling ran out of its budget");
     expect(tables_hang_together(t), seed, record, "tables do not hang");
     expect(r.running == running_thread(t), seed, record, "wrong running");
+    expect(word_tells(t, r.running), seed, record, "wrong ready word");
     expect(((r.woken | r.finished) & ~all) == 0, seed, record, "stray bits");
     if (r.code != ACCEPTED) {
         expect(memcmp(&before, t, sizeof before) == 0, seed, record,

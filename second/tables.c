@@ -26,7 +26,8 @@ bool sizes_in_limits(const struct sizes *z)
 }
 
 /* "Fresh: all ready, references and mailboxes empty, pool objects absent,
-   frequency as given, all else 0 or clear." Ready, nowhere, absent are 0. */
+   frequency as given, all else 0 or clear." Ready, nowhere, absent are 0; but
+   the ready word says of all threads that they are ready. */
 uint32_t fresh_tables(struct tables *t, const struct sizes *sizes,
                       const uint32_t *frequency)
 {
@@ -44,6 +45,7 @@ uint32_t fresh_tables(struct tables *t, const struct sizes *sizes,
     for (uint32_t r = 0; r < MAX_REFERENCES; r++) {
         t->reference[r] = NOBODY;
     }
+    make_words(t);
     return ACCEPTED;
 }
 

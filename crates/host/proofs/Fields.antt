@@ -23,6 +23,10 @@ use denote.Struct.Declared.{Declared, fields, shape}
 use denote.Struct.Laws as LL
 use denote.Struct.Struct.{layout}
 
+-- the bytes of whole tables: in a struct that begins with them the next field lies there
+abbrev pub tables-size : ℕ
+tables-size = 1440
+
 -- the machine values of a struct's fields
 abbrev spelled : (T : Declared) (L : LL.Laws T) (r : T .D) → List Val
 spelled T L r = flat (fields T) (valss (fields T) (LL.spells (T .parts) L) (T .to r))

@@ -15,6 +15,9 @@ use denote.Triple.Clauses.{AtExit}
 use denote.Triple.Entry.{Args, Res}
 use Rattle.kernel.proofs.Unique.{coincide, coincide-lent, Fixes}
 use Rattle.host.proofs.broken.nil_broken as broken-nil-broken
+use Rattle.host.proofs.screen.nil_ready_count as screen-nil-ready-count
+use Rattle.host.proofs.screen.nil_first_ready as screen-nil-first-ready
+use Rattle.host.proofs.screen.nil_waiting as screen-nil-waiting
 use Rattle.host.proofs.layout.nil_layout.Reads as layout-nil-layout
 use Rattle.host.proofs.layout.nil_layout.Kinds as layout-nil-layout-kinds
 use Rattle.host.proofs.times.nil_time_add.Reads as times-nil-time-add
@@ -143,3 +146,27 @@ module _ {M : Type 1} (𝓤 : URA M) (H : Heap 𝓤) (A : Atoms 𝓤) (at-mem : 
     -- the number
     pub broken-nil-broken-one : ent 𝓤 (sep 𝓤 (nil-broken-gives x e) (nil-broken-gives y f)) (fact 𝓤 (x ≡ y))
     broken-nil-broken-one = coincide-lent 𝓤 coincide
+
+  module _ (κs : Lfts 1) (a : Args screen-nil-ready-count.signature κs) (x y : Res screen-nil-ready-count.signature κs) (e f : AtExit screen-nil-ready-count.ended κs) where
+    abbrev nil-ready-count-gives : Res screen-nil-ready-count.signature κs → AtExit screen-nil-ready-count.ended κs → SProp 𝓤
+    nil-ready-count-gives = screen-nil-ready-count.clauses 𝓤 H A at-mem run κs a .ensures tt
+
+    -- the number
+    pub screen-nil-ready-count-one : ent 𝓤 (sep 𝓤 (nil-ready-count-gives x e) (nil-ready-count-gives y f)) (fact 𝓤 (x ≡ y))
+    screen-nil-ready-count-one = coincide-lent 𝓤 coincide
+
+  module _ (κs : Lfts 1) (a : Args screen-nil-first-ready.signature κs) (x y : Res screen-nil-first-ready.signature κs) (e f : AtExit screen-nil-first-ready.ended κs) where
+    abbrev nil-first-ready-gives : Res screen-nil-first-ready.signature κs → AtExit screen-nil-first-ready.ended κs → SProp 𝓤
+    nil-first-ready-gives = screen-nil-first-ready.clauses 𝓤 H A at-mem run κs a .ensures tt
+
+    -- the thread
+    pub screen-nil-first-ready-one : ent 𝓤 (sep 𝓤 (nil-first-ready-gives x e) (nil-first-ready-gives y f)) (fact 𝓤 (x ≡ y))
+    screen-nil-first-ready-one = coincide-lent 𝓤 coincide
+
+  module _ (κs : Lfts 1) (a : Args screen-nil-waiting.signature κs) (x y : Res screen-nil-waiting.signature κs) (e f : AtExit screen-nil-waiting.ended κs) where
+    abbrev nil-waiting-gives : Res screen-nil-waiting.signature κs → AtExit screen-nil-waiting.ended κs → SProp 𝓤
+    nil-waiting-gives = screen-nil-waiting.clauses 𝓤 H A at-mem run κs a .ensures tt
+
+    -- the word
+    pub screen-nil-waiting-one : ent 𝓤 (sep 𝓤 (nil-waiting-gives x e) (nil-waiting-gives y f)) (fact 𝓤 (x ≡ y))
+    screen-nil-waiting-one = coincide-lent 𝓤 coincide

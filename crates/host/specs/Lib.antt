@@ -4,5 +4,6 @@ pub mod Setup
 pub mod Reads
 pub mod Writes
 pub mod Broken
+pub mod Screen
 pub mod Times
 pub mod Layout

@@ -4,6 +4,7 @@ pub mod broken;
 pub mod layout;
 pub mod reads;
 pub mod request;
+pub mod screen;
 pub mod setup;
 pub mod times;
 pub mod writes;

@@ -7,6 +7,7 @@ pub mod Loops
 pub mod Products
 pub mod Cases
 pub mod WalkLaws
+pub mod WordsLaws
 pub mod TimeLaws
 pub mod UnitsLaws
 pub mod TablesLaws

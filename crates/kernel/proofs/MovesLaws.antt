@@ -1,7 +1,7 @@
 -- A move changes one thread's row, and the one counter or reference that the thread leaves or joins; all else stands as it stood.
 use Prim.Native.Nat.{ℕ, _+_, _-_, _≤_, _<_}
 use native.Mathlib.Omega.{arith}
-use mathlib.Core.Path.{_≡_, refl, sym, ap}
+use mathlib.Core.Path.{_≡_, refl, sym, ap, _∙_}
 use mathlib.Core.Logic.{_≢_}
 use mathlib.Core.Bool.{Bool, true, false, cond, _&&_}
 use mathlib.Core.List.{List}
@@ -14,6 +14,7 @@ use borrow.Author.Tests.{eqb-true, eqb-false, eq-eqb, ne-eqb, lt-ltb, le-ltb}
 use Rattle.kernel.specs.declared.records.Call.{Call}
 use Rattle.kernel.specs.declared.records.Answer.{Answer}
 use Rattle.kernel.specs.declared.records.Thread.{Thread}
+use Rattle.kernel.specs.declared.records.Words.{Words}
 use Rattle.kernel.specs.declared.records.Kernel.{Kernel}
 use Rattle.kernel.specs.Numbers.{nobody, suspended, queued, timedOut}
 use Rattle.kernel.specs.Records.{blank}
@@ -22,6 +23,7 @@ use Rattle.kernel.specs.Counters.{up, down}
 use Rattle.kernel.specs.Tables.{threadAt, counterAt, holderAt, withThread, withCounter, withHolder, withWoken, withAnswer}
 use Rattle.kernel.specs.Moves.{readied, asleep, answered, takenOff, putOn, woken, slept, finished, blocked}
 use Rattle.kernel.specs.Waiters.{queuedAt}
+use Rattle.kernel.specs.Words.{notedReady, notedAsleep}
 use Rattle.kernel.proofs.Cases.{split, same-or, in-or-out, chosen}
 use Rattle.kernel.proofs.TablesLaws.{
   wokenAt,
@@ -33,6 +35,7 @@ use Rattle.kernel.proofs.TablesLaws.{
   mark-woken-sizes,
   mark-finished-sizes,
   answer-sizes,
+  words-sizes,
   thread-blank,
   thread-same,
   thread-other,
@@ -47,6 +50,7 @@ use Rattle.kernel.proofs.TablesLaws.{
   mark-finished-same,
   mark-finished-other,
 }
+use Rattle.kernel.proofs.WordsLaws.{with-past, ready-length, asleep-length}
 use Rattle.kernel.proofs.CountersLaws.{debt, raised-debt, lowered-debt}
 
 -- suspended on the reference r
@@ -63,6 +67,7 @@ record Beside (k h : Kernel) : Type 0 where
   woken : h .woken ≡ k .woken
   finished : h .finished ≡ k .finished
   answer : h .answer ≡ k .answer
+  words : h .words ≡ k .words
 
 -- nor do their lengths differ, where one of each may be written
 beside-sizes : (k h : Kernel) (p : ℕ) (x : ℤ) (y : ℕ) (b c : Bool) → Beside k h
@@ -75,6 +80,7 @@ beside-sizes k h p x y b c s e f =
       references = rw f (chosen (λ (l : List ℕ). length l ≡ length (k .references)) c (λ t. length-set (k .references) p y) (λ t. refl));
       woken = ap length (s .woken);
       finished = ap length (s .finished);
+      waiting = ap (λ (w : Words). length (w .waiting)) (s .words);
     }
 
 -- to leave a place or a reference
@@ -82,9 +88,9 @@ module _ (k : Kernel) (s p : ℕ) where
   off-beside : Beside k (takenOff k s p)
   unfolding takenOff
   off-beside =
-      chosen (Beside k) (eqb s queued) (λ e. record { threads = refl; woken = refl; finished = refl; answer = refl })
-      (λ e. chosen (Beside k) (eqb s suspended) (λ f. record { threads = refl; woken = refl; finished = refl; answer = refl })
-      (λ f. record { threads = refl; woken = refl; finished = refl; answer = refl }))
+      chosen (Beside k) (eqb s queued) (λ e. record { threads = refl; woken = refl; finished = refl; answer = refl; words = refl })
+      (λ e. chosen (Beside k) (eqb s suspended) (λ f. record { threads = refl; woken = refl; finished = refl; answer = refl; words = refl })
+      (λ f. record { threads = refl; woken = refl; finished = refl; answer = refl; words = refl }))
 
   off-counters : takenOff k s p .counters ≡ cond (eqb s queued) (withCounter k p (up (counterAt k p)) .counters) (k .counters)
   unfolding takenOff
@@ -104,9 +110,9 @@ module _ (k : Kernel) (i s p : ℕ) where
   on-beside : Beside k (putOn k i s p)
   unfolding putOn
   on-beside =
-      chosen (Beside k) (eqb s queued) (λ e. record { threads = refl; woken = refl; finished = refl; answer = refl })
-      (λ e. chosen (Beside k) (eqb s suspended) (λ f. record { threads = refl; woken = refl; finished = refl; answer = refl })
-      (λ f. record { threads = refl; woken = refl; finished = refl; answer = refl }))
+      chosen (Beside k) (eqb s queued) (λ e. record { threads = refl; woken = refl; finished = refl; answer = refl; words = refl })
+      (λ e. chosen (Beside k) (eqb s suspended) (λ f. record { threads = refl; woken = refl; finished = refl; answer = refl; words = refl })
+      (λ f. record { threads = refl; woken = refl; finished = refl; answer = refl; words = refl }))
 
   on-counters : putOn k i s p .counters ≡ cond (eqb s queued) (withCounter k p (down (counterAt k p)) .counters) (k .counters)
   unfolding putOn
@@ -233,13 +239,24 @@ module _ (k : Kernel) (i : ℕ) (m : ℤ) where
   wake-sizes =
       let off = takenOff k (threadAt k i .state) (threadAt k i .place) in
       let set = withThread off i (readied (threadAt k i) m) in
+      let marked = withWoken set i in
       sizes-trans (off-sizes k (threadAt k i .state) (threadAt k i .place))
-      (sizes-trans (thread-sizes off i (readied (threadAt k i) m)) (mark-woken-sizes set i))
+      (sizes-trans (thread-sizes off i (readied (threadAt k i) m))
+      (sizes-trans (mark-woken-sizes set i)
+      (words-sizes marked (notedReady (k .words) i (threadAt k i .state) (threadAt k i .place))
+      (ready-length (k .words) i (threadAt k i .state) (threadAt k i .place)
+      ∙ ap (λ (w : Words). length (w .waiting)) (sym (off-beside k (threadAt k i .state) (threadAt k i .place) .words))))))
 
   -- nothing changes where there is no thread i
-  pub wake-past : length (k .threads) ≤ i → length (k .woken) ≤ i → woken k i m ≡ k
+  pub wake-past : length (k .threads) ≤ i → length (k .woken) ≤ i → 16 ≤ i → woken k i m ≡ k
   unfolding woken takenOff
-  wake-past h w = rw (thread-blank k i h, set-out (k .threads) i (readied blank m) h, set-out (k .woken) i true w)
+  wake-past h w l =
+      rw (thread-blank k i h, set-out (k .threads) i (readied blank m) h, set-out (k .woken) i true w, with-past (k .words .ready) i l)
+
+  -- it is noted as ready, and no more as waiting
+  pub wake-words : woken k i m .words ≡ notedReady (k .words) i (threadAt k i .state) (threadAt k i .place)
+  unfolding woken
+  wake-words = refl
 
 -- ---- to go to sleep
 
@@ -269,7 +286,10 @@ module _ (k : Kernel) (i s p : ℕ) (c : Call) where
   unfolding slept
   sleep-sizes =
       chosen (SameSizes k) (ltb i 16)
-      (λ e. sizes-trans (on-sizes k i s p) (thread-sizes (putOn k i s p) i (asleep (threadAt k i) s p c)))
+      (λ e. sizes-trans (on-sizes k i s p)
+      (sizes-trans (thread-sizes (putOn k i s p) i (asleep (threadAt k i) s p c))
+      (words-sizes (withThread (putOn k i s p) i (asleep (threadAt k i) s p c)) (notedAsleep (k .words) i s p)
+      (asleep-length (k .words) i s p ∙ ap (λ (w : Words). length (w .waiting)) (sym (on-beside k i s p .words))))))
       (λ e. sizes-refl k)
 
   -- nobody else's row changes
@@ -299,6 +319,11 @@ module _ (k : Kernel) (i s p : ℕ) (c : Call) where
     unfolding slept
     sleep-row h =
         rw (lt-ltb i 16 here, on-beside k i s p .threads) (getD-set-same (k .threads) i (asleep (threadAt k i) s p c) blank h)
+
+    -- it is noted as waiting, and no more as ready
+    pub sleep-words : slept k i s p c .words ≡ notedAsleep (k .words) i s p
+    unfolding slept
+    sleep-words = rw (lt-ltb i 16 here)
 
     -- "counter less 1 and sleep": at the place it sleeps on if queued, and nowhere else
     pub sleep-counter : (q : ℕ) → q < length (k .counters)
@@ -335,6 +360,11 @@ module _ (k : Kernel) (i : ℕ) (m : ℤ) (d : ℕ) where
   pub finish-references : finished k i m d .references ≡ k .references
   unfolding finished
   finish-references = chosen (λ (h : Kernel). h .references ≡ k .references) (eqb i nobody) (λ e. refl) (λ e. refl)
+
+  -- no word changes
+  pub finish-words : finished k i m d .words ≡ k .words
+  unfolding finished
+  finish-words = chosen (λ (h : Kernel). h .words ≡ k .words) (eqb i nobody) (λ e. refl) (λ e. refl)
 
   -- nobody is woken
   pub finish-woken : finished k i m d .woken ≡ k .woken

@@ -10,6 +10,7 @@ use lib.IntN.{ℤ, pos}
 use borrow.Author.Tests.{lt-ltb, le-ltb}
 use Rattle.kernel.specs.declared.records.Answer.{Answer}
 use Rattle.kernel.specs.declared.records.Thread.{Thread}
+use Rattle.kernel.specs.declared.records.Words.{Words}
 use Rattle.kernel.specs.declared.records.Kernel.{Kernel}
 use Rattle.kernel.specs.Numbers.{nobody}
 use Rattle.kernel.specs.Records.{blank}
@@ -24,6 +25,7 @@ use Rattle.kernel.specs.Tables.{
   withWoken,
   withFinished,
   withAnswer,
+  withWords,
 }
 use Rattle.kernel.proofs.Cases.{same-or, in-or-out}
 
@@ -50,6 +52,7 @@ pub record Sized (k : Kernel) : Type 0 where
   pub references : length (k .references) ≡ 8
   pub woken : length (k .woken) ≡ 16
   pub finished : length (k .finished) ≡ 16
+  pub waiting : length (k .words .waiting) ≡ 36
 
 -- the tables of h are as long as those of k
 pub record SameSizes (k h : Kernel) : Type 0 where
@@ -58,10 +61,11 @@ pub record SameSizes (k h : Kernel) : Type 0 where
   pub references : length (h .references) ≡ length (k .references)
   pub woken : length (h .woken) ≡ length (k .woken)
   pub finished : length (h .finished) ≡ length (k .finished)
+  pub waiting : length (h .words .waiting) ≡ length (k .words .waiting)
 
 -- lengths are the same from k to k
 pub sizes-refl : (k : Kernel) → SameSizes k k
-sizes-refl k = record { threads = refl; counters = refl; references = refl; woken = refl; finished = refl }
+sizes-refl k = record { threads = refl; counters = refl; references = refl; woken = refl; finished = refl; waiting = refl }
 
 -- .. and from step to step
 pub sizes-trans : {k h g : Kernel} → SameSizes k h → SameSizes h g → SameSizes k g
@@ -72,6 +76,7 @@ sizes-trans a b =
       references = b .references ∙ a .references;
       woken = b .woken ∙ a .woken;
       finished = b .finished ∙ a .finished;
+      waiting = b .waiting ∙ a .waiting;
     }
 
 -- tables of the same lengths are sized alike
@@ -83,32 +88,37 @@ sized-kept a s =
       references = a .references ∙ s .references;
       woken = a .woken ∙ s .woken;
       finished = a .finished ∙ s .finished;
+      waiting = a .waiting ∙ s .waiting;
     }
 
 -- every write keeps the lengths
 module _ (k : Kernel) where
   -- a thread written
   pub thread-sizes : (i : ℕ) (t : Thread) → SameSizes k (withThread k i t)
-  thread-sizes i t = record { threads = length-set (k .threads) i t; counters = refl; references = refl; woken = refl; finished = refl }
+  thread-sizes i t = record { threads = length-set (k .threads) i t; counters = refl; references = refl; woken = refl; finished = refl; waiting = refl }
 
   -- a counter written
   pub counter-sizes : (p : ℕ) (c : ℤ) → SameSizes k (withCounter k p c)
   counter-sizes p c =
-      record { threads = refl; counters = length-set (k .counters) p c; references = refl; woken = refl; finished = refl }
+      record { threads = refl; counters = length-set (k .counters) p c; references = refl; woken = refl; finished = refl; waiting = refl }
 
   -- a woken flag set
   pub mark-woken-sizes : (i : ℕ) → SameSizes k (withWoken k i)
   mark-woken-sizes i =
-      record { threads = refl; counters = refl; references = refl; woken = length-set (k .woken) i true; finished = refl }
+      record { threads = refl; counters = refl; references = refl; woken = length-set (k .woken) i true; finished = refl; waiting = refl }
 
   -- a finished flag set
   pub mark-finished-sizes : (i : ℕ) → SameSizes k (withFinished k i)
   mark-finished-sizes i =
-      record { threads = refl; counters = refl; references = refl; woken = refl; finished = length-set (k .finished) i true }
+      record { threads = refl; counters = refl; references = refl; woken = refl; finished = length-set (k .finished) i true; waiting = refl }
+
+  -- words kept
+  pub words-sizes : (w : Words) → length (w .waiting) ≡ length (k .words .waiting) → SameSizes k (withWords k w)
+  words-sizes w e = record { threads = refl; counters = refl; references = refl; woken = refl; finished = refl; waiting = e }
 
   -- an answer stored
   pub answer-sizes : (a : Answer) → SameSizes k (withAnswer k a)
-  answer-sizes a = record { threads = refl; counters = refl; references = refl; woken = refl; finished = refl }
+  answer-sizes a = record { threads = refl; counters = refl; references = refl; woken = refl; finished = refl; waiting = refl }
 
 -- threads: read at the index written, at another, and written past the end
 module _ (k : Kernel) (i : ℕ) (t : Thread) where

@@ -92,8 +92,6 @@ use Rattle.kernel.proofs.tables.holder_at.Reads as tables-holder-at
 use Rattle.kernel.proofs.tables.holder_at.Kinds as tables-holder-at-kinds
 use Rattle.kernel.proofs.tables.set_holder.Reads as tables-set-holder
 use Rattle.kernel.proofs.tables.set_holder.Kinds as tables-set-holder-kinds
-use Rattle.kernel.proofs.tables.mark_woken.Reads as tables-mark-woken
-use Rattle.kernel.proofs.tables.mark_woken.Kinds as tables-mark-woken-kinds
 use Rattle.kernel.proofs.tables.mark_finished.Reads as tables-mark-finished
 use Rattle.kernel.proofs.tables.mark_finished.Kinds as tables-mark-finished-kinds
 use Rattle.kernel.proofs.tables.set_answer.Reads as tables-set-answer
@@ -124,6 +122,20 @@ use Rattle.kernel.proofs.waiters.first_ready.Reads as waiters-first-rea
 use Rattle.kernel.proofs.waiters.first_ready.Kinds as waiters-first-ready-kinds
 use Rattle.kernel.proofs.waiters.first_waiter.Reads as waiters-first-waiter
 use Rattle.kernel.proofs.waiters.first_waiter.Kinds as waiters-first-waiter-kinds
+use Rattle.kernel.proofs.words.bit_value.Reads as words-bit-value
+use Rattle.kernel.proofs.words.bit_value.Kinds as words-bit-value-kinds
+use Rattle.kernel.proofs.words.count_in.Reads as words-count-in
+use Rattle.kernel.proofs.words.count_in.Kinds as words-count-in-kinds
+use Rattle.kernel.proofs.words.first_in.Reads as words-first-in
+use Rattle.kernel.proofs.words.first_in.Kinds as words-first-in-kinds
+use Rattle.kernel.proofs.words.fresh_words.Reads as words-fresh-words
+use Rattle.kernel.proofs.words.fresh_words.Kinds as words-fresh-words-kinds
+use Rattle.kernel.proofs.words.waiting_at.Reads as words-waiting-at
+use Rattle.kernel.proofs.words.waiting_at.Kinds as words-waiting-at-kinds
+use Rattle.kernel.proofs.words.note_ready.Reads as words-note-ready
+use Rattle.kernel.proofs.words.note_ready.Kinds as words-note-ready-kinds
+use Rattle.kernel.proofs.words.note_asleep.Reads as words-note-asleep
+use Rattle.kernel.proofs.words.note_asleep.Kinds as words-note-asleep-kinds
 
 -- what two answers both are, they are each
 pub coincide : {A : Type 0} {x y m : A} → x ≡ m → y ≡ m → x ≡ y
@@ -263,9 +275,6 @@ tables-holder-at-one κs a e x y = coincide
 pub tables-set-holder-one : Fixes 0 tables-set-holder-kinds.ps tables-set-holder-kinds.r tables-set-holder.Post
 tables-set-holder-one κs a e x y = coincide
 
-pub tables-mark-woken-one : Fixes 0 tables-mark-woken-kinds.ps tables-mark-woken-kinds.r tables-mark-woken.Post
-tables-mark-woken-one κs a e x y = coincide
-
 pub tables-mark-finished-one : Fixes 0 tables-mark-finished-kinds.ps tables-mark-finished-kinds.r tables-mark-finished.Post
 tables-mark-finished-one κs a e x y = coincide
 
@@ -310,3 +319,24 @@ waiters-first-ready-one κs a e x y = coincide
 
 pub waiters-first-waiter-one : Fixes 0 waiters-first-waiter-kinds.ps waiters-first-waiter-kinds.r waiters-first-waiter.Post
 waiters-first-waiter-one κs a e x y = coincide
+
+pub words-bit-value-one : Fixes 0 words-bit-value-kinds.ps words-bit-value-kinds.r words-bit-value.Post
+words-bit-value-one κs a e x y = coincide
+
+pub words-count-in-one : Fixes 0 words-count-in-kinds.ps words-count-in-kinds.r words-count-in.Post
+words-count-in-one κs a e x y = coincide
+
+pub words-first-in-one : Fixes 0 words-first-in-kinds.ps words-first-in-kinds.r words-first-in.Post
+words-first-in-one κs a e x y = coincide
+
+pub words-fresh-words-one : Fixes 0 words-fresh-words-kinds.ps words-fresh-words-kinds.r words-fresh-words.Post
+words-fresh-words-one κs a e x y = coincide
+
+pub words-waiting-at-one : Fixes 0 words-waiting-at-kinds.ps words-waiting-at-kinds.r words-waiting-at.Post
+words-waiting-at-one κs a e x y = coincide
+
+pub words-note-ready-one : Fixes 0 words-note-ready-kinds.ps words-note-ready-kinds.r words-note-ready.Post
+words-note-ready-one κs a e x y = coincide
+
+pub words-note-asleep-one : Fixes 0 words-note-asleep-kinds.ps words-note-asleep-kinds.r words-note-asleep.Post
+words-note-asleep-one κs a e x y = coincide

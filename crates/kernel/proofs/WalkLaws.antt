@@ -45,6 +45,13 @@ module _ (f : ℕ → Bool) (n : ℕ) where
         | inr h ↦ inr (h .0, λ i l. h .1 i (omega arith) (omega arith))
       ]
 
+-- tests that agree find the same
+pub search-agree : (f g : ℕ → Bool) (i n : ℕ) → ((j : ℕ) → i ≤ j → j < i + n → f j ≡ g j) → firstFrom f i n ≡ firstFrom g i n
+unfolding firstFrom
+search-agree f g i zero h = refl
+search-agree f g i (suc n) h =
+    rw (h i (le-refl i) (omega arith), search-agree f g (suc i) n (λ j a b. h j (omega arith) (omega arith)))
+
 -- a test counts for at most 1
 pub bit-le : (b : Bool) → bit b ≤ 1
 bit-le true = omega arith

@@ -6,6 +6,7 @@ pub mod Units
 pub mod Walk
 pub mod Records
 pub mod Tables
+pub mod Words
 pub mod Places
 pub mod Counters
 pub mod Moves

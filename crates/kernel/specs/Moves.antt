@@ -29,7 +29,9 @@ use Rattle.kernel.specs.Tables.{
   withWoken,
   withFinished,
   withAnswer,
+  withWords,
 }
+use Rattle.kernel.specs.Words.{notedReady, notedAsleep}
 
 -- ""Made ready" stores the message and sets remaining ticks to 0"; it waits "nowhere if ready"
 abbrev pub readied : Thread → ℤ → Thread
@@ -96,14 +98,20 @@ putOn k i state place =
 -- thread i is made ready with m
 unfoldable pub woken : Kernel → ℕ → ℤ → Kernel
 woken k i m =
-    withWoken
+    withWords
+    (withWoken
     (withThread (takenOff k (threadAt k i .state) (threadAt k i .place)) i (readied (threadAt k i) m))
-    i
+    i)
+    (notedReady (k .words) i (threadAt k i .state) (threadAt k i .place))
 
 -- thread i goes to sleep in a call; only a thread of the table sleeps
 unfoldable pub slept : Kernel → ℕ → ℕ → ℕ → Call → Kernel
 slept k i state place call =
-    cond (ltb i 16) (withThread (putOn k i state place) i (asleep (threadAt k i) state place call)) k
+    cond (ltb i 16)
+    (withWords
+    (withThread (putOn k i state place) i (asleep (threadAt k i) state place call))
+    (notedAsleep (k .words) i state place))
+    k
 
 -- thread i's call is finished; an interrupt has no record and no finished bit, only its answer
 unfoldable pub finished : Kernel → ℕ → ℤ → ℕ → Kernel

@@ -6,6 +6,7 @@ use lib.IntN.{pos}
 use Rattle.kernel.specs.declared.records.Call.{Call}
 use Rattle.kernel.specs.declared.records.Answer.{Answer}
 use Rattle.kernel.specs.declared.records.Thread.{Thread}
+use Rattle.kernel.specs.declared.records.Words.{Words}
 use Rattle.kernel.specs.declared.records.Records.{Records}
 use Rattle.kernel.specs.declared.records.Kernel.{Kernel}
 use Rattle.kernel.specs.Numbers.{nobody, nowhere, ready}
@@ -31,13 +32,14 @@ blank =
       answer = noAnswer;
     }
 
--- ".. references .. empty"
-abbrev pub freshRecords : Records
-freshRecords =
+-- ".. references .. empty", with these words
+abbrev pub freshRecords : Words → Records
+freshRecords w =
     record {
       threads = replicate 16 blank;
       counters = replicate 36 (pos 0);
       references = replicate 8 nobody;
+      words = w;
     }
 
 -- a step begins with nobody woken and no call finished
@@ -50,8 +52,9 @@ begun r =
       woken = replicate 16 false;
       finished = replicate 16 false;
       answer = noAnswer;
+      words = r .words;
     }
 
 -- what a step leaves
 abbrev pub ended : Kernel → Records
-ended k = record { threads = k .threads; counters = k .counters; references = k .references }
+ended k = record { threads = k .threads; counters = k .counters; references = k .references; words = k .words }

@@ -6,6 +6,7 @@ use lib.ListN.{getD, set}
 use lib.IntN.{ℤ, pos}
 use Rattle.kernel.specs.declared.records.Answer.{Answer}
 use Rattle.kernel.specs.declared.records.Thread.{Thread}
+use Rattle.kernel.specs.declared.records.Words.{Words}
 use Rattle.kernel.specs.declared.records.Kernel.{Kernel}
 use Rattle.kernel.specs.Numbers.{nobody}
 use Rattle.kernel.specs.Records.{blank}
@@ -33,6 +34,7 @@ withThread k i t =
       woken = k .woken;
       finished = k .finished;
       answer = k .answer;
+      words = k .words;
     }
 
 abbrev pub withCounter : Kernel → ℕ → ℤ → Kernel
@@ -44,6 +46,7 @@ withCounter k p c =
       woken = k .woken;
       finished = k .finished;
       answer = k .answer;
+      words = k .words;
     }
 
 abbrev pub withHolder : Kernel → ℕ → ℕ → Kernel
@@ -55,6 +58,7 @@ withHolder k r i =
       woken = k .woken;
       finished = k .finished;
       answer = k .answer;
+      words = k .words;
     }
 
 abbrev pub withWoken : Kernel → ℕ → Kernel
@@ -66,6 +70,7 @@ withWoken k i =
       woken = set (k .woken) i true;
       finished = k .finished;
       answer = k .answer;
+      words = k .words;
     }
 
 abbrev pub withFinished : Kernel → ℕ → Kernel
@@ -77,6 +82,7 @@ withFinished k i =
       woken = k .woken;
       finished = set (k .finished) i true;
       answer = k .answer;
+      words = k .words;
     }
 
 abbrev pub withAnswer : Kernel → Answer → Kernel
@@ -88,4 +94,17 @@ withAnswer k a =
       woken = k .woken;
       finished = k .finished;
       answer = a;
+      words = k .words;
+    }
+
+abbrev pub withWords : Kernel → Words → Kernel
+withWords k w =
+    record {
+      threads = k .threads;
+      counters = k .counters;
+      references = k .references;
+      woken = k .woken;
+      finished = k .finished;
+      answer = k .answer;
+      words = w;
     }

@@ -18,3 +18,4 @@ pub mod ticking;
 pub mod time;
 pub mod units;
 pub mod waiters;
+pub mod words;

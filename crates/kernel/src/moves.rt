@@ -1,5 +1,6 @@
 // The two moves, and the end of a call. A thread is made ready in one way, `wake`, and goes to sleep in one way, `sleep`:
 // every operation finds a thread and makes one of these moves, so a wait begins and ends here and nowhere else.
+// They store what they change where it lies: each further call over whole tables would copy them, and a tick may make 16 moves.
 use crate::counters::count_down;
 use crate::counters::count_up;
 use crate::kinds::KEPT_EVENT_WAIT;
@@ -20,12 +21,13 @@ use crate::records::no_answer;
 use crate::records::no_call;
 use crate::tables::counter_at;
 use crate::tables::mark_finished;
-use crate::tables::mark_woken;
 use crate::tables::set_answer;
 use crate::tables::set_counter;
 use crate::tables::set_holder;
 use crate::tables::set_thread;
 use crate::tables::thread_at;
+use crate::words::note_asleep;
+use crate::words::note_ready;
 ghost use mathlib.Core.Path.{_≡_};
 ghost use Rattle.kernel.specs.Moves.{readied, ticksOf, awaitedBy, asleep, answered, takenOff, putOn, woken, slept, finished, blocked};
 
@@ -117,9 +119,16 @@ pub fn wake(k: Kernel, i: u8, m: i32) -> Kernel
     ensures { λ r. ⌜ r ≡ woken k i m ⌝ }
 {
     let t = thread_at(k, i);
-    let off = take_off(k, t.state, t.place);
-    let set = set_thread(off, i, ready_row(t, m));
-    mark_woken(set, i)
+    let words = k.words;
+    let noted = note_ready(words, i, t.state, t.place);
+    let mut r = take_off(k, t.state, t.place);
+    let at = i as usize;
+    if at < 16 {
+        r.threads[at] = ready_row(t, m);
+        r.woken[at] = true;
+        r.words = noted;
+    }
+    r
 }
 
 // Thread i goes to sleep in a call; nothing changes where there is no thread i.
@@ -127,9 +136,14 @@ pub fn sleep(k: Kernel, i: u8, state: u16, place: u16, call: Call) -> Kernel
     ensures { λ r. ⌜ r ≡ slept k i state place call ⌝ }
 {
     if i < THREADS {
-        let t = thread_at(k, i);
-        let on = put_on(k, i, state, place);
-        set_thread(on, i, sleeping_row(t, state, place, call))
+        let at = i as usize;
+        let t = k.threads[at];
+        let words = k.words;
+        let noted = note_asleep(words, i, state, place);
+        let mut r = put_on(k, i, state, place);
+        r.threads[at] = sleeping_row(t, state, place, call);
+        r.words = noted;
+        r
     } else {
         k
     }

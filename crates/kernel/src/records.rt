@@ -36,16 +36,28 @@ pub struct Thread {
     pub answer: Answer,
 }
 
+// Who is ready, and who waits at each place: bit i of a word stands for thread i.
+// `unused` fills the records up to a multiple of 4 bytes; it may hold anything, and keeps it.
+#[repr(C)]
+pub struct Words {
+    pub ready: u16,
+    pub waiting: [u16; 36],
+    pub unused: u16,
+}
+
 // What a host keeps between two steps. A reference holds a thread's number, or NOBODY.
 #[repr(C)]
 pub struct Records {
     pub threads: [Thread; 16],
     pub counters: [i32; 36],
     pub references: [u8; 8],
+    pub words: Words,
 }
 
 // The kernel at work on one step: the records, who was woken, whose calls finished, and the answer of an interrupt's own call.
+// The words stand first, so that the compiler copies what follows them in one piece.
 pub struct Kernel {
+    pub words: Words,
     pub threads: [Thread; 16],
     pub counters: [i32; 36],
     pub references: [u8; 8],
@@ -92,9 +104,9 @@ pub fn blank_thread() -> Thread
     }
 }
 
-// All threads ready, all references empty, all else 0.
-pub fn fresh() -> Records
-    ensures { λ r. ⌜ r ≡ freshRecords ⌝ }
+// All threads ready, all references empty, all else 0; the words are those of so many threads as there are.
+pub fn fresh(words: Words) -> Records
+    ensures { λ r. ⌜ r ≡ freshRecords words ⌝ }
 {
     let t = blank_thread();
     let threads = [t; 16];
@@ -104,6 +116,7 @@ pub fn fresh() -> Records
         threads: threads,
         counters: counters,
         references: references,
+        words: words,
     }
 }
 
@@ -117,6 +130,7 @@ pub fn begin(r: Records) -> Kernel
     let woken = [false; 16];
     let finished = [false; 16];
     let answer = no_answer();
+    let words = r.words;
     Kernel {
         threads: threads,
         counters: counters,
@@ -124,6 +138,7 @@ pub fn begin(r: Records) -> Kernel
         woken: woken,
         finished: finished,
         answer: answer,
+        words: words,
     }
 }
 
@@ -134,9 +149,11 @@ pub fn end(k: Kernel) -> Records
     let threads = k.threads;
     let counters = k.counters;
     let references = k.references;
+    let words = k.words;
     Records {
         threads: threads,
         counters: counters,
         references: references,
+        words: words,
     }
 }

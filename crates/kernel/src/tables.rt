@@ -1,5 +1,5 @@
 // One accessor pair for each table. Past a table's end a read gives the blank, and a write changes nothing;
-// so no caller ever meets a length. Outside this file only loops over rows index a table.
+// so no caller ever meets a length. Outside this file only loops over rows and the two moves index a table.
 use crate::numbers::NOBODY;
 use crate::numbers::THREADS;
 use crate::records::Answer;
@@ -8,7 +8,7 @@ use crate::records::Thread;
 use crate::records::blank_thread;
 ghost use mathlib.Core.Path.{_≡_};
 ghost use mathlib.Core.Bool.{true};
-ghost use Rattle.kernel.specs.Tables.{usedRows, threadAt, counterAt, holderAt, withThread, withCounter, withHolder, withWoken, withFinished, withAnswer};
+ghost use Rattle.kernel.specs.Tables.{usedRows, threadAt, counterAt, holderAt, withThread, withCounter, withHolder, withFinished, withAnswer};
 
 // How many of n threads have a row.
 pub fn used_rows(n: u16) -> u8
@@ -72,18 +72,6 @@ pub fn set_holder(k: Kernel, reference: u16, i: u8) -> Kernel
     let mut r = k;
     if at < 8 {
         r.references[at] = i;
-    }
-    r
-}
-
-// Thread i was made ready in this step.
-pub fn mark_woken(k: Kernel, i: u8) -> Kernel
-    ensures { λ r. ⌜ r ≡ withWoken k i ⌝ }
-{
-    let at = i as usize;
-    let mut r = k;
-    if at < 16 {
-        r.woken[at] = true;
     }
     r
 }

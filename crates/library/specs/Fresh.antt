@@ -6,6 +6,7 @@ use Rattle.kernel.specs.declared.clock.Clock.{Clock}
 use Rattle.kernel.specs.declared.units.Rate.{Rate}
 use Rattle.kernel.specs.Records.{freshRecords}
 use Rattle.kernel.specs.Units.{frequencyOf, frequencyFits}
+use Rattle.kernel.specs.Words.{freshWords}
 use Rattle.library.specs.declared.sizes.Sizes.{Sizes}
 use Rattle.library.specs.declared.tables.Tables.{Tables}
 use Rattle.library.specs.declared.fresh.Made.{Made}
@@ -15,7 +16,7 @@ use Rattle.library.specs.Tables.{blankMailbox, blankPool}
 abbrev pub freshTables : Sizes → Tables
 freshTables z =
     record {
-      kernel = freshRecords;
+      kernel = freshRecords (freshWords (z .threads));
       mailboxes = replicate 4 blankMailbox;
       pools = replicate 4 blankPool;
       sizes = z;

@@ -1,4 +1,4 @@
-// Fresh tables: all threads ready, references and mailboxes empty, pool objects absent, all else 0.
+// Fresh tables: all threads ready, as the ready word says; references and mailboxes empty, pool objects absent, all else 0.
 use crate::sizes::Sizes;
 use crate::sizes::no_sizes;
 use crate::sizes::sizes_fit;
@@ -10,6 +10,7 @@ use kernel::time::SystemTime;
 use kernel::units::Rate;
 use kernel::units::frequency_fits;
 use kernel::units::frequency_of;
+use kernel::words::fresh_words;
 ghost use mathlib.Core.Path.{_≡_};
 ghost use Rattle.library.specs.Fresh.{freshTables, freshClock, notMade, made};
 
@@ -23,7 +24,8 @@ pub struct Made {
 fn tables_of(sizes: Sizes) -> Tables
     ensures { λ r. ⌜ r ≡ freshTables sizes ⌝ }
 {
-    let kernel = kernel::records::fresh();
+    let words = fresh_words(sizes.threads);
+    let kernel = kernel::records::fresh(words);
     let b = blank_mailbox();
     let x = blank_pool();
     let mailboxes = [b; 4];

@@ -44,7 +44,7 @@ pub(crate) fn pool_in(pools: [Pool; 4], i: u16) -> Pool {
 }
 
 // A place of the table of counters: s, p, q, w (writers) or f (readers), and the object's number.
-fn queued_at(place: u16) -> u64 {
+pub(crate) fn queued_at(place: u16) -> u64 {
     if place < 16 {
         lettered(b's', place)
     } else if place < 20 {

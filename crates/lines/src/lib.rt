@@ -3,6 +3,7 @@
 mod fields;
 mod rows;
 mod text;
+mod words;
 
 use crate::rows::put_tables;
 use crate::text::end_row;

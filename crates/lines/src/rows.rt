@@ -1,4 +1,4 @@
-// All tables and the clock in print, rows within the sizes only. One loop goes through the tables and one through a table's rows.
+// All tables, the words and the clock in print, rows within the sizes only. One loop goes through the tables, one through a table's rows.
 use crate::fields::calling_of;
 use crate::fields::counter_in;
 use crate::fields::holder_in;
@@ -11,7 +11,13 @@ use crate::fields::thread_in;
 use crate::fields::waiting_of;
 use crate::text::put_row;
 use crate::text::signed;
+use crate::words::put_ready;
+use crate::words::put_sides;
+use crate::words::put_waiting;
 use kernel::clock::Clock;
+use kernel::places::pool_place;
+use kernel::places::queue_place;
+use kernel::places::semaphore_place;
 use library::sizes::Sizes;
 use library::sizes::slots_at;
 use library::tables::Pool;
@@ -29,6 +35,17 @@ const REFERENCES: u8 = 3;
 const MAILBOXES: u8 = 4;
 
 const POOLS: u8 = 5;
+
+// The words, by the objects that have them: one row for who is ready, then a row or two an object.
+const READY_WORD: u8 = 6;
+
+const SEMAPHORE_WORDS: u8 = 7;
+
+const QUEUE_WORDS: u8 = 8;
+
+const MAILBOX_WORDS: u8 = 9;
+
+const POOL_WORDS: u8 = 10;
 
 fn put_thread(out: &mut [u8], at: usize, i: u16, t: Tables) -> usize {
     let k = t.kernel;
@@ -105,7 +122,12 @@ fn put_one(out: &mut [u8], at: usize, t: Tables, table: u8, i: u16) -> usize {
         QUEUES => put_counter(out, at, b"queue", i, counter_of(t, 20, i)),
         REFERENCES => put_reference(out, at, i, t),
         MAILBOXES => put_mailbox(out, at, i, t),
-        _ => put_pool(out, at, i, t),
+        POOLS => put_pool(out, at, i, t),
+        READY_WORD => put_ready(out, at, t),
+        SEMAPHORE_WORDS => put_waiting(out, at, t, semaphore_place(i)),
+        QUEUE_WORDS => put_waiting(out, at, t, queue_place(i)),
+        MAILBOX_WORDS => put_sides(out, at, t, i),
+        _ => put_waiting(out, at, t, pool_place(i)),
     }
 }
 
@@ -117,6 +139,11 @@ fn rows_of(sizes: Sizes, table: u8) -> u16 {
         QUEUES => sizes.queues,
         REFERENCES => sizes.references,
         MAILBOXES => sizes.mailboxes,
+        POOLS => sizes.pools,
+        READY_WORD => 1,
+        SEMAPHORE_WORDS => sizes.semaphores,
+        QUEUE_WORDS => sizes.queues,
+        MAILBOX_WORDS => sizes.mailboxes,
         _ => sizes.pools,
     }
 }
@@ -143,7 +170,7 @@ fn put_clock(out: &mut [u8], at: usize, clock: Clock) -> usize {
 pub(crate) fn put_tables(out: &mut [u8], at: usize, t: Tables, clock: Clock) -> usize {
     let mut end = at;
     let mut table = THREADS;
-    while table <= POOLS {
+    while table <= POOL_WORDS {
         end = put_rows(out, end, t, table);
         table += 1;
     }

@@ -5,6 +5,7 @@ pub mod Accepting
 pub mod Holds
 pub mod ReferenceRule
 pub mod Rows
+pub mod WordRule
 pub mod Chain
 pub mod Moving
 pub mod RingKept

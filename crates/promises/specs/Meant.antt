@@ -7,7 +7,9 @@ pub mod Reader
 pub mod Writer
 pub mod Encoding
 pub mod Boundary
+pub mod Words
 pub mod Together
+pub mod Screen
 pub mod Refusals
 pub mod Masks
 pub mod Clock

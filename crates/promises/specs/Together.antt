@@ -4,4 +4,5 @@ pub mod Good
 pub mod RowTests
 pub mod PlaceTests
 pub mod BoxTests
+pub mod WordTests
 pub mod Hanging

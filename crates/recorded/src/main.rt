@@ -159,6 +159,6 @@ fn main() {
         tote-pool.trace ",
         false,
     );
-    show(b"whole-line.trace", true);
+    show_all(b"whole-line.trace words-on-the-screen.trace ", true);
     write_all_cases();
 }

@@ -26,6 +26,7 @@ use Rattle.rules.specs.PlaceRules.{placeAgrees, countersFit}
 use Rattle.rules.specs.ReferenceRules.{holderFits, referencesFit}
 use Rattle.rules.specs.MailboxRules.{mailboxFits, mailboxesFit}
 use Rattle.rules.specs.PoolRules.{poolAgrees, poolsFit}
+use Rattle.rules.specs.WordRules.{readyFits, wordAgrees, waitingFits, wordsFit}
 use Rattle.rules.specs.Hanging.{runningFree, hangsTogether}
 use Rattle.rules.specs.Finding.{wholly, rowKeeps, badRow, badRunning, badAt, isKept, brokenAs, broken}
 use Rattle.rules.proofs.HangingLaws.{none-fails, none-bad, used-of-le}
@@ -35,24 +36,24 @@ abbrev pub breaks : Plant → Clock → ℕ → Bool
 breaks p clock rule = not (isKept p clock rule)
 
 -- a search that has come to a rule; row is what the code found of it
-module _ (p : Plant) (clock : Clock) (rule row : ℕ) (within : rule < 13) (meant : row ≡ badAt p clock rule)
-    (so-far : firstFrom (breaks p clock) 1 12 ≡ firstFrom (breaks p clock) rule (13 - rule)) where
+module _ (p : Plant) (clock : Clock) (rule row : ℕ) (within : rule < 15) (meant : row ≡ badAt p clock rule)
+    (so-far : firstFrom (breaks p clock) 1 14 ≡ firstFrom (breaks p clock) rule (15 - rule)) where
   pub breaks-here : (row ≡ nobody → ⊥) → record { rule = rule; row = row } ≡ broken p clock
   unfolding broken
   breaks-here some =
       let is : breaks p clock rule ≡ true = rw (ne-eqb (badAt p clock rule) nobody (λ e. some (meant ∙ e))) in
-      rw (so-far ∙ first-here (breaks p clock) rule 13 within is, ne-eqb rule nobody (λ e. omega arith), meant)
+      rw (so-far ∙ first-here (breaks p clock) rule 15 within is, ne-eqb rule nobody (λ e. omega arith), meant)
 
-  pub breaks-later : row ≡ nobody → firstFrom (breaks p clock) 1 12 ≡ firstFrom (breaks p clock) (rule + 1) (13 - (rule + 1))
+  pub breaks-later : row ≡ nobody → firstFrom (breaks p clock) 1 14 ≡ firstFrom (breaks p clock) (rule + 1) (15 - (rule + 1))
   breaks-later none =
       let is : breaks p clock rule ≡ false = rw (eq-eqb (badAt p clock rule) nobody (sym meant ∙ none)) in
-      so-far ∙ first-next (breaks p clock) rule 13 within is
+      so-far ∙ first-next (breaks p clock) rule 15 within is
 
 -- .. and that has come past them all
-pub breaks-nowhere : (p : Plant) (clock : Clock) (rule : ℕ) → 13 ≤ rule
-    → firstFrom (breaks p clock) 1 12 ≡ firstFrom (breaks p clock) rule (13 - rule) → record { rule = 0; row = 0 } ≡ broken p clock
+pub breaks-nowhere : (p : Plant) (clock : Clock) (rule : ℕ) → 15 ≤ rule
+    → firstFrom (breaks p clock) 1 14 ≡ firstFrom (breaks p clock) rule (15 - rule) → record { rule = 0; row = 0 } ≡ broken p clock
 unfolding broken
-breaks-nowhere p clock rule past so-far = rw (so-far ∙ first-none (breaks p clock) rule 13 past)
+breaks-nowhere p clock rule past so-far = rw (so-far ∙ first-none (breaks p clock) rule 15 past)
 
 -- two tests with the same consequences are the same
 same-tests : (a b : Bool) → (a ≡ true → b ≡ true) → (b ≡ true → a ≡ true) → a ≡ b
@@ -81,21 +82,21 @@ at-least f i (suc n) h l =
     (λ e. rw e (let later = at-least f (suc i) n (omega arith) (omega arith) in omega arith))
 
 -- no rule is found broken exactly if each is kept
-none-broken : (p : Plant) (clock : Clock) → eqb (broken p clock .rule) 0 ≡ allFrom (isKept p clock) 1 12
+none-broken : (p : Plant) (clock : Clock) → eqb (broken p clock .rule) 0 ≡ allFrom (isKept p clock) 1 14
 unfolding broken
 none-broken p clock =
-    let first = firstFrom (breaks p clock) 1 12 in
-    let least : 1 ≤ first = at-least (breaks p clock) 1 12 (omega arith) (omega arith) in
+    let first = firstFrom (breaks p clock) 1 14 in
+    let least : 1 ≤ first = at-least (breaks p clock) 1 14 (omega arith) (omega arith) in
     split (eqb first nobody)
-    (λ e. rw e (sym e ∙ none-fails (isKept p clock) 1 12 (omega arith)))
-    (λ e. rw e (ne-eqb first 0 (λ q. omega arith) ∙ sym e ∙ none-fails (isKept p clock) 1 12 (omega arith)))
+    (λ e. rw e (sym e ∙ none-fails (isKept p clock) 1 14 (omega arith)))
+    (λ e. rw e (ne-eqb first 0 (λ q. omega arith) ∙ sym e ∙ none-fails (isKept p clock) 1 14 (omega arith)))
 
 -- no rule has no row
 pub no-rule-no-row : (p : Plant) (clock : Clock) → broken p clock .rule ≡ 0 → broken p clock .row ≡ 0
 unfolding broken
 no-rule-no-row p clock =
-    let first = firstFrom (breaks p clock) 1 12 in
-    let least : 1 ≤ first = at-least (breaks p clock) 1 12 (omega arith) (omega arith) in
+    let first = firstFrom (breaks p clock) 1 14 in
+    let least : 1 ≤ first = at-least (breaks p clock) 1 14 (omega arith) (omega arith) in
     split (eqb first nobody) (λ e. rw e (λ none. refl)) (λ e. rw e (λ none. absurd (omega arith)))
 
 module _ (p : Plant) (clock : Clock) where
@@ -127,10 +128,10 @@ each : {a b c d : Bool} → a ≡ b → c ≡ d → a && c ≡ b && d
 each e f = rw (e, f)
 
 -- the paper's order of the rules, and the order in which they are tested
-reordered : (s f c r m q t a w v n u : Bool)
-    → s && (f && (c && (r && (m && (q && (t && (a && (w && (v && (n && (u && true)))))))))))
-    ≡ s && (f && ((a && (w && (t && (v && n)))) && (c && (r && (m && (q && u))))))
-reordered s f c r m q t a w v n u =
+reordered : (s f c r m q t a w v n u x y : Bool)
+    → s && (f && (c && (r && (m && (q && (t && (a && (w && (v && (n && (u && (x && (y && true)))))))))))))
+    ≡ s && (f && ((a && (w && (t && (v && n)))) && (c && (r && (m && (q && (u && (x && y))))))))
+reordered s f c r m q t a w v n u x y =
     same-tests _ _
     (λ h.
     let h1 = both-means s _ h in
@@ -145,7 +146,9 @@ reordered s f c r m q t a w v n u =
     let h10 = both-means v _ (h9 .1) in
     let h11 = both-means n _ (h10 .1) in
     let h12 = both-means u _ (h11 .1) in
-    rw (h1 .0, h2 .0, h3 .0, h4 .0, h5 .0, h6 .0, h7 .0, h8 .0, h9 .0, h10 .0, h11 .0, h12 .0))
+    let h13 = both-means x _ (h12 .1) in
+    let h14 = both-means y _ (h13 .1) in
+    rw (h1 .0, h2 .0, h3 .0, h4 .0, h5 .0, h6 .0, h7 .0, h8 .0, h9 .0, h10 .0, h11 .0, h12 .0, h13 .0, h14 .0))
     (λ h.
     let h1 = both-means s _ h in
     let h2 = both-means f _ (h1 .1) in
@@ -157,7 +160,9 @@ reordered s f c r m q t a w v n u =
     let h4 = both-means c _ (h3 .1) in
     let h5 = both-means r _ (h4 .1) in
     let h6 = both-means m _ (h5 .1) in
-    let h7 = both-means q u (h6 .1) in
+    let h7 = both-means q _ (h6 .1) in
+    let running = both-means u _ (h7 .1) in
+    let words = both-means x y (running .1) in
     rw (
       h1 .0,
       h2 .0,
@@ -170,7 +175,9 @@ reordered s f c r m q t a w v n u =
       wait .0,
       flags .0,
       flags .1,
-      h7 .1,
+      running .0,
+      words .0,
+      words .1,
     ))
 
 -- 0 is the number of the broken rule exactly where the tables hang together: those of a host, whose lists have their tables' lengths
@@ -201,6 +208,14 @@ module _ (p : Plant) (clock : Clock) (sized : length (p .kernel .threads) ≡ 16
   unfolding badAt poolsFit
   pools-kept = let few = used-of-le _ 4 (p .sizes .pools) refl in none-bad (poolAgrees p) _ _ (omega arith) refl
 
+  ready-kept : isKept p clock 13 ≡ readyFits (p .kernel) (p .sizes .threads)
+  unfolding badAt
+  ready-kept = whole-kept p clock (readyFits (p .kernel) (p .sizes .threads))
+
+  waiting-kept : isKept p clock 14 ≡ waitingFits (p .kernel) (p .sizes)
+  unfolding badAt waitingFits
+  waiting-kept = none-bad (wordAgrees (p .kernel) (p .sizes)) 36 _ (omega arith) refl
+
   -- a record's rules are 8, 9, 7, 10 and 11
   records-kept : rowsFit (p .kernel) (p .sizes)
       ≡ all-keep p clock 8 && (all-keep p clock 9 && (all-keep p clock 7 && (all-keep p clock 10 && all-keep p clock 11)))
@@ -218,7 +233,7 @@ module _ (p : Plant) (clock : Clock) (sized : length (p .kernel .threads) ≡ 16
       (all-both (λ i. awaitedFit (row i)) (λ i. nonePending (row i)) 0 n)))
 
   -- each rule that is kept, of tables that hang together or not
-  all-kept : allFrom (isKept p clock) 1 12
+  all-kept : allFrom (isKept p clock) 1 14
       ≡ sizesFit (p .sizes)
       && (frequencyFits (clock .frequency)
       && (countersFit (p .kernel) (p .sizes)
@@ -229,7 +244,9 @@ module _ (p : Plant) (clock : Clock) (sized : length (p .kernel .threads) ≡ 16
       && (all-keep p clock 8
       && (all-keep p clock 9
       && (all-keep p clock 10
-      && (all-keep p clock 11 && (runningFree (p .kernel) (p .sizes .threads) && true)))))))))))
+      && (all-keep p clock 11
+      && (runningFree (p .kernel) (p .sizes .threads)
+      && (readyFits (p .kernel) (p .sizes .threads) && (waitingFits (p .kernel) (p .sizes) && true)))))))))))))
   unfolding allFrom badAt
   all-kept =
       each sizes-kept
@@ -242,14 +259,16 @@ module _ (p : Plant) (clock : Clock) (sized : length (p .kernel .threads) ≡ 16
       (each (rows-kept p clock 8)
       (each (rows-kept p clock 9)
       (each (rows-kept p clock 10)
-      (each (rows-kept p clock 11) (each (running-kept p clock sized) refl)))))))))))
+      (each (rows-kept p clock 11)
+      (each (running-kept p clock sized) (each ready-kept (each waiting-kept refl)))))))))))))
 
   pub rule-none : eqb (broken p clock .rule) 0 ≡ hangsTogether p clock
-  unfolding hangsTogether
+  unfolding hangsTogether wordsFit
   rule-none =
       rw records-kept
       (none-broken p clock
       ∙ all-kept
       ∙ reordered (sizesFit (p .sizes)) (frequencyFits (clock .frequency)) (countersFit (p .kernel) (p .sizes))
       (referencesFit (p .kernel) (p .sizes)) (mailboxesFit p) (poolsFit p) (all-keep p clock 7) (all-keep p clock 8)
-      (all-keep p clock 9) (all-keep p clock 10) (all-keep p clock 11) (runningFree (p .kernel) (p .sizes .threads)))
+      (all-keep p clock 9) (all-keep p clock 10) (all-keep p clock 11) (runningFree (p .kernel) (p .sizes .threads))
+      (readyFits (p .kernel) (p .sizes .threads)) (waitingFits (p .kernel) (p .sizes)))

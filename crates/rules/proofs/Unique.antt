@@ -37,6 +37,16 @@ use Rattle.rules.proofs.row_rules.ticks_fit.Reads as row-rules-ticks-fi
 use Rattle.rules.proofs.row_rules.ticks_fit.Kinds as row-rules-ticks-fit-kinds
 use Rattle.rules.proofs.row_rules.wait_fits.Reads as row-rules-wait-fits
 use Rattle.rules.proofs.row_rules.wait_fits.Kinds as row-rules-wait-fits-kinds
+use Rattle.rules.proofs.place_rules.in_use.Reads as place-rules-in-use
+use Rattle.rules.proofs.place_rules.in_use.Kinds as place-rules-in-use-kinds
+use Rattle.rules.proofs.place_rules.queue_of.Reads as place-rules-queue-of
+use Rattle.rules.proofs.place_rules.queue_of.Kinds as place-rules-queue-of-kinds
+use Rattle.rules.proofs.word_rules.ready_fits.Reads as word-rules-ready-fits
+use Rattle.rules.proofs.word_rules.ready_fits.Kinds as word-rules-ready-fits-kinds
+use Rattle.rules.proofs.word_rules.first_bad_word.Reads as word-rules-first-bad-word
+use Rattle.rules.proofs.word_rules.first_bad_word.Kinds as word-rules-first-bad-word-kinds
+use Rattle.rules.proofs.word_rules.words_fit.Reads as word-rules-words-fit
+use Rattle.rules.proofs.word_rules.words_fit.Kinds as word-rules-words-fit-kinds
 
 pub finding-find-broken-one : Fixes 0 finding-find-broken-kinds.ps finding-find-broken-kinds.r finding-find-broken.Post
 finding-find-broken-one κs a e x y = coincide
@@ -91,3 +101,18 @@ row-rules-ticks-fit-one κs a e x y = coincide
 
 pub row-rules-wait-fits-one : Fixes 0 row-rules-wait-fits-kinds.ps row-rules-wait-fits-kinds.r row-rules-wait-fits.Post
 row-rules-wait-fits-one κs a e x y = coincide
+
+pub place-rules-in-use-one : Fixes 0 place-rules-in-use-kinds.ps place-rules-in-use-kinds.r place-rules-in-use.Post
+place-rules-in-use-one κs a e x y = coincide
+
+pub place-rules-queue-of-one : Fixes 0 place-rules-queue-of-kinds.ps place-rules-queue-of-kinds.r place-rules-queue-of.Post
+place-rules-queue-of-one κs a e x y = coincide
+
+pub word-rules-ready-fits-one : Fixes 0 word-rules-ready-fits-kinds.ps word-rules-ready-fits-kinds.r word-rules-ready-fits.Post
+word-rules-ready-fits-one κs a e x y = coincide
+
+pub word-rules-first-bad-word-one : Fixes 0 word-rules-first-bad-word-kinds.ps word-rules-first-bad-word-kinds.r word-rules-first-bad-word.Post
+word-rules-first-bad-word-one κs a e x y = coincide
+
+pub word-rules-words-fit-one : Fixes 0 word-rules-words-fit-kinds.ps word-rules-words-fit-kinds.r word-rules-words-fit.Post
+word-rules-words-fit-one κs a e x y = coincide

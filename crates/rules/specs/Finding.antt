@@ -21,6 +21,7 @@ use Rattle.rules.specs.PlaceRules.{badPlace}
 use Rattle.rules.specs.ReferenceRules.{badReference}
 use Rattle.rules.specs.MailboxRules.{badMailbox}
 use Rattle.rules.specs.PoolRules.{badPool}
+use Rattle.rules.specs.WordRules.{readyFits, badWord}
 use Rattle.rules.specs.Hanging.{runningFree}
 
 -- a rule about the tables as a whole has one row, 0
@@ -51,7 +52,9 @@ badAt p clock rule =
     (cond (eqb rule 4) (badReference (p .kernel) (p .sizes))
     (cond (eqb rule 5) (badMailbox p)
     (cond (eqb rule 6) (badPool p)
-    (cond (eqb rule 12) (badRunning (p .kernel) (p .sizes .threads)) (badRow (p .kernel) (p .sizes) rule)))))))
+    (cond (eqb rule 12) (badRunning (p .kernel) (p .sizes .threads))
+    (cond (eqb rule 13) (wholly (readyFits (p .kernel) (p .sizes .threads)))
+    (cond (eqb rule 14) (badWord (p .kernel) (p .sizes)) (badRow (p .kernel) (p .sizes) rule)))))))))
 
 -- whether no row breaks a rule
 abbrev pub isKept : Plant → Clock → ℕ → Bool
@@ -62,6 +65,6 @@ abbrev pub brokenAs : Plant → Clock → ℕ → Broken
 brokenAs p clock rule =
     cond (eqb rule nobody) (record { rule = 0; row = 0 }) (record { rule = rule; row = badAt p clock rule })
 
--- the first of the rules 1 to 12 that is broken
+-- the first of the rules 1 to 14 that is broken
 unfoldable pub broken : Plant → Clock → Broken
-broken p clock = brokenAs p clock (firstFrom (λ rule. not (isKept p clock rule)) 1 12)
+broken p clock = brokenAs p clock (firstFrom (λ rule. not (isKept p clock rule)) 1 14)

@@ -1,4 +1,4 @@
--- Whether tables hang together: document 01's section of that name, in its parts.
+-- Whether tables hang together: document 01's section of that name, in its parts, and the words of document 02.
 use Prim.Native.Nat.{ℕ}
 use mathlib.Core.Bool.{Bool, _&&_}
 use lib.Dec.{eqb}
@@ -14,6 +14,7 @@ use Rattle.rules.specs.PlaceRules.{countersFit}
 use Rattle.rules.specs.ReferenceRules.{referencesFit}
 use Rattle.rules.specs.MailboxRules.{mailboxesFit}
 use Rattle.rules.specs.PoolRules.{poolsFit}
+use Rattle.rules.specs.WordRules.{wordsFit}
 
 -- "The running thread has no unfinished call"
 unfoldable pub runningFree : Kernel → ℕ → Bool
@@ -27,4 +28,5 @@ hangsTogether p clock =
     && (rowsFit (p .kernel) (p .sizes)
     && (countersFit (p .kernel) (p .sizes)
     && (referencesFit (p .kernel) (p .sizes)
-    && (mailboxesFit p && (poolsFit p && runningFree (p .kernel) (p .sizes .threads)))))))
+    && (mailboxesFit p
+    && (poolsFit p && (runningFree (p .kernel) (p .sizes .threads) && wordsFit (p .kernel) (p .sizes))))))))

@@ -5,5 +5,6 @@ pub mod PlaceRules
 pub mod ReferenceRules
 pub mod MailboxRules
 pub mod PoolRules
+pub mod WordRules
 pub mod Hanging
 pub mod Finding

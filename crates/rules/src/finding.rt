@@ -1,5 +1,5 @@
 // Which rule of "tables that hang together" is broken first, and where. The rules have the numbers of docs/RULES.md, in the order
-// of document 01's section.
+// of document 01's section, and then document 02's.
 use crate::hanging::running_free;
 use crate::limits::NO_ROW;
 use crate::mailbox_rules::first_bad_mailbox;
@@ -11,6 +11,8 @@ use crate::row_rules::call_fits;
 use crate::row_rules::none_pending;
 use crate::row_rules::ticks_fit;
 use crate::row_rules::wait_fits;
+use crate::word_rules::first_bad_word;
+use crate::word_rules::ready_fits;
 use kernel::clock::Clock;
 use kernel::records::Kernel;
 use kernel::records::Thread;
@@ -90,6 +92,8 @@ fn first_bad_at(p: Plant, clock: Clock, rule: u16) -> u16
         5 => first_bad_mailbox(p),
         6 => first_bad_pool(p),
         12 => bad_running(k, z.threads),
+        13 => bad_whole(ready_fits(k, z.threads)),
+        14 => first_bad_word(k, z),
         _ => first_bad_row(k, z, rule),
     }
 }
@@ -99,7 +103,7 @@ pub fn find_broken(p: Plant, clock: Clock) -> Broken
     ensures { λ r. ⌜ r ≡ broken p clock ⌝ }
 {
     let mut rule: u16 = 1;
-    while rule < 13 {
+    while rule < 15 {
         let row = first_bad_at(p, clock, rule);
         if row != NO_ROW {
             return Broken {

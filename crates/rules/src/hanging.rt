@@ -1,16 +1,18 @@
-// Whether tables hang together: document 01's section of that name, in its parts. Only rows within the sizes are read.
+// Whether tables hang together: document 01's section of that name, in its parts, and the words of document 02. Only rows within the sizes are read.
 // The sizes come first, so that all later parts speak of tables that are as large as they say.
 use crate::mailbox_rules::mailboxes_fit;
 use crate::place_rules::counters_fit;
 use crate::pool_rules::pools_fit;
 use crate::reference_rules::references_fit;
 use crate::row_rules::rows_fit;
+use crate::word_rules::words_fit;
 use kernel::clock::Clock;
 use kernel::kinds::KEPT_NONE;
 use kernel::records::Kernel;
 use kernel::tables::thread_at;
 use kernel::units::frequency_fits;
 use kernel::waiters::first_ready;
+use library::logic::both;
 use library::sizes::sizes_fit;
 use library::tables::Plant;
 ghost use mathlib.Core.Path.{_≡_};
@@ -51,5 +53,5 @@ pub fn hangs_together(p: Plant, clock: Clock) -> bool
     if !pools_fit(p) {
         return false;
     }
-    running_free(k, z.threads)
+    both(running_free(k, z.threads), words_fit(k, z))
 }

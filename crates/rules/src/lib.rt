@@ -8,3 +8,4 @@ pub mod place_rules;
 pub mod pool_rules;
 pub mod reference_rules;
 pub mod row_rules;
+pub mod word_rules;

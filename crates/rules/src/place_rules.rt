@@ -14,7 +14,7 @@ ghost use lib.ListN.{getD};
 ghost use Rattle.rules.specs.PlaceRules.{inUse, queueOf, queuedCount, isIdle, counterFits, placeFits, badPlace, countersFit};
 
 // Whether the sizes put a place to use.
-fn in_use(z: Sizes, p: u16) -> bool
+pub fn in_use(z: Sizes, p: u16) -> bool
     ensures { λ r. ⌜ r ≡ inUse z p ⌝ }
 {
     if p < 16 {
@@ -31,7 +31,7 @@ fn in_use(z: Sizes, p: u16) -> bool
 }
 
 // The place at which a thread is queued; past all places for one that is not.
-fn queue_of(t: Thread) -> u16
+pub fn queue_of(t: Thread) -> u16
     ensures { λ r. ⌜ r ≡ queueOf t ⌝ }
 {
     if t.state == QUEUED { t.place } else { 36 }

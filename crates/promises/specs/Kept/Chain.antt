@@ -27,7 +27,7 @@ use Rattle.kernel.specs.Waiters.{queuedAt}
 use Rattle.kernel.specs.Semaphore.{taken}
 use Rattle.kernel.specs.Event.{withPending}
 use Rattle.kernel.specs.Ticking.{ticked}
-use Rattle.kernel.proofs.Cases.{same-or, both-means}
+use Rattle.kernel.proofs.Cases.{split, same-or, contrary, both-means}
 use Rattle.kernel.proofs.WalkLaws.{Least, None, count-none}
 use Rattle.kernel.proofs.CountersLaws.{debt, debt-none, raised-none, lowered-none}
 use Rattle.kernel.proofs.TablesLaws.{
@@ -52,6 +52,7 @@ use Rattle.kernel.proofs.MovesLaws.{
   finish-row,
   finish-others,
   finish-sizes,
+  finish-words,
 }
 use Rattle.kernel.proofs.WaitersLaws.{waits}
 use Rattle.kernel.proofs.TickingLaws.{aged, aged-last, aged-counted, tick-row, tick-sizes}
@@ -81,6 +82,22 @@ use Rattle.promises.specs.Kept.Holds.{
   finish-holds,
   counter-holds,
   tick-holds,
+}
+use Rattle.promises.specs.Kept.WordRule.{
+  Said,
+  same-said,
+  row-said,
+  wake-said,
+  sleep-said,
+  finish-said,
+  tick-said,
+  Placed,
+  Rest,
+  rest-same,
+  rest-trans,
+  wake-rest,
+  sleep-rest,
+  tick-rest,
 }
 use Rattle.promises.specs.Kept.CounterRule.{semaphore-place, pool-place, queue-place, writers-place, readers-place}
 use Rattle.promises.specs.Kept.Rows.{
@@ -219,7 +236,7 @@ isSlept i (takeAt p) = false
 module _ (k : Kernel) where
   -- the flags of a step begin anew
   begun-sized : Sized k → Sized (begun (ended k))
-  begun-sized s = record { threads = s .threads; counters = s .counters; references = s .references; woken = refl; finished = refl }
+  begun-sized s = record { threads = s .threads; counters = s .counters; references = s .references; woken = refl; finished = refl; waiting = s .waiting }
 
 -- ---- one thread's record, in each move
 
@@ -316,11 +333,12 @@ module _ (z : Sizes) (few : z .threads ≤ 16) (i : ℕ) (within : i < z .thread
 
 -- ---- the rules of places and references
 
--- the lengths, and the rules of every place and reference in use
+-- the lengths, and the rules of every place and reference in use, and of the words
 pub record Rules (z : Sizes) (k : Kernel) : Type 0 where
   pub sized : Sized k
   pub places : (q : ℕ) → q < 36 → inUse z q ≡ true → Tallies (z .threads) q k
   pub references : (r : ℕ) → r < z .references → Holds (z .threads) r k
+  pub words : Said z k
 
 module _ (z : Sizes) (g : GoodSizes z) where
   abbrev n : ℕ
@@ -351,6 +369,12 @@ module _ (z : Sizes) (g : GoodSizes z) where
       (λ o h w. absurd (omega (arith, w))) (λ o h w. absurd (omega (arith, w))) (λ o h w. absurd (omega (arith, w)))
       (λ o h w. absurd (omega (arith, w)))
 
+  -- no call that sleeps does so ready
+  sleeping-state : (kind : ℕ) → CallKind kind → waitState kind ≢ ready
+  sleeping-state =
+      each-kind (λ m. waitState m ≢ ready) (λ e. omega arith) (λ e. omega arith) (λ e. omega arith) (λ e. omega arith) (λ e. omega arith)
+      (λ e. omega arith) (λ e. omega arith) (λ e. omega arith) (λ e. omega arith) (λ e. omega arith)
+
   -- a place of another counter, and no wait changed
   counter-tallies : (k : Kernel) (p q : ℕ) (c : ℤ) → debt (counterAt (withCounter k p c) q) ≡ debt (counterAt k q) → p < 20
       → Tallies n q k → Tallies n q (withCounter k p c)
@@ -366,6 +390,7 @@ module _ (z : Sizes) (g : GoodSizes z) where
         sized = sized-kept (wake-sizes k i m) (r .sized);
         places = λ q h u. wake-tallies k i m n q l (r .places q h u);
         references = λ o h. wake-holds k i m n o (omega (arith, g .threads .1)) l (r .references o h);
+        words = wake-said z (g .threads .1) k i m l (r .sized) (r .words);
       }
 
   -- a counter changed at a semaphore, that owes as much as before
@@ -376,6 +401,7 @@ module _ (z : Sizes) (g : GoodSizes z) where
         sized = sized-kept (counter-sizes k p c) (r .sized);
         places = λ q h u. counter-tallies k p q c (e q) l (r .places q h u);
         references = λ o h. counter-holds k p c n o (r .references o h);
+        words = same-said z k (withCounter k p c) refl (λ j. refl) (λ j. refl) (r .words);
       }
 
   sleep-rules : (k : Kernel) (i : ℕ) (c : Call) → Sleeper z k i c → Rules z k
@@ -402,6 +428,9 @@ module _ (z : Sizes) (g : GoodSizes z) where
             (s .holder e) (r .references o h)))
             (λ d. sleep-unsuspended-holds k i p c n o (s .is-ready) (waitState (c .kind))
             (ne-eqb (waitState (c .kind)) suspended d) (r .references o h));
+        words =
+            sleep-said z (g .threads .1) k i (waitState (c .kind)) p c (s .within) (s .is-ready)
+            (ne-eqb (waitState (c .kind)) ready (sleeping-state (c .kind) (s .fits .kind))) (r .sized) (r .words);
       }
 
   finish-rules : (k : Kernel) (i : ℕ) (m : ℤ) (d : ℕ) → Rules z k → Rules z (finished k i m d)
@@ -410,6 +439,7 @@ module _ (z : Sizes) (g : GoodSizes z) where
         sized = sized-kept (finish-sizes k i m d) (r .sized);
         places = λ q h u. finish-tallies k i m d n q (r .places q h u);
         references = λ o h. finish-holds k i m d n o (r .references o h);
+        words = finish-said z k i m d (r .words);
       }
 
   tick-rules : (k : Kernel) → Rules z k → Rules z (ticked k n)
@@ -418,6 +448,7 @@ module _ (z : Sizes) (g : GoodSizes z) where
         sized = sized-kept (tick-sizes k n) (r .sized);
         places = λ q h u. tick-tallies k n q (r .places q h u);
         references = λ o h. tick-holds k n o (omega (arith, g .threads .1)) (r .references o h);
+        words = tick-said z (g .threads .1) k (r .sized) (r .words);
       }
 
   flags-rules : (k : Kernel) (i f : ℕ) → Rules z k → Rules z (withThread k i (withPending (threadAt k i) f))
@@ -426,6 +457,7 @@ module _ (z : Sizes) (g : GoodSizes z) where
         sized = sized-kept (thread-sizes k i (withPending (threadAt k i) f)) (r .sized);
         places = λ q h u. row-tallies k n q i (withPending (threadAt k i) f) (λ p. refl) (r .places q h u);
         references = λ o h. row-holds k n o i (withPending (threadAt k i) f) refl (r .references o h);
+        words = row-said z k i (withPending (threadAt k i) f) refl refl (r .words);
       }
 
   -- a semaphore that nobody waits at owes nothing, before and after
@@ -444,6 +476,7 @@ module _ (z : Sizes) (g : GoodSizes z) where
             }))
             (λ d. same-tallies k (withCounter k p c) n q (λ i. refl) (counter-other k p c q d) (r .places q h u));
         references = λ o h. counter-holds k p c n o (r .references o h);
+        words = same-said z k (withCounter k p c) refl (λ j. refl) (λ j. refl) (r .words);
       }
 
   begin-rules : (k : Kernel) → Rules z k → Rules z (begun (ended k))
@@ -452,6 +485,7 @@ module _ (z : Sizes) (g : GoodSizes z) where
         sized = begun-sized k (r .sized);
         places = λ q h u. same-tallies k (begun (ended k)) n q (λ i. refl) refl (r .places q h u);
         references = λ o h. same-holds k (begun (ended k)) n o (λ i. refl) refl (r .references o h);
+        words = same-said z k (begun (ended k)) refl (λ j. refl) (λ j. refl) (r .words);
       }
 
   answer-rules : (k : Kernel) (a : Answer) → Rules z k → Rules z (withAnswer k a)
@@ -460,13 +494,14 @@ module _ (z : Sizes) (g : GoodSizes z) where
         sized = sized-kept (answer-sizes k a) (r .sized);
         places = λ q h u. same-tallies k (withAnswer k a) n q (λ i. refl) refl (r .places q h u);
         references = λ o h. same-holds k (withAnswer k a) n o (λ i. refl) refl (r .references o h);
+        words = same-said z k (withAnswer k a) refl (λ j. refl) (λ j. refl) (r .words);
       }
 
   take-rules : (k : Kernel) (p : ℕ) → p < 20 → ltZ (pos 0) (counterAt k p) ≡ true → Rules z k → Rules z (taken k p)
   unfolding taken
   take-rules k p l e r = counter-rules k p (down (counterAt k p)) l (λ q. lowered-none k p q e) r
 
-  -- THE RULES OF COUNTERS AND REFERENCES ARE KEPT
+  -- THE RULES OF COUNTERS, REFERENCES AND WORDS ARE KEPT
   pub move-rules : {k h : Kernel} {ms : List Note} → Move z k h ms → Rules z k → Rules z h
   move-rules {k} (Move.wakes i m w) r = wake-rules k i m (w .within) r
   move-rules {k} (Move.passes p i l f) r = wake-rules k i ok (f .below) r
@@ -498,6 +533,45 @@ module _ (z : Sizes) (g : GoodSizes z) where
   pub chain-sound : {h k : Kernel} {ms : List Note} → Chain z h k ms → Sound z k → Sound z h
   chain-sound Chain.stop s = s
   chain-sound (Chain.on m c) s = chain-sound c (move-sound m s)
+
+  -- who is good waits at a place in use
+  good-placed : (k : Kernel) → Sound z k → Placed z k
+  good-placed k s i l q u =
+      split (queuedAt q (threadAt k i)) (λ e. contrary (used e) u) (λ e. e)
+    where
+      used : queuedAt q (threadAt k i) ≡ true → inUse z q ≡ true
+      used e =
+          let t = threadAt k i in
+          let good = s .rows i l in
+          let both = both-means (eqb (t .state) queued) (eqb (t .place) q) e in
+          let away = queued-unready q t e in
+          let place : waitPlace (t .call .kind) (t .call .object) ≡ q = sym (good .unready-place away) ∙ eqb-true (t .place) q (both .1) in
+          let call = good .unready-call away in
+          rw place at
+          (queueing-place z g k (t .call .kind) (good .kind call) (t .call .object) (good .object call)
+          (sym (good .unready-state away) ∙ eqb-true (t .state) queued (both .0)) .1)
+
+  -- A MOVE LEAVES THE WORDS OF PLACES THAT ARE NOT IN USE, and so does a chain
+  move-rest : {k h : Kernel} {ms : List Note} → Move z k h ms → Sound z k → Rest z k h
+  unfolding taken
+  move-rest {k} (Move.wakes i m w) s = wake-rest z k i m (w .within) (good-placed k s)
+  move-rest {k} (Move.passes p i l f) s = wake-rest z k i ok (f .below) (good-placed k s)
+  move-rest {k} (Move.raises p l e b) s = rest-same z k (withCounter k p (up (counterAt k p))) refl
+  move-rest {k} Move.ages s = tick-rest z (g .threads .1) k (s .rules .sized) (good-placed k s)
+  move-rest {k} (Move.sleeps i c w) s =
+      sleep-rest z k i (waitState (c .kind)) (waitPlace (c .kind) (c .object)) c (omega (arith, w .within, g .threads .1))
+      (λ e. queueing-place z g k (c .kind) (w .fits .kind) (c .object) (w .fits .object) (eqb-true (waitState (c .kind)) queued e) .1)
+  move-rest {k} (Move.takes p l e) s = rest-same z k (taken k p) refl
+  move-rest {k} (Move.sets p c w) s = rest-same z k (withCounter k p c) refl
+  move-rest {k} (Move.finishes i m d f) s = rest-same z k (finished k i m d) (finish-words k i m d)
+  move-rest {k} (Move.hands i d f) s = rest-same z k (finished k i ok d) (finish-words k i ok d)
+  move-rest {k} (Move.answers a) s = rest-same z k (withAnswer k a) refl
+  move-rest {k} (Move.flags i f e) s = rest-same z k (withThread k i (withPending (threadAt k i) f)) refl
+  move-rest {k} Move.begins s = rest-same z k (begun (ended k)) refl
+
+  pub chain-rest : {h k : Kernel} {ms : List Note} → Chain z h k ms → Sound z k → Rest z k h
+  chain-rest {k = k} Chain.stop s = rest-same z k k refl
+  chain-rest (Chain.on m c) s = rest-trans (move-rest m s) (chain-rest c (move-sound m s))
 
   pub chain-idle : (i : ℕ) → i < z .threads → {h k : Kernel} {ms : List Note} → Chain z h k ms → Sound z k → countIn (isSlept i) ms ≡ 0
       → Idle (threadAt k i) → Idle (threadAt h i)

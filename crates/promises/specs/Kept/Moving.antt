@@ -15,9 +15,11 @@ use lib.Signed.{ltZ}
 use borrow.Author.Tests.{eqb-true, eqb-false, eq-eqb, ltb-true, lt-ltb}
 use Rattle.kernel.specs.declared.records.Call.{Call}
 use Rattle.kernel.specs.declared.records.Thread.{Thread}
+use Rattle.kernel.specs.declared.records.Words.{Words}
 use Rattle.kernel.specs.declared.records.Kernel.{Kernel}
 use Rattle.kernel.specs.Numbers.{nobody, nowhere, ready, queued, suspended, awaiting, ok, timedOut, wasReset, immediate}
-use Rattle.kernel.specs.Tables.{threadAt, counterAt, holderAt, withThread, withWoken}
+use Rattle.kernel.specs.Tables.{threadAt, counterAt, holderAt, withThread, withWoken, withWords}
+use Rattle.kernel.specs.Words.{withBit}
 use Rattle.kernel.specs.Moves.{readied, woken, slept, finished, blocked, takenOff}
 use Rattle.kernel.specs.Waiters.{queuedAt, firstWaiter}
 use Rattle.kernel.specs.Queue.{enqueued, releasedFirst, releasedAll}
@@ -108,7 +110,7 @@ module _ (z : Sizes) (g : GoodSizes z) where
         elim (first-waiter-cases k n p) [
           | inl f ↦ wake-chained (firstWaiter k n p) m
               (waiter-waken p (firstWaiter k n p) m (omega (arith, f .below, used-le-given n)) (f .passes) c)
-          | inr f ↦ rw (f .0, wake-past k nobody m (omega (arith, s .threads)) (omega (arith, s .woken))) rested
+          | inr f ↦ rw (f .0, wake-past k nobody m (omega (arith, s .threads)) (omega (arith, s .woken)) (omega arith)) rested
         ]
 
   pub release-all-chained : (k : Kernel) (p : ℕ) (m : ℤ) → (p < 20 → m ≡ wasReset) → Chained z k (releasedAll k n p m) []
@@ -166,7 +168,7 @@ module _ (z : Sizes) (g : GoodSizes z) where
   unfolding resumed
   resume-chained k r m s h a =
       same-or (holderAt k r) nobody
-      (λ e. rw (e, wake-past k nobody m (omega (arith, s .threads)) (omega (arith, s .woken))) rested)
+      (λ e. rw (e, wake-past k nobody m (omega (arith, s .threads)) (omega (arith, s .woken)) (omega arith)) rested)
       (λ d. wake-chained k (holderAt k r) m
       (record {
         within = h d;
@@ -217,9 +219,13 @@ module _ (z : Sizes) (g : GoodSizes z) where
       (λ t. w t (eqb-true (bitAnd (threadAt k i .pending) (c .operand)) 0 b)) (inr (l, f))))
       (λ b. rw b (take-flags-chained k i (c .operand) l s (f .is-ready) (f .unpromised)))
 
-  -- who awaits events leaves neither a place nor a reference
+  -- who awaits events is noted as ready, and at no place
+  abbrev alone : Kernel → ℕ → Words
+  alone k i = record { ready = withBit (k .words .ready) i; waiting = k .words .waiting; unused = k .words .unused }
+
+  -- it leaves neither a place nor a reference
   wake-alone : (k : Kernel) (i : ℕ) (m : ℤ) → threadAt k i .state ≡ awaiting
-      → woken k i m ≡ withWoken (withThread k i (readied (threadAt k i) m)) i
+      → woken k i m ≡ withWords (withWoken (withThread k i (readied (threadAt k i) m)) i) (alone k i)
   unfolding woken takenOff
   wake-alone k i m e = rw e
 
@@ -228,10 +234,10 @@ module _ (z : Sizes) (g : GoodSizes z) where
       → woken (withThread k i (withPending (threadAt k i) f)) i ok ≡ withThread (woken k i ok) i (withPending (threadAt (woken k i ok) i) f)
   told-woken k i f h e =
       wake-alone (withThread k i t) i ok (ap (λ (x : Thread). x .state) (thread-same k i t h) ∙ e)
-      ∙ ap (λ (x : Thread). withWoken (withThread (withThread k i t) i (readied x ok)) i) (thread-same k i t h)
+      ∙ ap (λ (x : Thread). withWords (withWoken (withThread (withThread k i t) i (readied x ok)) i) (alone k i)) (thread-same k i t h)
       ∙ ap placed (set-set (k .threads) i t (readied t ok) ∙ sym (set-set (k .threads) i (readied (threadAt k i) ok) (readied t ok)))
       ∙ sym (ap (λ (x : Kernel). withThread x i (withPending (threadAt (woken k i ok) i) f)) (wake-alone k i ok e)
-      ∙ ap (λ (x : Thread). withThread (withWoken (withThread k i (readied (threadAt k i) ok)) i) i (withPending x f))
+      ∙ ap (λ (x : Thread). withThread (withWords (withWoken (withThread k i (readied (threadAt k i) ok)) i) (alone k i)) i (withPending x f))
       (wake-row k i ok h))
     where
       t : Thread
@@ -246,6 +252,7 @@ module _ (z : Sizes) (g : GoodSizes z) where
             woken = set (k .woken) i true;
             finished = k .finished;
             answer = k .answer;
+            words = alone k i;
           }
 
   -- 13: "the flags of a are ORed to those pending"; "if its state is awaiting events, for any of them, it is made ready"

@@ -228,7 +228,7 @@ unfolding releasedFirst
 release-weight n few k s p m =
     elim (first-waiter-cases k n p) [
       | inl f ↦ wake-weight n few k s (firstWaiter k n p) (omega (arith, f .below, used-le-given n)) m
-      | inr f ↦ rw (f .0, wake-past k nobody m (omega (arith, s .threads)) (omega (arith, s .woken))) (omega arith)
+      | inr f ↦ rw (f .0, wake-past k nobody m (omega (arith, s .threads)) (omega (arith, s .woken)) (omega arith)) (omega arith)
     ]
 
 module _ (p : Plant) (w : Whole (p .sizes) p) (i : ℕ) (d : Due (p .sizes) (p .kernel) i) where

@@ -94,7 +94,7 @@ step-hangs t c s g =
 fresh-sized : (y : Sizes) → PlantSized (opened (freshTables y))
 fresh-sized y =
     record {
-      kernel = record { threads = refl; counters = refl; references = refl; woken = refl; finished = refl };
+      kernel = record { threads = refl; counters = refl; references = refl; woken = refl; finished = refl; waiting = refl };
       mailboxes = refl;
       messages = λ m h. rw (all-blank 4 blankMailbox m);
       pools = refl;

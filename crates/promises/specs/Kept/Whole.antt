@@ -21,6 +21,7 @@ use Rattle.rules.specs.PoolRules.{promisedCount}
 use Rattle.promises.specs.Together.Good.{GoodSizes, Good}
 use Rattle.promises.specs.Kept.CounterRule.{counters-tally, tally-counters}
 use Rattle.promises.specs.Kept.ReferenceRule.{references-hold, holds-references}
+use Rattle.promises.specs.Kept.WordRule.{words-said, said-words}
 use Rattle.promises.specs.Kept.RingKept.{MailboxesGood}
 use Rattle.promises.specs.Kept.PoolKept.{PoolsListed, PoolSized, stock, good-listed, listed-good, good-length, length-promises}
 use Rattle.promises.specs.Kept.Rows.{Idle}
@@ -62,6 +63,7 @@ module _ (p : Plant) where
             sized = s .kernel;
             places = counters-tally (p .kernel) (p .sizes) (g .sizes) (g .counters);
             references = references-hold (p .kernel) (p .sizes) (g .references);
+            words = words-said (p .kernel) (p .sizes) (g .sizes) (g .words);
           };
           rows = g .threads;
         };
@@ -85,6 +87,7 @@ module _ (p : Plant) where
             (length-promises (poolAt p q) (counterAt (p .kernel) (poolPlace q)) (promisedCount (p .kernel) (p .sizes .threads) q)
             (w .lengths q h));
         threads = w .kernel .rows;
+        words = said-words (p .kernel) (p .sizes) (w .sizes) (w .kernel .rules .words);
       }
 
   -- and such tables are good

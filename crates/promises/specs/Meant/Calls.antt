@@ -166,7 +166,7 @@ module _ (p : Plant) (z : Sized (p .kernel)) where
 
   -- a thread that is not there is not made ready
   nobody-woken : (m : ℤ) → woken k 255 m ≡ k
-  nobody-woken m = wake-past k 255 m (omega (arith, z .threads)) (omega (arith, z .woken))
+  nobody-woken m = wake-past k 255 m (omega (arith, z .threads)) (omega (arith, z .woken)) (omega arith)
 
   pub release-is : n ≤ 16 → (q : ℕ) (m : ℤ) → InUse p q → Release (worldOf p) q m (worldOf (withKernel p (releasedFirst k n q m)))
   unfolding releasedFirst

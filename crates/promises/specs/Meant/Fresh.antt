@@ -1,13 +1,16 @@
 -- What is made is fresh as the paper tells it, and the paper leaves no choice: every field of the tables is written out.
-use Prim.Native.Nat.{ℕ}
+use Prim.Native.Nat.{ℕ, _≤_}
+use native.Mathlib.Omega.{arith}
 use mathlib.Core.Path.{_≡_, refl, sym, _∙_}
 use mathlib.Core.List.{List}
 use lib.IntN.{ℤ}
 use Rattle.kernel.specs.declared.clock.Clock.{Clock}
 use Rattle.kernel.specs.declared.units.Rate.{Rate}
 use Rattle.kernel.specs.declared.records.Thread.{Thread}
+use Rattle.kernel.specs.declared.records.Words.{Words}
 use Rattle.kernel.specs.Units.{frequencyFits}
 use Rattle.kernel.proofs.Cases.{split, contrary}
+use Rattle.kernel.proofs.TablesLaws.{used-all}
 use Rattle.library.specs.declared.sizes.Sizes.{Sizes}
 use Rattle.library.specs.declared.tables.Mailbox.{Mailbox}
 use Rattle.library.specs.declared.tables.Pool.{Pool}
@@ -20,8 +23,17 @@ use Rattle.promises.specs.Paper.Fresh.{FreshTables, FreshClock, nothing,
 use Rattle.promises.specs.Meant.Time.{same-rate, possible-fits, fits-possible}
 use Rattle.promises.specs.Meant.Sizes.{fit-limits, out-of-limits}
 
-fresh-tables : (z : Sizes) → FreshTables z (freshTables z)
-fresh-tables z = record { sizes = refl; threads = refl; counters = refl; references = refl; mailboxes = refl; pools = refl }
+fresh-tables : (z : Sizes) → z .threads ≤ 16 → FreshTables z (freshTables z)
+fresh-tables z few =
+    record {
+      sizes = refl;
+      threads = refl;
+      counters = refl;
+      references = refl;
+      words = rw (used-all (z .threads) few);
+      mailboxes = refl;
+      pools = refl;
+    }
 
 fresh-clock : (f : ℕ) → FreshClock f (freshClock f)
 fresh-clock f = record { time = refl; frequency = refl }
@@ -35,22 +47,22 @@ made-is z rate =
     (λ e. rw e
     (split (frequencyFits f)
     (λ p. rw p
-    (MadeOf.fresh (fit-limits z e) (possible-fits f p) (record { code = refl; tables = fresh-tables z; clock = fresh-clock f })))
+    (MadeOf.fresh (fit-limits z e) (possible-fits f p) (record { code = refl; tables = fresh-tables z (fit-limits z e .threads .1); clock = fresh-clock f })))
     (λ p. rw p
     (MadeOf.no-frequency (fit-limits z e) (λ q. contrary (fits-possible f q) p)
-    (record { code = refl; tables = fresh-tables nothing; clock = fresh-clock 0 })))))
-    (λ e. rw e (MadeOf.no-size (out-of-limits z e) (record { code = refl; tables = fresh-tables nothing; clock = fresh-clock 0 }))))
+    (record { code = refl; tables = fresh-tables nothing (omega arith); clock = fresh-clock 0 })))))
+    (λ e. rw e (MadeOf.no-size (out-of-limits z e) (record { code = refl; tables = fresh-tables nothing (omega arith); clock = fresh-clock 0 }))))
 
 -- two that hold the same are the same: every field of a table is one of its record's
-abbrev of-parts : List Thread → List ℤ → List ℕ → List Mailbox → List Pool → Sizes → Tables
-of-parts t c r b p z =
-    record { kernel = record { threads = t; counters = c; references = r }; mailboxes = b; pools = p; sizes = z }
+abbrev of-parts : List Thread → List ℤ → List ℕ → Words → List Mailbox → List Pool → Sizes → Tables
+of-parts t c r w b p z =
+    record { kernel = record { threads = t; counters = c; references = r; words = w }; mailboxes = b; pools = p; sizes = z }
 
 same-tables : {z : Sizes} {t u : Tables} → FreshTables z t → FreshTables z u → t ≡ u
 same-tables {z} {t} {u} a b =
-    let parts : of-parts (t .kernel .threads) (t .kernel .counters) (t .kernel .references) (t .mailboxes) (t .pools) (t .sizes)
-    ≡ of-parts (u .kernel .threads) (u .kernel .counters) (u .kernel .references) (u .mailboxes) (u .pools) (u .sizes) =
-    rw (a .threads, a .counters, a .references, a .mailboxes, a .pools, a .sizes, b .threads, b .counters, b .references, b .mailboxes, b .pools, b .sizes) in
+    let parts : of-parts (t .kernel .threads) (t .kernel .counters) (t .kernel .references) (t .kernel .words) (t .mailboxes) (t .pools) (t .sizes)
+    ≡ of-parts (u .kernel .threads) (u .kernel .counters) (u .kernel .references) (u .kernel .words) (u .mailboxes) (u .pools) (u .sizes) =
+    rw (a .threads, a .counters, a .references, a .words, a .mailboxes, a .pools, a .sizes, b .threads, b .counters, b .references, b .words, b .mailboxes, b .pools, b .sizes) in
     parts
 
 same-clock : {f : ℕ} {c d : Clock} → FreshClock f c → FreshClock f d → c ≡ d

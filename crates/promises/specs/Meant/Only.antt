@@ -1,6 +1,5 @@
 -- Two answers that are what document 01 tells of one step coincide.
 use Prim.Native.Nat.{ℕ, zero, suc, _+_, _/_, _%_, _^_, _≤_, _<_}
-use native.Mathlib.Nat.{div-one, pow-succ', div-div-eq-div-mul}
 use native.Mathlib.Omega.{arith}
 use mathlib.Core.Path.{_≡_, refl, sym, ap, _∙_, subst}
 use mathlib.Core.Logic.{_≢_, _⊎_, inl, inr}
@@ -11,6 +10,7 @@ use lib.IntN.{ℤ, pos, negsuc}
 use Rattle.kernel.specs.declared.clock.Clock.{Clock}
 use Rattle.kernel.specs.declared.time.SystemTime.{SystemTime}
 use Rattle.kernel.specs.declared.records.Call.{Call}
+use Rattle.kernel.specs.declared.records.Words.{Words}
 use Rattle.kernel.proofs.Cases.{same-or, in-or-out, contrary}
 use Rattle.library.specs.declared.calls.Step.{Step}
 use Rattle.library.specs.declared.tables.Tables.{Tables}
@@ -59,7 +59,8 @@ use Rattle.promises.specs.Paper.Rows.{
 }
 use Rattle.promises.specs.Paper.Settling.{IsOther, Continued, Settles}
 use Rattle.promises.specs.Paper.Refusals.{RefusedWith, Broken}
-use Rattle.promises.specs.Paper.Step.{ClockAfter, MaskOf, ResultOf, StepOf}
+use Rattle.promises.specs.Paper.Step.{WordsLeft, ClockAfter, ResultOf, StepOf}
+use Rattle.promises.specs.Meant.Words.{mask-only, ready-only, waiting-only}
 
 -- ---- general
 
@@ -69,23 +70,6 @@ list-only d [] [] e f = refl
 list-only d [] (b ∷ m) e f = absurd (omega arith)
 list-only d (a ∷ l) [] e f = absurd (omega arith)
 list-only d (a ∷ l) (b ∷ m) e f = rw (f 0, list-only d l m (omega arith) (λ i. f (suc i)))
-
--- numbers with the same binary digits are one number
-digits-only : (b n m : ℕ) → n ≤ b → m ≤ b → ((i : ℕ) → n / 2 ^ i % 2 ≡ m / 2 ^ i % 2) → n ≡ m
-digits-only zero n m h l f = omega arith
-digits-only (suc b) n m h l f =
-    let low : n % 2 ≡ m % 2 = rw (div-one n, div-one m) at (f 0) in
-    in-or-out 0 n
-    (λ p. in-or-out 0 m (λ q. let half = digits-only b (n / 2) (m / 2) (omega arith) (omega arith) halves in omega (arith, low, half))
-    (λ q. let half = digits-only b (n / 2) (m / 2) (omega arith) (omega arith) halves in omega (arith, low, half)))
-    (λ p. in-or-out 0 m (λ q. let half = digits-only b (n / 2) (m / 2) (omega arith) (omega arith) halves in omega (arith, low, half))
-    (λ q. omega arith))
-  where
-    halves : (i : ℕ) → n / 2 / 2 ^ i % 2 ≡ m / 2 / 2 ^ i % 2
-    halves i = rw (pow-succ' 2 i, ← div-div-eq-div-mul n 2 (2 ^ i), ← div-div-eq-div-mul m 2 (2 ^ i)) at (f (suc i))
-
-mask-only : (f : ℕ → Bool) (n m : ℕ) → MaskOf f n → MaskOf f m → n ≡ m
-mask-only f n m a b = in-or-out n m (λ h. digits-only m n m (omega arith) (omega arith) (λ i. a i ∙ sym (b i))) (λ h. digits-only n n m (omega arith) h (λ i. a i ∙ sym (b i)))
 
 -- the least index of which something holds is one
 least-only : (P : ℕ → Type 0) (i j : ℕ) → P i → P j → ((k : ℕ) → k < i → P k → ⊥) → ((k : ℕ) → k < j → P k → ⊥) → i ≡ j
@@ -358,16 +342,25 @@ result-only w caller o q a b =
     (mask-only (w .finished) (o .finished) (q .finished) (a .finished) (b .finished))
     (a .message ∙ sym (b .message)) (a .datum ∙ sym (b .datum))
 
-left-only : (w : World) (u v : Tables) → Left w u → Left w v → u ≡ v
-left-only w u v a b =
+left-only : (w : World) (g : Words) (u v : Tables) → Left w u → Left w v → WordsLeft w g (u .kernel .words) → WordsLeft w g (v .kernel .words)
+    → u ≡ v
+left-only w g u v a b x y =
     let threads = list-only noThread (u .kernel .threads) (v .kernel .threads) (a .thread-rows ∙ sym (b .thread-rows)) (λ i. a .threads i ∙ sym (b .threads i)) in
     let counters = list-only (pos 0) (u .kernel .counters) (v .kernel .counters) (a .counter-rows ∙ sym (b .counter-rows)) (λ i. a .counters i ∙ sym (b .counters i)) in
     let references = list-only 255 (u .kernel .references) (v .kernel .references) (a .reference-rows ∙ sym (b .reference-rows)) (λ i. a .references i ∙ sym (b .references i)) in
     let boxes = list-only noBox (u .mailboxes) (v .mailboxes) (a .box-rows ∙ sym (b .box-rows)) (λ i. a .boxes i ∙ sym (b .boxes i)) in
     let pools = list-only noPool (u .pools) (v .pools) (a .pool-rows ∙ sym (b .pool-rows)) (λ i. a .pools i ∙ sym (b .pools i)) in
     let sizes = a .sizes ∙ sym (b .sizes) in
+    let ready = ready-only w g (u .kernel .words) (v .kernel .words) x y in
+    let waiting = list-only 0 (u .kernel .words .waiting) (v .kernel .words .waiting) (x .places ∙ sym (y .places)) (waiting-only w g (u .kernel .words) (v .kernel .words) x y) in
+    let filler = x .filler ∙ sym (y .filler) in
     λ i. record {
-      kernel = record { threads = threads i; counters = counters i; references = references i };
+      kernel = record {
+        threads = threads i;
+        counters = counters i;
+        references = references i;
+        words = record { ready = ready i; waiting = waiting i; unused = filler i };
+      };
       mailboxes = boxes i;
       pools = pools i;
       sizes = sizes i;
@@ -388,10 +381,10 @@ refused-only t c n r q a b =
 pub step-only : (t : Tables) (c : Clock) (s : Step) (r q : Stepped) → StepOf t c s r → StepOf t c s q → r ≡ q
 step-only t c s r q (StepOf.refused n a f x) (StepOf.refused m b g y) =
     refused-only t c n r q x (subst (λ (k : ℕ). RefusedWith t c k q) (sym (least-only (Broken t c s) n m a b f g)) y)
-step-only t c s r q (StepOf.refused n a f x) (StepOf.accepted none w v b l y k o) = absurd (none n a)
-step-only t c s r q (StepOf.accepted none w v b l y k o) (StepOf.refused n a f x) = absurd (none n a)
-step-only t c s r q (StepOf.accepted none w v a l y k o) (StepOf.accepted still u z b m x d e) =
-    stepped-only r q (left-only v (r .tables) (q .tables) y (rw same x)) (clock-only c (s .kind) (r .clock) (q .clock) k d)
+step-only t c s r q (StepOf.refused n a f x) (StepOf.accepted none w v b l y g k o) = absurd (none n a)
+step-only t c s r q (StepOf.accepted none w v b l y g k o) (StepOf.refused n a f x) = absurd (none n a)
+step-only t c s r q (StepOf.accepted none w v a l y g k o) (StepOf.accepted still u z b m x f d e) =
+    stepped-only r q (left-only v (t .kernel .words) (r .tables) (q .tables) y (rw same x) g (rw same f)) (clock-only c (s .kind) (r .clock) (q .clock) k d)
     (result-only v (s .caller) (r .outcome) (q .outcome) o (rw same e))
   where
     same : v ≡ z

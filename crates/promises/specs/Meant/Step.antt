@@ -32,6 +32,9 @@ use Rattle.steps.specs.Stepping.{clockAfter, budgetOf, outcomeOf, doneWith, ref
 use Rattle.steps.proofs.StepLaws.{step-code}
 use Rattle.promises.specs.Runs.Answers.{step-done, step-stopped}
 use Rattle.promises.specs.Together.Tests.{same-means}
+use Rattle.promises.specs.Kept.WordRule.{rest-trans}
+use Rattle.promises.specs.Kept.Chain.{chain-rest}
+use Rattle.promises.specs.Meant.Words.{unused-test, bit-one, said-agree}
 use Rattle.promises.specs.Meant.Masks.{mask-digit}
 use Rattle.promises.specs.Together.Hanging.{test-hangs}
 use Rattle.promises.specs.Kept.Accepting.{refusal-none}
@@ -48,7 +51,7 @@ use Rattle.promises.specs.Paper.Rows.{Post, Fetch}
 use Rattle.promises.specs.Paper.Host.{HostTables, Host}
 use Rattle.promises.specs.Paper.Settling.{Continued, Settles}
 use Rattle.promises.specs.Paper.Refusals.{RefusedWith}
-use Rattle.promises.specs.Paper.Step.{ClockAfter, ResultOf, StepOf}
+use Rattle.promises.specs.Paper.Step.{WordsLeft, ClockAfter, ResultOf, StepOf}
 use Rattle.promises.specs.Meant.Moves.{worldOf, found-is, finish-world}
 use Rattle.promises.specs.Meant.Calls.{sized, few, good, post-is, fetch-is, top-is, pool-row}
 use Rattle.promises.specs.Meant.Rows.{act-is}
@@ -58,7 +61,7 @@ use Rattle.promises.specs.Meant.Only.{first-only, step-only}
 pub host-sized : (t : Tables) → HostTables t → PlantSized (opened t)
 host-sized t h =
     record {
-      kernel = record { threads = h .threads; counters = h .counters; references = h .references; woken = refl; finished = refl };
+      kernel = record { threads = h .threads; counters = h .counters; references = h .references; woken = refl; finished = refl; waiting = h .waiting };
       mailboxes = h .mailboxes;
       messages = h .messages;
       pools = h .pools;
@@ -71,6 +74,7 @@ sized-host t h =
       threads = h .kernel .threads;
       counters = h .kernel .counters;
       references = h .kernel .references;
+      waiting = h .kernel .waiting;
       mailboxes = h .mailboxes;
       messages = h .messages;
       pools = h .pools;
@@ -227,10 +231,6 @@ clock-is c h kind =
     ClockAfter.wraps e top (rw e (λ x. record { time = record { 0 = tick-time-wraps c top x }; frequency = c .frequency }))))
     (λ d. ClockAfter.stays d (other-time c kind d))
 
-bit-one : (b : Bool) → bit b ≡ cond b 1 0
-bit-one true = refl
-bit-one false = refl
-
 pub result-is : (p : Plant) → p .sizes .threads ≤ 16 → (caller : ℕ)
     → ResultOf (worldOf p) caller (outcomeOf (p .kernel) (p .sizes .threads) caller)
 unfolding outcomeOf
@@ -311,13 +311,28 @@ module _ (t : Tables) (c : Clock) (s : Step) (host : Host t c s) where
     pub settled-whole : Whole (h .sizes) h
     settled-whole = own (settles t c s hangs code .tries .done .whole)
 
+    -- the words are the walk's; where no place is, they are as they were
+    words-left : WordsLeft (worldOf h) (t .kernel .words) (closed h .kernel .words)
+    words-left =
+        let done = step-acts p c s (refusal-none p c s e) begun-whole .done in
+        let settles-done = settles t c s hangs code .tries .done in
+        let size = settles-done .whole .same in
+        let kept = rest-trans (chain-rest (t .sizes) (begun-whole .sizes) (done .chained) (begun-whole .kernel))
+        (chain-rest (t .sizes) (begun-whole .sizes) (settles-done .chained) (acted-whole .kernel)) in
+        record {
+          agree = said-agree h (settled-whole .sizes) (settled-whole .kernel .rules .words);
+          rest = λ q n. kept .waiting q (unused-test (p .kernel) (t .sizes) (begun-whole .sizes) q (rw size at n));
+          filler = kept .filler;
+          places = settled-whole .kernel .rules .sized .waiting;
+        }
+
     accepted-is : StepOf t c s (doneWith h c s)
     unfolding doneWith
     accepted-is =
         StepOf.accepted (first-broken t c s (host .tables .threads) (host .step .object) .none e) (worldOf (acted p (c .time) s)) (worldOf h)
         (act-is t c s begun-whole (host .step .operand) e)
         (settles-is (budgetOf (t .sizes .threads)) (acted p (c .time) s) (own acted-whole) (settles t c s hangs code .ended))
-        (left-is h settled-whole) (clock-is c (host .time) (s .kind)) (result-is h (settled-whole .sizes .threads .1) (s .caller))
+        (left-is h settled-whole) words-left (clock-is c (host .time) (s .kind)) (result-is h (settled-whole .sizes .threads .1) (s .caller))
 
   -- EVERY STEP IS AS DOCUMENT 01 TELLS IT
   pub step-is : StepOf t c s (stepped t c s)

@@ -45,18 +45,22 @@ use Rattle.promises.specs.Paper.Together.{
   isPromised,
   listings,
   PoolFits,
+  WordsAgree,
   HangTogether,
 }
 use Rattle.promises.specs.Together.Tests.{used-all}
 use Rattle.promises.specs.Together.Good.{GoodSizes, CallKind, GoodThread, SemaphoreCounter, QueueCounter, GoodPool, RulesHold}
 use Rattle.promises.specs.Kept.PoolKept.{stock, good-length, length-promises}
+use Rattle.promises.specs.Kept.WordRule.{words-said, said-words}
+use Rattle.promises.specs.Meant.Moves.{found-is}
+use Rattle.promises.specs.Meant.Words.{said-agree, agree-said}
 use Rattle.promises.specs.Meant.Settling.{running-first}
 use Rattle.promises.specs.Meant.Only.{first-only}
 
 -- ---- counting
 
 -- a count is the same, whoever counts
-number-count : (f : ℕ → Bool) (n : ℕ) → number f n ≡ countOf f n
+pub number-count : (f : ℕ → Bool) (n : ℕ) → number f n ≡ countOf f n
 unfolding countOf
 number-count f zero = refl
 number-count f (suc n) = rw (number-count f n) (split (f n) (λ e. rw e) (λ e. rw e))
@@ -447,7 +451,7 @@ module _ (t : Tables) (c : Clock) where
     readers-at : (m : ℕ) → m < t .sizes .mailboxes → 32 + m % 256 ≡ 32 + m
     readers-at m h = ap (λ (o : ℕ). 32 + o) (small h (omega (arith, s .mailboxes)))
 
-  pub rules-together : RulesHold (opened t) c → HangTogether w c
+  pub rules-together : RulesHold (opened t) c → HangTogether w (t .kernel .words) c
   rules-together h =
       let g = h .good in
       let s = g .sizes in
@@ -474,9 +478,12 @@ module _ (t : Tables) (c : Clock) where
                   (h .running)
               | inr r ↦ absurd (r .none i (f .thread) (f .is-ready))
             ];
+        words =
+            subst (λ (x : World). WordsAgree x (t .kernel .words)) (found-is t)
+            (said-agree (opened t) s (words-said k (t .sizes) s (g .words)));
       }
 
-  pub together-rules : length (t .kernel .threads) ≡ 16 → HangTogether w c → RulesHold (opened t) c
+  pub together-rules : length (t .kernel .threads) ≡ 16 → HangTogether w (t .kernel .words) c → RulesHold (opened t) c
   together-rules rows f =
       let s = sizes-good (f .sizes) in
       record {
@@ -497,6 +504,9 @@ module _ (t : Tables) (c : Clock) where
               rw (pool-at s q l)
               (fits-pool (w .pool q) (w .counter (16 + q)) (promisedCount k n q) (rw (promised-are s q) at (f .pools q l)));
           threads = λ i l. good-thread (t .sizes) (threadAt k i) (f .threads i l) s;
+          words =
+              said-words k (t .sizes) s
+              (agree-said (opened t) s (subst (λ (x : World). WordsAgree x (t .kernel .words)) (sym (found-is t)) (f .words)));
         };
         frequency = f .frequency;
         running =

@@ -1,10 +1,12 @@
 -- THE BOUNDARY TO A HOST: what each function that a host calls leaves of what it was lent, told over the paper's relations.
 -- Where a function is refused, what it was lent stays as it was.
-use Prim.Native.Nat.{ℕ}
+use Prim.Native.Nat.{ℕ, _/_, _%_, _^_, _<_}
 use mathlib.Core.Path.{_≡_}
 use mathlib.Core.Logic.{_≢_}
-use mathlib.Core.Bool.{true, false}
+use mathlib.Core.Bool.{Bool, true, false}
 use mathlib.Core.List.{List, [], _∷_}
+use lib.Dec.{eqb}
+use lib.ListN.{getD}
 use Rattle.kernel.specs.declared.clock.Clock.{Clock}
 use Rattle.kernel.specs.declared.units.Unit.{Unit}
 use Rattle.kernel.specs.declared.units.Rate.the-variants.{Given}
@@ -18,6 +20,8 @@ use Rattle.trace.specs.declared.writer.Written.{Written}
 use Rattle.host.specs.declared.request.Request.{Request}
 use Rattle.host.specs.declared.request.StepResult.{StepResult}
 use Rattle.host.specs.declared.reads.ReadResult.{ReadResult}
+use Rattle.promises.specs.Paper.World.{found, Running}
+use Rattle.promises.specs.Paper.Together.{number, isQueued, isReady, InUse, WordOf}
 use Rattle.promises.specs.Paper.Step.{StepOf}
 use Rattle.promises.specs.Paper.Time.{SumOf, DifferenceOf, RangeOf, TicksOf, UnitsOf}
 use Rattle.promises.specs.Paper.Fresh.{MadeOf}
@@ -106,3 +110,31 @@ TicksCall u x frequency code ticks = TicksOf u x (Given frequency) (record { cod
 -- nil_i2s, nil_i2ms, nil_i2us: so many ticks, as a code and a number of a unit
 abbrev pub UnitsCall : Unit → ℕ → ℕ → ℕ → ℕ → Type 0
 UnitsCall u ticks frequency code value = UnitsOf u (record { 0 = ticks }) (Given frequency) (record { code = code; value = value })
+
+-- ---- for a screen: they read the words alone, on any tables
+
+-- whether the ready word has bit i
+abbrev pub namesReady : Tables → ℕ → Bool
+namesReady t i = eqb (t .kernel .words .ready / 2 ^ i % 2) 1
+
+-- nil_ready_count: "the number of ones"
+abbrev pub CountCall : Tables → ℕ → Type 0
+CountCall t r = r ≡ number (namesReady t) 16
+
+-- nil_first_ready: "the number of trailing zeros of the word, and an empty word means idle"
+pub data FirstCall (t : Tables) (r : ℕ) : Type 0 where
+  some : r < 16 → namesReady t r ≡ true → ((j : ℕ) → j < r → namesReady t j ≡ false) → FirstCall t r
+  none : ((j : ℕ) → j < 16 → namesReady t j ≡ false) → r ≡ 255 → FirstCall t r
+
+-- nil_waiting: the word of the place p; past all places there is none
+abbrev pub WaitingCall : Tables → ℕ → ℕ → Type 0
+WaitingCall t p r = r ≡ getD (t .kernel .words .waiting) p 0
+
+-- what they show of tables that hang together: how many threads are ready, the first of them, and who waits at a place
+pub record ScreenOf (t : Tables) (count first : ℕ) (waiting : ℕ → ℕ) : Type 0 where
+  -- "The number of ready threads is the number of ones"
+  pub counted : count ≡ number (isReady (found t)) (t .sizes .threads)
+  -- "the first ready thread is the number of trailing zeros of the word, and an empty word means idle"
+  pub running : Running (found t) first
+  -- "the threads waiting there"
+  pub waiters : (p : ℕ) → InUse (t .sizes) p → WordOf (isQueued (found t) p) (t .sizes .threads) (waiting p)

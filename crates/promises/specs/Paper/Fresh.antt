@@ -1,5 +1,5 @@
 -- FRESH TABLES, AS DOCUMENT 01 TELLS THEM: a relation between the sizes and the frequency that are given and what is made of them.
-use Prim.Native.Nat.{ℕ}
+use Prim.Native.Nat.{ℕ, _-_, _^_}
 use mathlib.Core.Path.{_≡_}
 use mathlib.Core.List.{[], _∷_}
 use lib.ListN.{replicate}
@@ -29,6 +29,8 @@ pub record FreshTables (z : Sizes) (t : Tables) : Type 0 where
       })
   pub counters : t .kernel .counters ≡ replicate 36 (pos 0)
   pub references : t .kernel .references ≡ replicate 8 255
+  -- "bit i set exactly when thread i is ready", and nobody waits
+  pub words : t .kernel .words ≡ record { ready = 2 ^ z .threads - 1; waiting = replicate 36 0; unused = 0 }
   pub mailboxes : t .mailboxes
       ≡ replicate 4 (record { positions = record { read = 0; write = 0; count = 0 }; reset = 0; messages = replicate 16 0 })
   pub pools : t .pools ≡ replicate 4 (record { length = 0; list = replicate 32 0; marks = replicate 32 0 })

@@ -13,6 +13,7 @@ pub record HostTables (t : Tables) : Type 0 where
   pub threads : length (t .kernel .threads) ≡ 16
   pub counters : length (t .kernel .counters) ≡ 36
   pub references : length (t .kernel .references) ≡ 8
+  pub waiting : length (t .kernel .words .waiting) ≡ 36
   pub mailboxes : length (t .mailboxes) ≡ 4
   pub messages : (m : ℕ) → m < 4 → length (getD (t .mailboxes) m noBox .messages) ≡ 16
   pub pools : length (t .pools) ≡ 4

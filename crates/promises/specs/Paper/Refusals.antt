@@ -28,7 +28,7 @@ NoSpan d = (d ≡ 0) ⊎ (4294967295 ≤ d)
 -- "Refusal numbers": the step s breaks the rule of this number
 pub data Broken (t : Tables) (c : Clock) (s : Step) : ℕ → Type 0 where
   -- "the tables break a rule of the next section"
-  tables : (HangTogether (found t) c → ⊥) → Broken t c s 1
+  tables : (HangTogether (found t) (t .kernel .words) c → ⊥) → Broken t c s 1
   -- "kind not 1 to 22"
   no-kind : s .kind ≡ 0 → Broken t c s 2
   other-kind : 22 < s .kind → Broken t c s 2

@@ -1,16 +1,19 @@
 -- ONE STEP, AS DOCUMENT 01 TELLS IT: a relation between what a step is given (tables, clock, step) and what it gives back, with the
 -- paper's own numbers, over a world that is read by index. No meaning that a contract cites stands in this room.
-use Prim.Native.Nat.{ℕ, _+_, _/_, _%_, _^_, _<_}
+use Prim.Native.Nat.{ℕ, _+_, _<_}
 use mathlib.Core.Path.{_≡_}
 use mathlib.Core.Logic.{_≢_}
-use mathlib.Core.Bool.{Bool, cond}
+use mathlib.Core.Bool.{cond}
 use lib.Dec.{eqb}
+use lib.ListN.{length, getD}
 use Rattle.kernel.specs.declared.clock.Clock.{Clock}
+use Rattle.kernel.specs.declared.records.Words.{Words}
 use Rattle.library.specs.declared.calls.Step.{Step}
 use Rattle.library.specs.declared.tables.Tables.{Tables}
 use Rattle.steps.specs.declared.stepping.Outcome.{Outcome}
 use Rattle.steps.specs.declared.stepping.Stepped.{Stepped}
-use Rattle.promises.specs.Paper.World.{World, Left, Running}
+use Rattle.promises.specs.Paper.World.{World, Left, MaskOf, Running}
+use Rattle.promises.specs.Paper.Together.{InUse, WordsAgree}
 use Rattle.promises.specs.Paper.Rows.{Act}
 use Rattle.promises.specs.Paper.Settling.{Settles}
 use Rattle.promises.specs.Paper.Refusals.{Broken, RefusedWith}
@@ -24,9 +27,13 @@ pub data ClockAfter (c : Clock) (kind : ℕ) (d : Clock) : Type 0 where
   wraps : kind ≡ 1 → c .time .0 ≡ 4294967295 → d ≡ record { time = record { 0 = 0 }; frequency = c .frequency } → ClockAfter c kind d
   stays : kind ≢ 1 → d ≡ c → ClockAfter c kind d
 
--- a mask's bit i stands for thread i
-abbrev pub MaskOf : (ℕ → Bool) → ℕ → Type 0
-MaskOf f m = (i : ℕ) → m / 2 ^ i % 2 ≡ cond (f i) 1 0
+-- the words u that a step leaves, which found the words v. "Each step must leave the words equal to what a walk over the records would
+-- give"; those of places that are not in use are no part of the tables, and keep their bytes
+pub record WordsLeft (w : World) (v u : Words) : Type 0 where
+  pub agree : WordsAgree w u
+  pub rest : (p : ℕ) → (InUse (w .sizes) p → ⊥) → getD (u .waiting) p 0 ≡ getD (v .waiting) p 0
+  pub filler : u .unused ≡ v .unused
+  pub places : length (u .waiting) ≡ 36
 
 -- "A step's result: code, running thread, masks of threads woken and of threads whose calls finished, and message and datum of the
 -- caller's call .. For an interrupt they are the step's answer"
@@ -46,4 +53,4 @@ pub data StepOf (t : Tables) (c : Clock) (s : Step) (r : Stepped) : Type 0 where
       → StepOf t c s r
   -- no rule is broken: the step acts, settles, and gives back what it has come to
   accepted : ((n : ℕ) → Broken t c s n → ⊥) → (w x : World) → Act t (c .time) s w (s .kind) → Settles x w
-      → Left x (r .tables) → ClockAfter c (s .kind) (r .clock) → ResultOf x (s .caller) (r .outcome) → StepOf t c s r
+      → Left x (r .tables) → WordsLeft x (t .kernel .words) (r .tables .kernel .words) → ClockAfter c (s .kind) (r .clock) → ResultOf x (s .caller) (r .outcome) → StepOf t c s r

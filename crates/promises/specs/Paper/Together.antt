@@ -3,17 +3,18 @@ use Prim.Native.Nat.{ℕ, zero, suc, _+_, _%_, _≤_, _<_}
 use mathlib.Core.Path.{_≡_}
 use mathlib.Core.Logic.{_≢_, _⊎_, _↔_}
 use mathlib.Core.Bool.{Bool, true, false, cond, _&&_}
-use lib.Dec.{eqb}
+use lib.Dec.{eqb, ltb}
 use lib.Bits.{bitAnd}
 use lib.ListN.{length, getD}
 use lib.IntN.{ℤ, pos, negsuc}
 use Rattle.kernel.specs.declared.clock.Clock.{Clock}
 use Rattle.kernel.specs.declared.records.Call.{Call}
 use Rattle.kernel.specs.declared.records.Thread.{Thread}
+use Rattle.kernel.specs.declared.records.Words.{Words}
 use Rattle.library.specs.declared.sizes.Sizes.{Sizes}
 use Rattle.library.specs.declared.tables.Mailbox.{Mailbox}
 use Rattle.library.specs.declared.tables.Pool.{Pool}
-use Rattle.promises.specs.Paper.World.{World, noCall, First}
+use Rattle.promises.specs.Paper.World.{World, noCall, MaskOf, First}
 
 -- ---- sizes
 
@@ -141,9 +142,33 @@ pub record PoolFits (x : Pool) (c : ℤ) (promised : ℕ) : Type 0 where
   -- "Each object is marked absent, free or out"
   pub marks : (o : ℕ) → o < 32 → getD (x .marks) o 0 ≤ 2
 
+-- ---- words, of document 02
+
+-- thread i is ready
+abbrev pub isReady : World → ℕ → Bool
+isReady w i = eqb (w .thread i .state) 0
+
+-- a place where threads queue
+pub data InUse (z : Sizes) (p : ℕ) : Type 0 where
+  semaphore : p < z .semaphores → InUse z p
+  pool : (q : ℕ) → q < z .pools → p ≡ 16 + q → InUse z p
+  queue : (q : ℕ) → q < z .queues → p ≡ 20 + q → InUse z p
+  writers : (m : ℕ) → m < z .mailboxes → p ≡ 28 + m → InUse z p
+  readers : (m : ℕ) → m < z .mailboxes → p ≡ 32 + m → InUse z p
+
+-- "what a walk over the records would give": a bit for each of n threads that passes, and none from n on
+abbrev pub WordOf : (ℕ → Bool) → ℕ → ℕ → Type 0
+WordOf f n m = MaskOf (λ i. ltb i n && f i) m
+
+pub record WordsAgree (w : World) (v : Words) : Type 0 where
+  -- "bit i set exactly when thread i is ready"
+  pub ready : WordOf (isReady w) (w .sizes .threads) (v .ready)
+  -- "and one such word for each semaphore (a pool's too), queue and mailbox side with the threads waiting there"
+  pub waiting : (p : ℕ) → InUse (w .sizes) p → WordOf (isQueued w p) (w .sizes .threads) (getD (v .waiting) p 0)
+
 -- ---- the section
 
-pub record HangTogether (w : World) (c : Clock) : Type 0 where
+pub record HangTogether (w : World) (v : Words) (c : Clock) : Type 0 where
   pub sizes : SizesFit (w .sizes)
   -- "the frequency .. in range"
   pub frequency : (1 ≤ c .frequency) × (c .frequency ≤ 1000000)
@@ -167,3 +192,5 @@ pub record HangTogether (w : World) (c : Clock) : Type 0 where
   pub threads : (i : ℕ) → i < w .sizes .threads → ThreadFits (w .sizes) (w .thread i)
   -- "The running thread has no unfinished call"
   pub running : (i : ℕ) → First w i → w .thread i .call .kind ≡ 0
+  -- "Words that disagree don't hang together"
+  pub words : WordsAgree w v

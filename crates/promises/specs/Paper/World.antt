@@ -1,5 +1,6 @@
--- THE WORLD OF A STEP: all that document 01 speaks of, read by index, and the words for what becomes of it.
-use Prim.Native.Nat.{ℕ, _-_, _<_}
+-- THE WORLD OF A STEP: all that document 01 speaks of, read by index, and the words for what becomes of it. The ready word and the words of
+-- the waiting threads are no part of it: they are told once, where a step has ended.
+use Prim.Native.Nat.{ℕ, _-_, _/_, _%_, _^_, _<_}
 use mathlib.Core.Path.{_≡_}
 use mathlib.Core.Logic.{_≢_}
 use mathlib.Core.Bool.{Bool, true, false, cond}
@@ -240,6 +241,10 @@ signed a = cond (ltb a 2147483648) (pos a) (negsuc (4294967295 - a))
 -- "unfinished call (kind, object, operand, full timeout ..)"
 abbrev pub kept : ℕ → ℕ → ℕ → ℕ → Call
 kept kind object operand timeout = record { kind = kind; object = object; operand = operand; timeout = timeout }
+
+-- a mask's bit i stands for thread i
+abbrev pub MaskOf : (ℕ → Bool) → ℕ → Type 0
+MaskOf f m = (i : ℕ) → m / 2 ^ i % 2 ≡ cond (f i) 1 0
 
 -- ---- who
 

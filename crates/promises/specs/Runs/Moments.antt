@@ -41,7 +41,7 @@ moments t c (s ∷ ss) = momentOf t c s ∷ moments (stepped t c s .tables) (ste
 
 -- a host's tables and clock, which hang together
 pub record Going (t : Tables) (c : Clock) : Type 0 where
-  pub together : HangTogether (found t) c
+  pub together : HangTogether (found t) (t .kernel .words) c
   pub tables : HostTables t
   pub time : c .time .0 < 4294967296
 
@@ -56,7 +56,7 @@ module _ (t : Tables) (c : Clock) (g : Going t c) where
 
     time-kept : StepOf t c s (stepped t c s) → stepped t c s .clock .time .0 < 4294967296
     time-kept (StepOf.refused n b f r) = rw (r .clock) (g .time)
-    time-kept (StepOf.accepted n w x a z l d r) = by d
+    time-kept (StepOf.accepted n w x a z l u d r) = by d
       where
         by : {d : Clock} → ClockAfter c (s .kind) d → d .time .0 < 4294967296
         by (ClockAfter.next k b e) = rw e (omega (arith, b))

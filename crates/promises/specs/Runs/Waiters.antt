@@ -74,7 +74,7 @@ not-mail e x y z (inl (inr h)) = y (sym e ∙ h)
 not-mail e x y z (inr h) = z (sym e ∙ h)
 
 module _ (t : Tables) (c : Clock) (s : Step) (host : Host t c s) (e : stepped t c s .outcome .code ≡ 0) where
-  together : HangTogether (found t) c
+  together : HangTogether (found t) (t .kernel .words) c
   together = rules-together t c (hangs t c s host (accepted t c s host e) .together)
 
   abbrev n : ℕ

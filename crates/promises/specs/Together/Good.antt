@@ -3,7 +3,7 @@
 use Prim.Native.Nat.{ℕ, _+_, _%_, _≤_, _<_}
 use mathlib.Core.Path.{_≡_}
 use mathlib.Core.Logic.{_≢_, _⊎_, _↔_}
-use mathlib.Core.Bool.{false}
+use mathlib.Core.Bool.{true, false}
 use lib.Bits.{bitAnd}
 use lib.IntN.{ℤ, pos, _+ℤ_}
 use lib.Signed.{ltZ}
@@ -14,6 +14,7 @@ use Rattle.kernel.specs.Numbers.{nobody, nowhere, ready, suspended, awaiting, i
 use Rattle.kernel.specs.Places.{semaphorePlace, poolPlace, queuePlace, writersPlace, readersPlace}
 use Rattle.kernel.specs.Tables.{threadAt, counterAt, holderAt}
 use Rattle.kernel.specs.Waiters.{firstReady}
+use Rattle.kernel.specs.Words.{waitingAt}
 use Rattle.kernel.specs.Moves.{awaitedBy}
 use Rattle.library.specs.declared.ring.Positions.{Positions}
 use Rattle.library.specs.declared.sizes.Sizes.{Sizes}
@@ -25,7 +26,8 @@ use Rattle.library.specs.Signs.{minus}
 use Rattle.library.specs.Tables.{mailboxAt, poolAt}
 use Rattle.library.specs.Pool.{absent, free, out, listedAt, markAt}
 use Rattle.rules.specs.RowRules.{callLimit, waitState, waitPlace}
-use Rattle.rules.specs.PlaceRules.{queuedCount}
+use Rattle.rules.specs.PlaceRules.{inUse, queuedCount}
+use Rattle.rules.specs.WordRules.{readyWord, waitingWord}
 use Rattle.rules.specs.PoolRules.{larger, occurrences, promisedCount}
 
 -- "Threads T 1 to 16 .. Semaphores S 0 to 16. Queues Q 0 to 8. References R 0 to 8. Mailboxes M 0 to 4, each of 1 to 16 slots.
@@ -129,6 +131,11 @@ pub record GoodPool (x : Pool) (c : ℤ) (promised : ℕ) : Type 0 where
   -- "Each object is marked absent, free or out"
   pub marks : (o : ℕ) → o < 32 → (markAt x o ≡ absent) ⊎ ((markAt x o ≡ free) ⊎ (markAt x o ≡ out))
 
+-- the words: "what a walk over the records would give"
+pub record GoodWords (k : Kernel) (z : Sizes) : Type 0 where
+  pub ready : k .words .ready ≡ readyWord k (z .threads)
+  pub waiting : (p : ℕ) → p < 36 → inUse z p ≡ true → waitingAt (k .words) p ≡ waitingWord k (z .threads) p
+
 -- everything that "Tables that hang together" says but its last sentence: what holds between two moves of a step too
 pub record Good (p : Plant) : Type 0 where
   pub sizes : GoodSizes (p .sizes)
@@ -138,6 +145,8 @@ pub record Good (p : Plant) : Type 0 where
   pub pools : (q : ℕ) → q < p .sizes .pools
       → GoodPool (poolAt p q) (counterAt (p .kernel) (poolPlace q)) (promisedCount (p .kernel) (p .sizes .threads) q)
   pub threads : (i : ℕ) → i < p .sizes .threads → GoodThread (p .sizes) (threadAt (p .kernel) i)
+  -- "Words that disagree don't hang together"
+  pub words : GoodWords (p .kernel) (p .sizes)
 
 -- "Tables that hang together"
 pub record RulesHold (p : Plant) (c : Clock) : Type 0 where

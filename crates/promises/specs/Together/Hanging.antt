@@ -19,9 +19,11 @@ use Rattle.kernel.specs.Records.{blank, freshRecords, begun}
 use Rattle.kernel.specs.Tables.{usedRows, threadAt, counterAt}
 use Rattle.kernel.specs.Units.{frequencyOf, frequencyFits}
 use Rattle.kernel.specs.Walk.{countOf}
-use Rattle.kernel.specs.Waiters.{queuedAt, firstReady}
+use Rattle.kernel.specs.Waiters.{isReady, queuedAt, firstReady}
+use Rattle.kernel.specs.Words.{freshWords}
 use Rattle.kernel.proofs.Cases.{split, both-true, both-means}
 use Rattle.kernel.proofs.WalkLaws.{count-none}
+use Rattle.kernel.proofs.WordsLaws.{word-all, word-agree, word-none}
 use Rattle.library.specs.declared.sizes.Sizes.{Sizes}
 use Rattle.library.specs.declared.tables.Plant.{Plant}
 use Rattle.library.specs.Sizes.{slotsAt, sizesFit}
@@ -32,6 +34,7 @@ use Rattle.rules.specs.PlaceRules.{queuedCount, countersFit}
 use Rattle.rules.specs.ReferenceRules.{referencesFit}
 use Rattle.rules.specs.MailboxRules.{mailboxesFit}
 use Rattle.rules.specs.PoolRules.{occurrences, promisedBy, promisedCount, poolsFit}
+use Rattle.rules.specs.WordRules.{readyWord, waitingWord, wordsFit}
 use Rattle.rules.specs.Hanging.{runningFree, hangsTogether}
 use Rattle.promises.specs.Together.Tests.{all-at, all-of, used-all}
 use Rattle.promises.specs.Together.Good.{
@@ -42,11 +45,13 @@ use Rattle.promises.specs.Together.Good.{
   GoodReferences,
   GoodMailbox,
   GoodPool,
+  GoodWords,
   Good,
   RulesHold,
 }
 use Rattle.promises.specs.Together.RowTests.{row-good, good-row}
 use Rattle.promises.specs.Together.PlaceTests.{sizes-good, good-sizes, counters-good, good-counters, references-good, good-references}
+use Rattle.promises.specs.Together.WordTests.{words-good, good-words}
 use Rattle.promises.specs.Together.BoxTests.{mailboxes-good, good-mailboxes, pools-good, good-pools}
 
 -- ---- the test and the statements
@@ -79,7 +84,8 @@ module _ (p : Plant) (c : Clock) where
       let f = both-means (countersFit (p .kernel) (p .sizes)) _ (d .1) in
       let g = both-means (referencesFit (p .kernel) (p .sizes)) _ (f .1) in
       let h = both-means (mailboxesFit p) _ (g .1) in
-      let i = both-means (poolsFit p) (runningFree (p .kernel) (p .sizes .threads)) (h .1) in
+      let i = both-means (poolsFit p) _ (h .1) in
+      let j = both-means (runningFree (p .kernel) (p .sizes .threads)) (wordsFit (p .kernel) (p .sizes)) (i .1) in
       let s = sizes-good (p .sizes) (a .0) in
       record {
         good = record {
@@ -89,9 +95,10 @@ module _ (p : Plant) (c : Clock) where
           mailboxes = mailboxes-good p s (h .0);
           pools = pools-good p s (i .0);
           threads = rows-good (p .kernel) (p .sizes) s (d .0);
+          words = words-good (p .kernel) (p .sizes) (j .1);
         };
         frequency = frequency-good (c .frequency) (b .0);
-        running = eqb-true (threadAt (p .kernel) (firstReady (p .kernel) (p .sizes .threads)) .call .kind) 0 (i .1);
+        running = eqb-true (threadAt (p .kernel) (firstReady (p .kernel) (p .sizes .threads)) .call .kind) 0 (j .0);
       }
 
   -- tables that hang together pass the test
@@ -106,7 +113,8 @@ module _ (p : Plant) (c : Clock) where
       (both-true (good-references (p .kernel) (p .sizes) s (g .good .references))
       (both-true (good-mailboxes p s (g .good .mailboxes))
       (both-true (good-pools p s (g .good .pools))
-      (eq-eqb (threadAt (p .kernel) (firstReady (p .kernel) (p .sizes .threads)) .call .kind) 0 (g .running))))))))
+      (both-true (eq-eqb (threadAt (p .kernel) (firstReady (p .kernel) (p .sizes .threads)) .call .kind) 0 (g .running))
+      (good-words (p .kernel) (p .sizes) (g .good .words)))))))))
 
   -- the Bool test and the record of statements say the same
   pub hangs-exactly : (hangsTogether p c ≡ true) ↔ RulesHold p c
@@ -140,39 +148,54 @@ blank-good z =
       none-pending = λ h. absurd (omega (arith, h));
     }
 
--- the kernel part of fresh tables, as a step finds it
-abbrev fresh : Kernel
-fresh = begun freshRecords
+-- ---- the kernel part of fresh tables of m threads, as a step finds it
 
--- nobody is queued anywhere
-none-queued : (n p : ℕ) → queuedCount fresh n p ≡ 0
-unfolding queuedCount
-none-queued n p = count-none (λ i. queuedAt p (threadAt fresh i)) (usedRows n) (λ i h. rw (all-blank 16 blank i))
+module _ (m : ℕ) where
+  abbrev fresh : Kernel
+  fresh = begun (freshRecords (freshWords m))
 
--- nothing is promised
-none-promised : (n q : ℕ) → promisedCount fresh n q ≡ 0
-unfolding promisedCount
-none-promised n q = count-none (λ i. promisedBy q (threadAt fresh i)) (usedRows n) (λ i h. rw (all-blank 16 blank i))
+  -- nobody is queued anywhere
+  none-queued : (n p : ℕ) → queuedCount fresh n p ≡ 0
+  unfolding queuedCount
+  none-queued n p = count-none (λ i. queuedAt p (threadAt fresh i)) (usedRows n) (λ i h. rw (all-blank 16 blank i))
 
-module _ (n p : ℕ) where
-  fresh-semaphore : SemaphoreCounter (counterAt fresh p) (queuedCount fresh n p)
-  fresh-semaphore =
-      record { waiters = λ l. absurd (omega (arith, none-queued n p)); none = λ h. rw (all-blank 36 (pos 0) p) }
+  -- nothing is promised
+  none-promised : (n q : ℕ) → promisedCount fresh n q ≡ 0
+  unfolding promisedCount
+  none-promised n q = count-none (λ i. promisedBy q (threadAt fresh i)) (usedRows n) (λ i h. rw (all-blank 16 blank i))
 
-  fresh-queue : QueueCounter (counterAt fresh p) (queuedCount fresh n p)
-  fresh-queue =
-      record { waiters = λ l. absurd (omega (arith, none-queued n p)); none = λ h. all-blank 36 (pos 0) p }
+  module _ (n p : ℕ) where
+    fresh-semaphore : SemaphoreCounter (counterAt fresh p) (queuedCount fresh n p)
+    fresh-semaphore =
+        record { waiters = λ l. absurd (omega (arith, none-queued n p)); none = λ h. rw (all-blank 36 (pos 0) p) }
 
--- no thread is suspended, and no reference holds any
-fresh-references : (z : Sizes) → GoodSizes z → GoodReferences fresh z
-fresh-references z s =
-    record {
-      holder = λ r h. inl (all-blank 8 nobody r);
-      holds = λ r h i l. (
-        λ e. absurd (omega (arith, sym (all-blank 8 nobody r) ∙ e, s .threads .1)),
-        λ e. absurd (omega (arith, rw (all-blank 16 blank i) at (e .0))),
-      );
-    }
+    fresh-queue : QueueCounter (counterAt fresh p) (queuedCount fresh n p)
+    fresh-queue =
+        record { waiters = λ l. absurd (omega (arith, none-queued n p)); none = λ h. all-blank 36 (pos 0) p }
+
+  -- no thread is suspended, and no reference holds any
+  fresh-references : (z : Sizes) → GoodSizes z → GoodReferences fresh z
+  fresh-references z s =
+      record {
+        holder = λ r h. inl (all-blank 8 nobody r);
+        holds = λ r h i l. (
+          λ e. absurd (omega (arith, sym (all-blank 8 nobody r) ∙ e, s .threads .1)),
+          λ e. absurd (omega (arith, rw (all-blank 16 blank i) at (e .0))),
+        );
+      }
+
+  -- every bit of n threads' word is set, and nobody waits
+  fresh-good-words : (z : Sizes) → z .threads ≡ m → GoodWords fresh z
+  unfolding readyWord waitingWord
+  fresh-good-words z e =
+      record {
+        ready =
+            rw e (sym (word-all (usedRows m)) ∙ sym (word-agree (λ i. isReady (threadAt fresh i)) (λ i. true) (usedRows m)
+            (λ i h. rw (all-blank 16 blank i))));
+        waiting = λ p h u.
+            all-blank 36 0 p
+            ∙ sym (word-none (λ i. queuedAt p (threadAt fresh i)) (usedRows (z .threads)) (λ i l. rw (all-blank 16 blank i)));
+      }
 
 -- "mailboxes empty"
 fresh-mailbox : (slots : ℕ) → 1 ≤ slots → GoodMailbox (blankMailbox .positions) slots
@@ -198,17 +221,18 @@ module _ (z : Sizes) (s : GoodSizes z) where
       record {
         sizes = s;
         counters = record {
-          semaphores = λ i h. fresh-semaphore (z .threads) i;
-          pools = λ i h. fresh-semaphore (z .threads) (poolPlace i);
-          queues = λ i h. fresh-queue (z .threads) (queuePlace i);
-          writers = λ i h. fresh-queue (z .threads) (writersPlace i);
-          readers = λ i h. fresh-queue (z .threads) (readersPlace i);
+          semaphores = λ i h. fresh-semaphore (z .threads) (z .threads) i;
+          pools = λ i h. fresh-semaphore (z .threads) (z .threads) (poolPlace i);
+          queues = λ i h. fresh-queue (z .threads) (z .threads) (queuePlace i);
+          writers = λ i h. fresh-queue (z .threads) (z .threads) (writersPlace i);
+          readers = λ i h. fresh-queue (z .threads) (z .threads) (readersPlace i);
         };
-        references = fresh-references z s;
+        references = fresh-references (z .threads) z s;
         mailboxes = λ m h. rw (all-blank 4 blankMailbox m) (fresh-mailbox (slotsAt z m) (s .slots m h .0));
         pools = λ q h.
-            rw (all-blank 4 blankPool q, all-blank 36 (pos 0) (poolPlace q), none-promised (z .threads) q) fresh-pool;
+            rw (all-blank 4 blankPool q, all-blank 36 (pos 0) (poolPlace q), none-promised (z .threads) (z .threads) q) fresh-pool;
         threads = λ i h. rw (all-blank 16 blank i) (blank-good z);
+        words = fresh-good-words (z .threads) z refl;
       }
 
 -- "Fresh tables pass": of every legal size, at every legal frequency
@@ -219,7 +243,7 @@ fresh-hangs z f e h =
     (record {
       good = fresh-good z (sizes-good z e);
       frequency = frequency-good f h;
-      running = ap (λ (t : Thread). t .call .kind) (all-blank 16 blank (firstReady fresh (z .threads)));
+      running = ap (λ (t : Thread). t .call .kind) (all-blank 16 blank (firstReady (fresh (z .threads)) (z .threads)));
     })
 
 -- what `made` makes, it makes so that it passes

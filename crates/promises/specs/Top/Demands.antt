@@ -1,4 +1,4 @@
--- THE THREE DEMANDS. The first two are of any tables, clock and step of a host; the third of any run, refused steps included, from any
+-- THE THREE DEMANDS, AND THE WORDS OF DOCUMENT 02. The first two are of any tables, clock and step of a host; the third of any run, refused steps included, from any
 -- tables that hang together, and so from fresh ones. Their words are those of room Paper: what they cite of the code is `stepped` alone,
 -- which each function is proved to compute.
 use Prim.Native.Nat.{ℕ, _+_, _≤_, _<_}
@@ -20,12 +20,14 @@ use Rattle.library.specs.Fresh.{made}
 use Rattle.library.specs.Sizes.{sizesFit}
 use Rattle.steps.specs.declared.stepping.Stepped.{Stepped}
 use Rattle.steps.specs.Stepping.{stepped}
+use Rattle.host.specs.Screen.{readyCount, readyFirst, waitersAt}
 use Rattle.promises.specs.Paper.World.{found}
-use Rattle.promises.specs.Paper.Together.{TicksFit, HangTogether}
+use Rattle.promises.specs.Paper.Together.{TicksFit, WordsAgree, HangTogether}
 use Rattle.promises.specs.Paper.Host.{Host, HostSteps}
 use Rattle.promises.specs.Paper.Refusals.{Broken, RefusedWith}
 use Rattle.promises.specs.Paper.Step.{StepOf}
 use Rattle.promises.specs.Paper.Waking.{rowOf}
+use Rattle.promises.specs.Paper.Boundary.{ScreenOf}
 use Rattle.promises.specs.Paper.Run.{ticksIn, signalsIn, joinsIn, higher, WokenIn}
 use Rattle.promises.specs.Runs.Run.{ran}
 use Rattle.promises.specs.Kept.Steps.{made-hang}
@@ -42,6 +44,7 @@ use Rattle.promises.specs.Runs.Moments.{
   each-step,
 }
 use Rattle.promises.specs.Meant.Together.{rules-together}
+use Rattle.promises.specs.Meant.Screen.{screen-is}
 use Rattle.promises.specs.Meant.Step.{sized-host, step-is, demand-two}
 
 -- ---- DEMAND 1: "Any tables and any step get an answer. Bad ones get the refusal number of document 01; then every table byte stays as it
@@ -95,7 +98,7 @@ module _ (t : Tables) (c : Clock) (s : Step) (host : Host t c s) where
   verdict (StepOf.refused m b f r) =
       let e = r .code in
       Verdict.stopped (subst (Broken t c s) (sym e) b) (λ k l. f k (rw e at l)) (subst (λ (k : ℕ). RefusedWith t c k (stepped t c s)) (sym e) r)
-  verdict (StepOf.accepted b w x a z l d r) = Verdict.taken (r .code) b
+  verdict (StepOf.accepted b w x a z l u d r) = Verdict.taken (r .code) b
 
   -- two first broken rules are one
   first-rule : (m k : ℕ) → Broken t c s m → ((j : ℕ) → j < m → Broken t c s j → ⊥) → Broken t c s k → ((j : ℕ) → j < k → Broken t c s j → ⊥)
@@ -184,6 +187,24 @@ unfolding ran
 run-going [] hs t c g = g
 run-going (s ∷ ss) (HostSteps.more h hs) t c g = run-going ss hs (stepped t c s .tables) (stepped t c s .clock) (going-on t c g s h)
 
+-- ---- DOCUMENT 02, 1/13: THE WORDS, from any tables that hang together, after any steps, refused ones included
+
+module _ (t : Tables) (c : Clock) (g : Going t c) (ss : List Step) (hs : HostSteps ss) where
+  abbrev pub after : Tables
+  after = ran t c ss .tables
+
+  then : Going after (ran t c ss .clock)
+  then = run-going ss hs t c g
+
+  -- "Each step must leave the words equal to what a walk over the records would give"
+  pub words-right : WordsAgree (found after) (after .kernel .words)
+  words-right = then .together .words
+
+  -- "The number of ready threads is the number of ones; the first ready thread is the number of trailing zeros of the word, and an empty word
+  -- means idle": what a host's screen is told
+  pub screen-right : ScreenOf after (readyCount after) (readyFirst after) (waitersAt after)
+  screen-right = screen-is after (then .together .sizes .threads .1) words-right
+
 -- ---- DEMAND 3, from fresh tables of the sizes y, after any steps xs, over any steps ss
 module _ (y : Sizes) (r : Rate) (legal : made y r .code ≡ 0) (xs : List Step) (hx : HostSteps xs) where
   abbrev pub t₁ : Tables
@@ -195,8 +216,12 @@ module _ (y : Sizes) (r : Rate) (legal : made y r .code ≡ 0) (xs : List Step) 
   going : Going t₁ c₁
   going = run-going xs hx (made y r .tables) (made y r .clock) (fresh-going y r legal)
 
-  pub always-together : HangTogether (found t₁) c₁
+  pub always-together : HangTogether (found t₁) (t₁ .kernel .words) c₁
   always-together = going .together
+
+  -- and so do their words
+  pub words-always : WordsAgree (found t₁) (t₁ .kernel .words)
+  words-always = going .together .words
 
   module _ (ss : List Step) (hs : HostSteps ss) (i : ℕ) (within : i < t₁ .sizes .threads) where
     -- "a sleep with timeout t ends by its t-th later accepted tick"

@@ -1,13 +1,20 @@
 -- What the statements of the demands rule out, each in a line or two: answers and wakings that no step gives.
-use Prim.Native.Nat.{ℕ, _+_, _≤_, _<_}
+use Prim.Native.Nat.{ℕ, _+_, _/_, _%_, _^_, _≤_, _<_}
 use native.Mathlib.Omega.{arith}
 use mathlib.Core.Path.{_≡_, refl, sym, ap, _∙_}
 use mathlib.Core.Logic.{_≢_, inl, inr}
-use mathlib.Core.Bool.{Bool, false, true≢false}
+use mathlib.Core.Bool.{Bool, true, false, cond, _&&_, true≢false}
+use lib.Dec.{eqb, ltb}
+use lib.ListN.{getD}
 use lib.IntN.{ℤ, pos, negsuc}
+use borrow.Author.Tests.{eqb-true, le-ltb}
 use Rattle.kernel.specs.declared.records.Thread.{Thread}
+use Rattle.kernel.specs.declared.records.Words.{Words}
+use Rattle.kernel.proofs.Cases.{split}
 use Rattle.library.specs.declared.calls.Step.{Step}
 use Rattle.library.specs.declared.tables.Tables.{Tables}
+use Rattle.promises.specs.Paper.World.{World}
+use Rattle.promises.specs.Paper.Together.{InUse, WordOf, WordsAgree}
 use Rattle.promises.specs.Paper.Waking.{rowOf, AnswerOf, SleeperAfter, WakerAfter}
 use Rattle.promises.specs.Paper.Run.{TurnOf}
 
@@ -65,3 +72,21 @@ unwoken-unfinished (SleeperAfter.on e p q) z = q
 unwoken-unfinished (SleeperAfter.ready m b k l g e p q) z = absurd (true≢false (sym p ∙ z))
 unwoken-unfinished (SleeperAfter.done m x d f b g e p q) z = absurd (true≢false (sym p ∙ z))
 unwoken-unfinished (SleeperAfter.again g b e p q) z = q
+
+-- a word has no bit from the number of threads on
+pub no-bit-past : (f : ℕ → Bool) (n w i : ℕ) → WordOf f n w → n ≤ i → w / 2 ^ i % 2 ≡ 0
+no-bit-past f n w i g l = g i ∙ rw (le-ltb i n l)
+
+-- who waits at a place is not in the ready word
+pub no-ready-waiter : (w : World) (v : Words) (p i : ℕ) → WordsAgree w v → InUse (w .sizes) p → getD (v .waiting) p 0 / 2 ^ i % 2 ≡ 1
+    → v .ready / 2 ^ i % 2 ≡ 0
+no-ready-waiter w v p i g u e =
+    g .ready i ∙ asleep (eqb (w .thread i .place) p) (ltb i (w .sizes .threads)) (sym (g .waiting p u i) ∙ e)
+  where
+    asleep : (b c : Bool) → _≡_ {A = ℕ} (cond (c && (eqb (w .thread i .state) 3 && b)) 1 0) 1
+        → _≡_ {A = ℕ} (cond (c && eqb (w .thread i .state) 0) 1 0) 0
+    asleep b false x = refl
+    asleep b true x =
+        split (eqb (w .thread i .state) 3)
+        (λ s. rw (eqb-true (w .thread i .state) 3 s))
+        (λ s. absurd (omega (arith, rw s at x)))

@@ -2,9 +2,10 @@
 use Prim.Native.Nat.{ℕ, _<_}
 use native.Mathlib.Omega.{arith}
 use mathlib.Core.Path.{_≡_, refl}
-use mathlib.Core.List.{List, [], _∷_}
+use mathlib.Core.List.{List, [], _∷_, _++_}
 use Rattle.kernel.specs.declared.units.Rate.the-variants.{Standard}
 use Rattle.kernel.specs.Walk.{firstFrom, allFrom, countOf}
+use Rattle.kernel.specs.Words.{wordOf, onesOf, firstOf}
 use Rattle.kernel.specs.Moves.{takenOff, putOn, woken, slept, finished, blocked}
 use Rattle.kernel.specs.Waiters.{firstReady, firstWaiter}
 use Rattle.kernel.specs.Queue.{enqueued, releasedFirst, releasedAll}
@@ -12,6 +13,7 @@ use Rattle.kernel.specs.Semaphore.{taken, waited, signalled}
 use Rattle.kernel.specs.Ticking.{ticked}
 use Rattle.library.specs.declared.calls.Step.{Step}
 use Rattle.library.specs.declared.sizes.Sizes.{Sizes}
+use Rattle.library.specs.declared.tables.Tables.{Tables}
 use Rattle.library.specs.Pool.{popped, pushed, handedOver, allocTried, putBack}
 use Rattle.library.specs.Acting.{waitBegun, effected, actedOnKernel, boxEffected, actedOnBox, acted}
 use Rattle.library.specs.Fresh.{made}
@@ -19,12 +21,14 @@ use Rattle.library.specs.Settling.{continued, settled}
 use Rattle.library.specs.Sizes.{sizesFit}
 use Rattle.rules.specs.RowRules.{callFits, waitFits, ticksFit, flagsFit, rowFits, rowsFit}
 use Rattle.rules.specs.PlaceRules.{queuedCount, countersFit}
+use Rattle.rules.specs.WordRules.{readyWord, waitingWord, readyFits, waitingFits, wordsFit}
 use Rattle.rules.specs.ReferenceRules.{holderFits, referencesFit}
 use Rattle.rules.specs.MailboxRules.{positionsFit, mailboxesFit}
 use Rattle.rules.specs.PoolRules.{promisedCount, occurrences, entriesFit, objectsFit, poolFits, poolsFit}
 use Rattle.rules.specs.Hanging.{runningFree, hangsTogether}
 use Rattle.steps.specs.Refusal.{refusalOf}
 use Rattle.steps.specs.Stepping.{maskOf, outcomeOf, doneWith, refusedWith, stepped}
+use Rattle.host.specs.Screen.{readyCount, readyFirst, waitersAt}
 use Rattle.promises.specs.Paper.Host.{HostStep, HostSteps}
 use Rattle.promises.specs.Paper.Run.{WokenIn}
 use Rattle.promises.specs.Runs.Run.{ran}
@@ -68,7 +72,7 @@ waits-typed timeout = one 0 2 0 timeout (omega arith)
 pub demand-3a-shown :
     WokenIn 0 (WakingOf 0)
     (moments (t₁ two Standard made-shown (alone (waits 0 1)) (waits-typed 1)) (c₁ two Standard made-shown (alone (waits 0 1)) (waits-typed 1)) (alone tick))
-unfolding firstFrom allFrom countOf firstReady firstWaiter takenOff putOn woken slept finished blocked enqueued releasedFirst releasedAll taken waited signalled ticked sizesFit made waitBegun effected actedOnKernel acted continued settled callFits waitFits ticksFit flagsFit rowFits rowsFit queuedCount countersFit holderFits referencesFit positionsFit mailboxesFit promisedCount occurrences entriesFit objectsFit poolFits poolsFit runningFree hangsTogether refusalOf maskOf outcomeOf doneWith refusedWith stepped ran moments
+unfolding firstFrom allFrom countOf wordOf firstReady firstWaiter takenOff putOn woken slept finished blocked enqueued releasedFirst releasedAll taken waited signalled ticked sizesFit made waitBegun effected actedOnKernel acted continued settled callFits waitFits ticksFit flagsFit rowFits rowsFit queuedCount countersFit readyWord waitingWord readyFits waitingFits wordsFit holderFits referencesFit positionsFit mailboxesFit promisedCount occurrences entriesFit objectsFit poolFits poolsFit runningFree hangsTogether refusalOf maskOf outcomeOf doneWith refusedWith stepped ran moments
 demand-3a-shown =
     demand-3a two Standard made-shown (alone (waits 0 1)) (waits-typed 1) (alone tick) (one 255 1 0 0 (omega arith)) 0 (omega arith)
     (λ z. omega (arith, z)) (omega arith) (omega arith)
@@ -76,7 +80,7 @@ demand-3a-shown =
 pub demand-3b-shown :
     Throughout EachThread
     (moments (t₁ two Standard made-shown (alone (waits 0 1)) (waits-typed 1)) (c₁ two Standard made-shown (alone (waits 0 1)) (waits-typed 1)) (alone tick))
-unfolding firstFrom allFrom countOf firstReady firstWaiter takenOff putOn woken slept finished blocked enqueued releasedFirst releasedAll taken waited signalled ticked sizesFit made waitBegun effected actedOnKernel acted continued settled callFits waitFits ticksFit flagsFit rowFits rowsFit queuedCount countersFit holderFits referencesFit positionsFit mailboxesFit promisedCount occurrences entriesFit objectsFit poolFits poolsFit runningFree hangsTogether refusalOf maskOf outcomeOf doneWith refusedWith stepped ran moments
+unfolding firstFrom allFrom countOf wordOf firstReady firstWaiter takenOff putOn woken slept finished blocked enqueued releasedFirst releasedAll taken waited signalled ticked sizesFit made waitBegun effected actedOnKernel acted continued settled callFits waitFits ticksFit flagsFit rowFits rowsFit queuedCount countersFit readyWord waitingWord readyFits waitingFits wordsFit holderFits referencesFit positionsFit mailboxesFit promisedCount occurrences entriesFit objectsFit poolFits poolsFit runningFree hangsTogether refusalOf maskOf outcomeOf doneWith refusedWith stepped ran moments
 demand-3b-shown =
     demand-3b two Standard made-shown (alone (waits 0 1)) (waits-typed 1) (alone tick) (one 255 1 0 0 (omega arith)) 0 (omega arith)
 
@@ -98,7 +102,7 @@ signals-typed = HostSteps.more (typed 255 3 0 0 (omega arith)) (HostSteps.more (
 pub demand-3c-shown :
     WokenIn 1 (TurnAt 0 1)
     (moments (t₁ two Standard made-shown bothWait both-typed) (c₁ two Standard made-shown bothWait both-typed) twoSignals)
-unfolding firstFrom allFrom countOf firstReady firstWaiter takenOff putOn woken slept finished blocked enqueued releasedFirst releasedAll taken waited signalled ticked sizesFit made waitBegun effected actedOnKernel acted continued settled callFits waitFits ticksFit flagsFit rowFits rowsFit queuedCount countersFit holderFits referencesFit positionsFit mailboxesFit promisedCount occurrences entriesFit objectsFit poolFits poolsFit runningFree hangsTogether refusalOf maskOf outcomeOf doneWith refusedWith stepped ran moments
+unfolding firstFrom allFrom countOf wordOf firstReady firstWaiter takenOff putOn woken slept finished blocked enqueued releasedFirst releasedAll taken waited signalled ticked sizesFit made waitBegun effected actedOnKernel acted continued settled callFits waitFits ticksFit flagsFit rowFits rowsFit queuedCount countersFit readyWord waitingWord readyFits waitingFits wordsFit holderFits referencesFit positionsFit mailboxesFit promisedCount occurrences entriesFit objectsFit poolFits poolsFit runningFree hangsTogether refusalOf maskOf outcomeOf doneWith refusedWith stepped ran moments
 demand-3c-shown =
     demand-3c two Standard made-shown bothWait both-typed twoSignals signals-typed 1 (omega arith) 0 (omega arith) refl refl refl (omega arith)
 
@@ -111,7 +115,20 @@ pub demand-3c-pools-shown :
     WokenIn 0 (TurnAt 16 0)
     (moments (t₁ two Standard made-shown (alone allocs) (one 0 20 0 4294967295 (omega arith)))
     (c₁ two Standard made-shown (alone allocs) (one 0 20 0 4294967295 (omega arith))) (alone (by 255 22 5 0)))
-unfolding firstFrom allFrom countOf firstReady firstWaiter takenOff putOn woken slept finished blocked enqueued releasedFirst releasedAll taken waited signalled ticked sizesFit made waitBegun effected actedOnKernel acted continued settled callFits waitFits ticksFit flagsFit rowFits rowsFit queuedCount countersFit holderFits referencesFit positionsFit mailboxesFit promisedCount occurrences entriesFit objectsFit poolFits poolsFit runningFree hangsTogether refusalOf maskOf outcomeOf doneWith refusedWith stepped ran moments popped pushed handedOver allocTried putBack boxEffected actedOnBox
+unfolding firstFrom allFrom countOf wordOf firstReady firstWaiter takenOff putOn woken slept finished blocked enqueued releasedFirst releasedAll taken waited signalled ticked sizesFit made waitBegun effected actedOnKernel acted continued settled callFits waitFits ticksFit flagsFit rowFits rowsFit queuedCount countersFit readyWord waitingWord readyFits waitingFits wordsFit holderFits referencesFit positionsFit mailboxesFit promisedCount occurrences entriesFit objectsFit poolFits poolsFit runningFree hangsTogether refusalOf maskOf outcomeOf doneWith refusedWith stepped ran moments popped pushed handedOver allocTried putBack boxEffected actedOnBox
 demand-3c-pools-shown =
     demand-3c-pools two Standard made-shown (alone allocs) (one 0 20 0 4294967295 (omega arith)) (alone (by 255 22 5 0))
     (one 255 22 5 0 (omega arith)) 0 (omega arith) 0 (omega arith) refl refl refl (omega arith)
+
+-- ---- the words of document 02, in runs: fresh; thread 0 waits; both wait, and idle runs; a signal wakes thread 0. Each row has the ready word,
+-- the word of semaphore 0, how many are ready, who is first
+
+abbrev wordsAfter : List Step → List ℕ
+wordsAfter ss =
+    let t : Tables = ran (made two Standard .tables) (made two Standard .clock) ss .tables in
+    t .kernel .words .ready ∷ waitersAt t 0 ∷ readyCount t ∷ readyFirst t ∷ []
+
+pub words-shown : wordsAfter [] ∷ wordsAfter (alone (waits 0 5)) ∷ wordsAfter bothWait ∷ wordsAfter (bothWait ++ alone (by 255 3 0 0)) ∷ []
+    ≡ (3 ∷ 0 ∷ 2 ∷ 0 ∷ []) ∷ (2 ∷ 1 ∷ 1 ∷ 1 ∷ []) ∷ (0 ∷ 3 ∷ 0 ∷ 255 ∷ []) ∷ (1 ∷ 2 ∷ 1 ∷ 0 ∷ []) ∷ []
+unfolding firstFrom allFrom countOf wordOf firstReady firstWaiter takenOff putOn woken slept finished blocked enqueued releasedFirst releasedAll taken waited signalled ticked sizesFit made waitBegun effected actedOnKernel acted continued settled callFits waitFits ticksFit flagsFit rowFits rowsFit queuedCount countersFit readyWord waitingWord readyFits waitingFits wordsFit holderFits referencesFit positionsFit mailboxesFit promisedCount occurrences entriesFit objectsFit poolFits poolsFit runningFree hangsTogether refusalOf maskOf outcomeOf doneWith refusedWith stepped ran onesOf firstOf
+words-shown = refl

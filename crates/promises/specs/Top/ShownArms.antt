@@ -11,6 +11,7 @@ use lib.IntN.{pos}
 use lib.Signed.{ltZ}
 use Rattle.kernel.specs.declared.units.Rate.the-variants.{Standard}
 use Rattle.kernel.specs.Walk.{firstFrom, allFrom, countOf}
+use Rattle.kernel.specs.Words.{wordOf}
 use Rattle.kernel.specs.Tables.{threadAt, counterAt, holderAt}
 use Rattle.kernel.specs.Moves.{takenOff, putOn, woken, slept, finished, blocked}
 use Rattle.kernel.specs.Waiters.{queuedAt, firstReady, firstWaiter}
@@ -34,6 +35,7 @@ use Rattle.library.specs.Sizes.{sizesFit}
 use Rattle.library.specs.Tables.{opened, mailboxAt}
 use Rattle.rules.specs.RowRules.{callFits, waitFits, ticksFit, flagsFit, rowFits, rowsFit}
 use Rattle.rules.specs.PlaceRules.{queuedCount, countersFit}
+use Rattle.rules.specs.WordRules.{readyWord, waitingWord, readyFits, waitingFits, wordsFit}
 use Rattle.rules.specs.ReferenceRules.{holderFits, referencesFit}
 use Rattle.rules.specs.MailboxRules.{positionsFit, mailboxesFit}
 use Rattle.rules.specs.PoolRules.{promisedCount, occurrences, entriesFit, objectsFit, poolFits, poolsFit}
@@ -157,5 +159,5 @@ boxArms =
 
 -- all of them are
 pub arms-shown : (kernelArms ≡ replicate 30 true) × (boxArms ≡ replicate 24 true)
-unfolding firstFrom allFrom countOf firstReady firstWaiter takenOff putOn woken slept finished blocked enqueued releasedFirst releasedAll taken waited signalled resetTo suspendedOn resumed sleptFor sleptUntil tookFlags eventSignalled eventWaited ticked binarySignalled posted postedAhead fetched emptied postDone postTried fetchDone fetchTried bothReleased mailboxReset mailboxResumed popped pushed handedOver allocTried putBack sizesFit made waitBegun effected actedOnKernel boxEffected actedOnBox acted continued settled callFits waitFits ticksFit flagsFit rowFits rowsFit queuedCount countersFit holderFits referencesFit positionsFit mailboxesFit promisedCount occurrences entriesFit objectsFit poolFits poolsFit runningFree hangsTogether refusalOf maskOf outcomeOf doneWith refusedWith stepped ran
+unfolding firstFrom allFrom countOf wordOf firstReady firstWaiter takenOff putOn woken slept finished blocked enqueued releasedFirst releasedAll taken waited signalled resetTo suspendedOn resumed sleptFor sleptUntil tookFlags eventSignalled eventWaited ticked binarySignalled posted postedAhead fetched emptied postDone postTried fetchDone fetchTried bothReleased mailboxReset mailboxResumed popped pushed handedOver allocTried putBack sizesFit made waitBegun effected actedOnKernel boxEffected actedOnBox acted continued settled callFits waitFits ticksFit flagsFit rowFits rowsFit queuedCount countersFit readyWord waitingWord readyFits waitingFits wordsFit holderFits referencesFit positionsFit mailboxesFit promisedCount occurrences entriesFit objectsFit poolFits poolsFit runningFree hangsTogether refusalOf maskOf outcomeOf doneWith refusedWith stepped ran
 arms-shown = (refl, refl)

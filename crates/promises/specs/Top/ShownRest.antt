@@ -302,6 +302,7 @@ host-shown =
         threads = refl;
         counters = refl;
         references = refl;
+        waiting = refl;
         mailboxes = refl;
         messages = four-boxes;
         pools = refl;

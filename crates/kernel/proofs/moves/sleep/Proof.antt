@@ -1,4 +1,5 @@
 -- Both arms are the meaning's, by the test; the parts are what the callees ensure.
+use borrow.Author.Needs.{needs}
 use borrow.Author.Tests.{lt-ltb}
 use Rattle.kernel.proofs.Mirror.{mirror}
 use Rattle.kernel.specs.Moves.{slept}
@@ -8,13 +9,12 @@ use Rattle.kernel.proofs.moves.sleep.Tie as tie
 returns : tie.Need-returns
 unfolding slept
 returns c =
-    let at-test = c .before .before .before .before in
+    let on = c .before in
     rw (
-      lt-ltb _ _ (at-test .if1 .taken),
-      c .set-thread .ensures,
-      c .before .sleeping-row .ensures,
-      c .before .before .put-on .ensures,
-      c .before .before .before .thread-at .ensures,
+      c .sleeping-row .ensures,
+      on .put-on .ensures,
+      on .before .note-asleep .ensures,
+      lt-ltb _ _ (on .before .before .before .before .if1 .taken),
     )
 
 returns-2 : tie.Need-returns-2
@@ -22,4 +22,7 @@ unfolding slept
 returns-2 c = search mirror
 
 pub sleep-spec : {M : Type 1} → statement M
-sleep-spec = tie.close (tie.spec (λ c κs. tt) (λ c κs. tt) (λ c κs. tt) (λ c κs. tt) returns returns-2)
+sleep-spec =
+    tie.close
+    (tie.spec (λ c. search needs) (λ c. search needs) (λ c κs. tt) (λ c κs. tt) (λ c κs. tt) (λ c. search needs) (λ c. search needs)
+    returns returns-2)

@@ -3,4 +3,4 @@ use Rattle.kernel.proofs.records.begin.Statement.{statement}
 use Rattle.kernel.proofs.records.begin.Tie as tie
 
 pub begin-spec : {M : Type 1} → statement M
-begin-spec = tie.close (tie.spec (λ c κs. tt) (λ c. rw (c .no-answer .ensures)))
+begin-spec = tie.close (tie.spec (λ c κs. tt) (λ c. rw (c .before .no-answer .ensures)))

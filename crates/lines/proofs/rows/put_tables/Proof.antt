@@ -8,10 +8,10 @@ use Rattle.lines.proofs.rows.put_tables.Statement.{statement}
 use Rattle.lines.proofs.rows.put_tables.Tie as tie
 
 abbrev Inv-loop : tie.InvT-loop
-Inv-loop out₀ at t clock end₀ table₀ out end table = (table ≤ 6) × (length out ≡ length out₀)
+Inv-loop out₀ at t clock end₀ table₀ out end table = (table ≤ 11) × (length out ≡ length out₀)
 
 abbrev μ-loop : tie.MeasureT-loop
-μ-loop out₀ at t clock end₀ table₀ out end table = 6 - table
+μ-loop out₀ at t clock end₀ table₀ out end table = 11 - table
 
 pub put-tables-spec : {M : Type 1} → statement M
 put-tables-spec =

@@ -8,10 +8,10 @@ use Rattle.rules.proofs.finding.find_broken.Statement.{statement}
 use Rattle.rules.proofs.finding.find_broken.Tie as tie
 
 abbrev Inv-loop : tie.InvT-loop
-Inv-loop p clock rule₀ rule = (rule ≤ 13) × (firstFrom (breaks p clock) 1 12 ≡ firstFrom (breaks p clock) rule (13 - rule))
+Inv-loop p clock rule₀ rule = (rule ≤ 15) × (firstFrom (breaks p clock) 1 14 ≡ firstFrom (breaks p clock) rule (15 - rule))
 
 abbrev μ-loop : tie.MeasureT-loop
-μ-loop p clock rule₀ rule = 13 - rule
+μ-loop p clock rule₀ rule = 15 - rule
 
 loop-holds : tie.Need-loop-holds Inv-loop μ-loop
 loop-holds c = (omega arith, refl)

@@ -34,16 +34,27 @@ returns-7 c = rw (c .before .match .keys7) (c .bad-running .ensures)
 
 returns-8 : tie.Need-returns-8
 unfolding badAt
-returns-8 c =
+returns-8 c = rw (c .before .before .match .keys8, ← c .before .ready-fits .ensures) (c .bad-whole3 .ensures)
+
+returns-9 : tie.Need-returns-9
+unfolding badAt
+returns-9 c = rw (c .before .match .keys9) (c .first-bad-word .ensures)
+
+returns-10 : tie.Need-returns-10
+unfolding badAt
+returns-10 c =
     let others = c .before .match .rest in
+    let first = others .0 .0 in
     rw (
-      ne-eqb _ 1 (others .0 .0 .0 .0 .0 .0 .1),
-      ne-eqb _ 2 (others .0 .0 .0 .0 .0 .1),
-      ne-eqb _ 3 (others .0 .0 .0 .0 .1),
-      ne-eqb _ 4 (others .0 .0 .0 .1),
-      ne-eqb _ 5 (others .0 .0 .1),
-      ne-eqb _ 6 (others .0 .1),
-      ne-eqb _ 12 (others .1),
+      ne-eqb _ 1 (first .0 .0 .0 .0 .0 .0 .1),
+      ne-eqb _ 2 (first .0 .0 .0 .0 .0 .1),
+      ne-eqb _ 3 (first .0 .0 .0 .0 .1),
+      ne-eqb _ 4 (first .0 .0 .0 .1),
+      ne-eqb _ 5 (first .0 .0 .1),
+      ne-eqb _ 6 (first .0 .1),
+      ne-eqb _ 12 (first .1),
+      ne-eqb _ 13 (others .0 .1),
+      ne-eqb _ 14 (others .1),
     )
     (c .first-bad-row .ensures)
 
@@ -51,5 +62,5 @@ pub first-bad-at-spec : {M : Type 1} → statement M
 first-bad-at-spec =
     tie.close
     (tie.spec (λ c κs. tt) (λ c κs. tt) (λ c κs. tt) (λ c κs. tt) (λ c κs. tt) (λ c κs. tt) (λ c κs. tt)
-    (λ c κs. tt) (λ c κs. tt) (λ c κs. tt) returns returns-2 returns-3 returns-4 returns-5 returns-6 returns-7
-    returns-8)
+    (λ c κs. tt) (λ c κs. tt) (λ c κs. tt) (λ c κs. tt) (λ c κs. tt) (λ c κs. tt) returns returns-2 returns-3 returns-4
+    returns-5 returns-6 returns-7 returns-8 returns-9 returns-10)

@@ -96,7 +96,8 @@ returns-7 c =
 returns-8 : tie.Need-returns-8
 unfolding hangsTogether
 returns-8 c =
-    let pools = c .before in
+    let running = c .before .before in
+    let pools = running .before in
     let mailboxes = pools .before .before in
     let references = mailboxes .before .before in
     let counters = references .before .before in
@@ -111,11 +112,13 @@ returns-8 c =
       passed (references .before .references-fit .ensures) (references .if5 .left),
       passed (mailboxes .before .mailboxes-fit .ensures) (mailboxes .if6 .left),
       passed (pools .before .pools-fit .ensures) (pools .if7 .left),
-      c .running-free .ensures,
+      c .both .ensures,
+      c .before .words-fit .ensures,
+      running .running-free .ensures,
     )
 
 pub hangs-together-spec : {M : Type 1} → statement M
 hangs-together-spec =
     tie.close
     (tie.spec (λ c κs. tt) returns (λ c κs. tt) returns-2 (λ c κs. tt) returns-3 (λ c κs. tt) returns-4
-    (λ c κs. tt) returns-5 (λ c κs. tt) returns-6 (λ c κs. tt) returns-7 (λ c κs. tt) returns-8)
+    (λ c κs. tt) returns-5 (λ c κs. tt) returns-6 (λ c κs. tt) returns-7 (λ c κs. tt) (λ c κs. tt) (λ c κs. tt) returns-8)

@@ -9,19 +9,20 @@ use Rattle.kernel.proofs.Loops.{used-le}
 use Rattle.kernel.specs.Numbers.{queued}
 use Rattle.kernel.specs.Tables.{threadAt, usedRows}
 use Rattle.kernel.specs.Waiters.{queuedAt}
-use Rattle.rules.proofs.HangingLaws.{Tallied, tally-none, tally-le, tally-hit, tally-miss, keyed}
+use Rattle.kernel.specs.Walk.{countOf}
+use Rattle.rules.proofs.HangingLaws.{Tallied, counts, tally-none, tally-le, tally-hit, tally-miss, keyed}
 use Rattle.rules.specs.PlaceRules.{queuedCount}
 use Rattle.rules.proofs.place_rules.count_queued.Statement.{statement}
 use Rattle.rules.proofs.place_rules.count_queued.Tie as tie
 
 abbrev Inv-loop : tie.InvT-loop
-Inv-loop n k end counts₀ i₀ counts i = (i ≤ end) × (end ≤ 16) × Tallied (λ p j. queuedAt p (threadAt k j)) 36 counts i
+Inv-loop n k end counts₀ i₀ counts i = (i ≤ end) × (end ≤ 16) × Tallied countOf (λ p j. queuedAt p (threadAt k j)) 36 counts i
 
 abbrev μ-loop : tie.MeasureT-loop
 μ-loop n k end counts₀ i₀ counts i = end - i
 
 loop-holds : tie.Need-loop-holds Inv-loop μ-loop
-loop-holds c = (omega arith, used-le _ (c .before .args .n) (c .used-rows .ensures), tally-none _ 36)
+loop-holds c = (omega arith, used-le _ (c .before .args .n) (c .used-rows .ensures), tally-none counts _ 36)
 
 add-counts : tie.Need-add-counts Inv-loop μ-loop
 add-counts c =
@@ -39,8 +40,8 @@ loop-again c =
       omega arith,
       omega arith,
       ⊎-elim
-          (λ w. rw (w .1) (tally-hit _ 36 _ _ _ so-far key (w .0 .taken)))
-          (λ w. rw (w .1) (tally-miss _ 36 _ _ _ so-far key (w .0 .left)))
+          (λ w. rw (w .1) (tally-hit counts _ 36 _ _ _ so-far key (w .0 .taken)))
+          (λ w. rw (w .1) (tally-miss counts _ 36 _ _ _ so-far key (w .0 .left)))
           (c .if1 .came),
     )
 

@@ -6,7 +6,8 @@ use mathlib.Core.Path.{_≡_, refl}
 use lib.Dec.{eqb}
 use lib.ListN.{getD}
 use borrow.Author.Needs.{needs}
-use Rattle.rules.proofs.HangingLaws.{Tallied, tally-none, tally-le, tally-hit, tally-miss, used-of-le}
+use Rattle.kernel.specs.Walk.{countOf}
+use Rattle.rules.proofs.HangingLaws.{Tallied, counts, tally-none, tally-le, tally-hit, tally-miss, used-of-le}
 use Rattle.rules.specs.Limits.{usedOf}
 use Rattle.library.specs.Pool.{listedAt}
 use Rattle.rules.specs.PoolRules.{occurrences}
@@ -14,13 +15,13 @@ use Rattle.rules.proofs.pool_rules.count_listed.Statement.{statement}
 use Rattle.rules.proofs.pool_rules.count_listed.Tie as tie
 
 abbrev Inv-loop : tie.InvT-loop
-Inv-loop x end counts₀ j₀ counts j = (j ≤ end) × (end ≤ 32) × Tallied (λ p m. eqb (listedAt x m) p) 32 counts j
+Inv-loop x end counts₀ j₀ counts j = (j ≤ end) × (end ≤ 32) × Tallied countOf (λ p m. eqb (listedAt x m) p) 32 counts j
 
 abbrev μ-loop : tie.MeasureT-loop
 μ-loop x end counts₀ j₀ counts j = end - j
 
 loop-holds : tie.Need-loop-holds Inv-loop μ-loop
-loop-holds c = (omega arith, used-of-le _ 32 (c .before .args .t1 .length) (c .used-of .ensures), tally-none _ 32)
+loop-holds c = (omega arith, used-of-le _ 32 (c .before .args .t1 .length) (c .used-of .ensures), tally-none counts _ 32)
 
 cast-at-2 : tie.Need-cast-at-2 Inv-loop μ-loop
 cast-at-2 c = search needs
@@ -39,8 +40,8 @@ loop-again c =
       omega arith,
       omega arith,
       ⊎-elim
-          (λ w. rw (w .1) (tally-hit _ 32 _ _ _ so-far (λ p h. refl) (w .0 .taken)))
-          (λ w. rw (w .1) (tally-miss _ 32 _ _ _ so-far (λ p h. refl) (w .0 .left)))
+          (λ w. rw (w .1) (tally-hit counts _ 32 _ _ _ so-far (λ p h. refl) (w .0 .taken)))
+          (λ w. rw (w .1) (tally-miss counts _ 32 _ _ _ so-far (λ p h. refl) (w .0 .left)))
           (c .if1 .came),
     )
 
