@@ -2,10 +2,10 @@
 use Prim.Native.Nat.{ℕ, zero, suc, _+_, _-_, _≤_, _<_}
 use native.Mathlib.Omega.{arith}
 use mathlib.Core.Path.{_≡_, refl, sym, ap, _∙_}
-use mathlib.Core.Bool.{Bool, true, false, cond, not, _&&_}
+use mathlib.Core.Bool.{Bool, true, false, not, _&&_}
 use lib.Dec.{eqb}
 use lib.ListN.{length}
-use borrow.Author.Tests.{eq-eqb, ne-eqb, eqb-true, eqb-false}
+use borrow.Author.Tests.{eq-eqb, ne-eqb}
 use Rattle.kernel.specs.declared.clock.Clock.{Clock}
 use Rattle.kernel.specs.declared.records.Thread.{Thread}
 use Rattle.kernel.specs.Numbers.{nobody}
@@ -14,13 +14,11 @@ use Rattle.kernel.specs.Tables.{usedRows, threadAt}
 use Rattle.kernel.specs.Units.{frequencyFits}
 use Rattle.kernel.specs.Waiters.{firstReady}
 use Rattle.kernel.specs.Walk.{firstFrom, allFrom}
-use Rattle.kernel.proofs.Cases.{split, both-true, both-means, contrary}
+use Rattle.kernel.proofs.Cases.{split, both-means, contrary}
 use Rattle.kernel.proofs.Lengths.{read-past}
 use Rattle.kernel.proofs.Loops.{first-here, first-next, first-none, used-le}
 use Rattle.library.specs.declared.tables.Plant.{Plant}
 use Rattle.library.specs.Sizes.{sizesFit}
-use Rattle.rules.specs.declared.finding.Broken.{Broken}
-use Rattle.rules.specs.Limits.{usedOf}
 use Rattle.rules.specs.RowRules.{callFits, waitFits, ticksFit, awaitedFit, nonePending, flagsFit, rowFits, rowsFit}
 use Rattle.rules.specs.PlaceRules.{placeAgrees, countersFit}
 use Rattle.rules.specs.ReferenceRules.{holderFits, referencesFit}
@@ -28,7 +26,7 @@ use Rattle.rules.specs.MailboxRules.{mailboxFits, mailboxesFit}
 use Rattle.rules.specs.PoolRules.{poolAgrees, poolsFit}
 use Rattle.rules.specs.WordRules.{readyFits, wordAgrees, waitingFits, wordsFit}
 use Rattle.rules.specs.Hanging.{runningFree, hangsTogether}
-use Rattle.rules.specs.Finding.{wholly, rowKeeps, badRow, badRunning, badAt, isKept, brokenAs, broken}
+use Rattle.rules.specs.Finding.{wholly, rowKeeps, badRow, badRunning, badAt, isKept, broken}
 use Rattle.rules.proofs.HangingLaws.{none-fails, none-bad, used-of-le}
 
 -- whether a rule is broken

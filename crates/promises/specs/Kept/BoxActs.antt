@@ -7,9 +7,9 @@ use mathlib.Core.Bool.{true, false}
 use mathlib.Core.List.{List, [], _∷_}
 use lib.Dec.{eqb}
 use lib.ListN.{length}
-use lib.IntN.{ℤ, pos, negsuc}
+use lib.IntN.{ℤ, pos}
 use lib.Signed.{ltZ}
-use borrow.Author.Tests.{eq-eqb, ne-eqb, lt-ltb}
+use borrow.Author.Tests.{eq-eqb, ne-eqb}
 use Rattle.kernel.specs.declared.records.Call.{Call}
 use Rattle.kernel.specs.declared.records.Kernel.{Kernel}
 use Rattle.kernel.specs.Numbers.{ready, queued, ok, wasReset, immediate}
@@ -40,7 +40,6 @@ use Rattle.promises.specs.Kept.RingKept.{MailboxesKept, post-tried-kept,
 use Rattle.promises.specs.Kept.PoolKept.{
   stock-below,
   PoolsKept,
-  stock,
   stocked,
   promised-stocked,
   hand-over-kept,

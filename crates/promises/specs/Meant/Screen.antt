@@ -1,21 +1,20 @@
 -- What a screen is told is what the paper tells: of the words, whatever they are, and of the records, where the words agree with them.
-use Prim.Native.Nat.{ℕ, _≤_, _<_}
+use Prim.Native.Nat.{ℕ, _≤_}
 use native.Mathlib.Omega.{arith}
 use mathlib.Core.Path.{_≡_, refl, sym, _∙_}
 use mathlib.Core.Logic.{inl, inr}
-use mathlib.Core.Bool.{Bool, true, false, cond, _&&_}
-use lib.Dec.{eqb, ltb}
-use lib.ListN.{getD}
-use borrow.Author.Tests.{eqb-true, ne-eqb}
-use Rattle.kernel.specs.Walk.{bit, countOf, firstFrom}
-use Rattle.kernel.specs.Words.{digit, hasBit, onesOf, firstOf}
+use mathlib.Core.Bool.{_&&_}
+use lib.Dec.{ltb}
+use borrow.Author.Tests.{eqb-true}
+use Rattle.kernel.specs.Walk.{bit, firstFrom}
+use Rattle.kernel.specs.Words.{digit, onesOf, firstOf}
 use Rattle.kernel.proofs.Cases.{same-or, in-or-out, contrary}
 use Rattle.kernel.proofs.WalkLaws.{first-cases}
 use Rattle.kernel.proofs.WordsLaws.{ones-agree, first-agree}
 use Rattle.library.specs.declared.tables.Tables.{Tables}
 use Rattle.host.specs.Screen.{readyCount, readyFirst, waitersAt}
-use Rattle.promises.specs.Paper.World.{World, found, First, Running}
-use Rattle.promises.specs.Paper.Together.{number, isQueued, isReady, WordsAgree}
+use Rattle.promises.specs.Paper.World.{World, found, Running}
+use Rattle.promises.specs.Paper.Together.{isReady, WordsAgree}
 use Rattle.promises.specs.Paper.Boundary.{namesReady, CountCall, FirstCall, WaitingCall, ScreenOf}
 use Rattle.promises.specs.Meant.Together.{number-count}
 use Rattle.promises.specs.Meant.Words.{bit-one}

@@ -3,7 +3,7 @@ use Prim.Native.Nat.{ℕ, zero, suc, _≤_, _<_}
 use native.Mathlib.Omega.{arith}
 use mathlib.Core.Path.{_≡_, refl, sym, ap, _∙_, subst}
 use mathlib.Core.Logic.{_≢_, _⊎_, inl, inr}
-use mathlib.Core.Bool.{Bool, true, false, cond}
+use mathlib.Core.Bool.{true, false}
 use lib.Dec.{eqb}
 use lib.ListN.{getD}
 use lib.IntN.{pos}
@@ -11,7 +11,6 @@ use borrow.Author.Tests.{eqb-true, eqb-false, ne-eqb}
 use Rattle.kernel.specs.declared.clock.Clock.{Clock}
 use Rattle.kernel.specs.declared.records.Thread.{Thread}
 use Rattle.kernel.specs.Numbers.{nobody}
-use Rattle.kernel.specs.Walk.{bit}
 use Rattle.kernel.specs.Tables.{threadAt}
 use Rattle.kernel.specs.Moves.{finished}
 use Rattle.kernel.specs.Waiters.{firstReady}

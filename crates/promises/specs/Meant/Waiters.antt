@@ -17,7 +17,6 @@ use Rattle.kernel.proofs.WaitersLaws.{waits, first-waiter-counted}
 use Rattle.kernel.proofs.WalkLaws.{count-le, count-some}
 use Rattle.kernel.proofs.CountersLaws.{debt, debt-below, debt-some}
 use Rattle.promises.specs.Kept.Tallies.{Tallies}
-use Rattle.promises.specs.Kept.PoolKept.{stock}
 
 -- ---- who waits
 

@@ -5,17 +5,15 @@ use native.Mathlib.Omega.{arith}
 use mathlib.Core.Path.{_≡_, refl, sym, _∙_}
 use mathlib.Core.Bool.{Bool, true, false, cond, _&&_}
 use lib.Dec.{eqb, ltb}
-use lib.ListN.{length, getD}
+use lib.ListN.{getD}
 use borrow.Author.Tests.{ltb-true}
-use Rattle.kernel.specs.declared.records.Thread.{Thread}
 use Rattle.kernel.specs.declared.records.Words.{Words}
 use Rattle.kernel.specs.declared.records.Kernel.{Kernel}
 use Rattle.kernel.specs.Places.{poolPlace, queuePlace, writersPlace, readersPlace}
 use Rattle.kernel.specs.Tables.{threadAt}
 use Rattle.kernel.specs.Walk.{bit}
 use Rattle.kernel.specs.Waiters.{isReady, queuedAt}
-use Rattle.kernel.specs.Words.{digit, waitingAt}
-use Rattle.kernel.proofs.Cases.{split, in-or-out, contrary}
+use Rattle.kernel.proofs.Cases.{split, in-or-out}
 use Rattle.kernel.proofs.WordsLaws.{same-digits}
 use Rattle.library.specs.declared.sizes.Sizes.{Sizes}
 use Rattle.library.specs.declared.tables.Plant.{Plant}
@@ -26,7 +24,7 @@ use Rattle.promises.specs.Paper.Step.{WordsLeft}
 use Rattle.promises.specs.Together.Good.{GoodSizes}
 use Rattle.promises.specs.Together.PlaceTests.{semaphore-used, pool-used, queue-used, writers-used, readers-used}
 use Rattle.promises.specs.Kept.CounterRule.{semaphore-place, pool-place, queue-place, writers-place, readers-place}
-use Rattle.promises.specs.Kept.WordRule.{Tells, Said}
+use Rattle.promises.specs.Kept.WordRule.{Said}
 use Rattle.promises.specs.Meant.Moves.{worldOf}
 
 -- ---- places

@@ -1,11 +1,10 @@
 -- THE BOUNDARY TO A HOST: what each function that a host calls leaves of what it was lent, told over the paper's relations.
 -- Where a function is refused, what it was lent stays as it was.
-use Prim.Native.Nat.{ℕ, _/_, _%_, _^_, _<_}
+use Prim.Native.Nat.{ℕ, _<_}
 use mathlib.Core.Path.{_≡_}
 use mathlib.Core.Logic.{_≢_}
 use mathlib.Core.Bool.{Bool, true, false}
 use mathlib.Core.List.{List, [], _∷_}
-use lib.Dec.{eqb}
 use lib.ListN.{getD}
 use Rattle.kernel.specs.declared.clock.Clock.{Clock}
 use Rattle.kernel.specs.declared.units.Unit.{Unit}
@@ -22,6 +21,7 @@ use Rattle.host.specs.declared.request.StepResult.{StepResult}
 use Rattle.host.specs.declared.reads.ReadResult.{ReadResult}
 use Rattle.promises.specs.Paper.World.{found, Running}
 use Rattle.promises.specs.Paper.Together.{number, isQueued, isReady, InUse, WordOf}
+use Rattle.promises.specs.Paper.Waking.{inMask}
 use Rattle.promises.specs.Paper.Step.{StepOf}
 use Rattle.promises.specs.Paper.Time.{SumOf, DifferenceOf, RangeOf, TicksOf, UnitsOf}
 use Rattle.promises.specs.Paper.Fresh.{MadeOf}
@@ -115,7 +115,7 @@ UnitsCall u ticks frequency code value = UnitsOf u (record { 0 = ticks }) (Given
 
 -- whether the ready word has bit i
 abbrev pub namesReady : Tables → ℕ → Bool
-namesReady t i = eqb (t .kernel .words .ready / 2 ^ i % 2) 1
+namesReady t i = inMask i (t .kernel .words .ready)
 
 -- nil_ready_count: "the number of ones"
 abbrev pub CountCall : Tables → ℕ → Type 0

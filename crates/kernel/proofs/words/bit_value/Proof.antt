@@ -1,5 +1,4 @@
 -- Within the word the shift cuts nothing off.
-use mathlib.Core.Path.{_∙_, sym}
 use borrow.Author.Needs.{needs}
 use borrow.Author.Tests.{lt-ltb, le-ltb}
 use Rattle.kernel.proofs.WordsLaws.{power-fits}

@@ -1,5 +1,4 @@
 -- Both arms are the meaning's, by the test; the words are what the callees ensure.
-use borrow.Author.Needs.{needs}
 use borrow.Author.Tests.{eq-eqb, ne-eqb}
 use Rattle.kernel.proofs.words.note_ready.Statement.{statement}
 use Rattle.kernel.proofs.words.note_ready.Tie as tie

@@ -1,5 +1,5 @@
 -- The invariant: ready is the word of the first i rows, and waiting has tallied them.
-use Prim.Native.Nat.{ℕ, _≤_, _<_, _-_, _+_, _^_}
+use Prim.Native.Nat.{ℕ, _≤_, _<_, _-_, _^_}
 use native.Mathlib.Omega.{arith}
 use mathlib.Core.Logic.{⊎-elim}
 use mathlib.Core.Path.{_≡_, refl, sym, _∙_}
