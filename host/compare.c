@@ -3,7 +3,8 @@
  * the second program, with STEPS steps of the random traces that ./fuzz has,
  * read and written back through the archive too, and with one step on each of
  * TABLES damaged tables, of which both say which rule is broken first; and for
- * each of these the nine functions of time. At each step the archive also says
+ * each of these the nine functions of time. A damage that is an event wait has
+ * further steps, until the wait has gone on. At each step the archive also says
  * for a screen who is ready and who waits where. It stops at the first answer
  * or byte that differs.
  *
@@ -11,6 +12,7 @@
  * whose tables are damaged.
  */
 #include "director.h"
+#include "odd.h"
 #include "scenario.h"
 #include "spoil.h"
 #include "times.h"
@@ -115,7 +117,7 @@ static uint32_t some_way(struct random *r)
 }
 
 /* The step is chosen for the good tables; the damaged ones must refuse it or
-   make it just as the second program does. */
+   make it just as the second program does. An event wait then goes on. */
 static void step_on_damaged(struct random *r, struct where at,
                             const struct plant *good, const struct step *s)
 {
@@ -125,8 +127,11 @@ static void step_on_damaged(struct random *r, struct where at,
     spoil(r, way, &damaged);
     try_times(at);
     code = both_step(at, &damaged, s);
-    expect(spoil_allows(way, code), at, "a word was judged wrongly");
+    expect(spoil_allows(way, code), at, "a damage was judged wrongly");
     table_codes[way][code]++;
+    if (way >= WAIT_NO_FLAG && code != BROKEN_TABLES) {
+        let_go_on(r, at, &damaged);
+    }
 }
 
 /* A plant lives on between its damages. Returns how many there were. */
@@ -217,6 +222,18 @@ static void print_met(const char *name, const char *what,
     printf("\n");
 }
 
+/* With 0 and with another message; how many then answered no flag, and how many
+   left flags of their mask pending. */
+static void print_waits(void)
+{
+    printf("  event waits gone on: %llu with 0, %llu of them without a flag; "
+           "%llu with another message, %llu of them with flags kept\n",
+           (unsigned long long)event_waits.woken,
+           (unsigned long long)event_waits.empty,
+           (unsigned long long)event_waits.timed_out,
+           (unsigned long long)event_waits.kept);
+}
+
 static bool read_number(const char *text, uint64_t *number)
 {
     char *end;
@@ -247,6 +264,7 @@ int main(int argc, char **argv)
     print_met("traces read", "code", read_codes, CODES);
     print_met("fresh tables asked for", "code", fresh_codes, CODES);
     print_met("broken first", "rule", broken_rules, RULES);
+    print_waits();
     printf("  conversions: %llu made, %llu refused\n",
            (unsigned long long)conversions[0],
            (unsigned long long)conversions[1]);

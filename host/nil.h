@@ -99,10 +99,11 @@ enum {
     /* T, a: the system time to sleep until. The answer is NIL_TIMEOUT. */
     NIL_SLEEP_UNTIL = 12,
     /* The object is a thread, a: the flags. They become pending; a thread that
-       awaits one of them is woken. */
+       awaits one of them is woken, and takes it when it runs. */
     NIL_EVENT_SIGNAL = 13,
     /* T, a: the mask, timeout. Takes the pending flags in the mask, or waits
-       for one; the datum is the flags taken. */
+       for one and then takes all that came before it runs; the datum is the
+       flags taken. After a timeout it takes none. */
     NIL_EVENT_WAIT = 14,
     /* *, mailbox, a: the message, timeout. Puts it in last, or waits for room;
        NIL_RESET in reset state. */

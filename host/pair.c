@@ -132,11 +132,20 @@ static void try_screen(struct where at, const struct plant *plant,
 
 /* ---- a step ----------------------------------------------------------- */
 
+struct flags_seen event_waits;
+
+/* The tables and the result are both sides': they were found equal. */
+static void follow_flags(struct where at, const struct moment *m)
+{
+    expect(flags_add_up(m), at, "event flags were lost or made up");
+    note_flags(&event_waits, m);
+}
+
 uint32_t both_step(struct where at, struct plant *plant, const struct step *s)
 {
     nil_request request = nil_request_of(s);
     struct plant before = *plant;
-    struct tables t;
+    struct tables t, old;
     struct result q;
     nil_result r;
     bool broken;
@@ -147,6 +156,7 @@ uint32_t both_step(struct where at, struct plant *plant, const struct step *s)
     broken = both_broken(at, plant, &t);
     try_screen(at, plant, &t, broken);
     nil_step(&plant->tables, &plant->clock, &request, &r);
+    old = t;
     q = do_step(&t, s);
     expect(same_answer(&r, &q), at, "the answers differ");
     expect(broken == (r.code == BROKEN_TABLES), at,
@@ -155,5 +165,8 @@ uint32_t both_step(struct where at, struct plant *plant, const struct step *s)
     expect(r.code == 0 || memcmp(&before, plant, sizeof before) == 0, at,
            "a refused step changed a byte");
     try_screen(at, plant, &t, broken);
+    if (r.code == 0) {
+        follow_flags(at, &(struct moment){ &old, s, &q, &t });
+    }
     return r.code;
 }

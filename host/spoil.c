@@ -4,6 +4,8 @@
  */
 #include "spoil.h"
 
+#include "odd.h"
+
 #include <string.h>
 
 enum { MOST_FIELDS = 1000 };
@@ -334,7 +336,9 @@ const char *spoil_name(uint32_t way)
         "one field", "2 to 5 fields", "one bit", "1 to 40 random bytes",
         "nearly good", "two rows exchanged", "random, sizes good",
         "all bytes random", "a word's bit missing", "a word's bit too many",
-        "a word's bit from T on", "another word", "words not in use"
+        "a word's bit from T on", "another word", "words not in use",
+        "event wait, no flag", "event wait, flags", "event wait, not with 0",
+        "event wait, mask 0", "awaited flag pending", "awaited not the mask"
     };
 
     return names[way];
@@ -347,8 +351,14 @@ bool spoil_allows(uint32_t way, uint32_t code)
     case BIT_TOO_MANY:
     case BIT_BEYOND:
     case OTHER_WORD:
+    case WAIT_AWAITED:
+    case WAIT_OTHER_MASK:
         return code == BROKEN_TABLES;
     case UNUSED_WORDS:
+    case WAIT_NO_FLAG:
+    case WAIT_FLAGS:
+    case WAIT_MESSAGE:
+    case WAIT_MASK_0:
         return code != BROKEN_TABLES;
     default:
         return true;
@@ -393,12 +403,17 @@ static void spoil_tables(struct random *r, uint32_t way, struct plant *p)
     }
 }
 
-/* Half of the damages to records go without wrong words: these would refuse
-   many tables that are odd and no more. */
+/* Event waits, and half of the other damages to records, go without wrong words:
+   these would refuse many tables that are odd and no more. */
 void spoil(struct random *r, uint32_t way, struct plant *p)
 {
     if (fields_number == 0) {
         find_fields();
+    }
+    if (way >= WAIT_NO_FLAG) {
+        spoil_wait(r, way, &p->tables);
+        mend_words(p);
+        return;
     }
     spoil_tables(r, way, p);
     if (way == NEARLY_GOOD || (way < BIT_MISSING && random_chance(r, 50))) {

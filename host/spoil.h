@@ -1,5 +1,5 @@
-/* Damages to a plant's tables: one field, a few, a stretch, or all of them; and
-   to the words of good tables. */
+/* Damages to a plant's tables: one field, a few, a stretch, or all of them; to
+   the words of good tables; and event waits that come from outside. */
 #ifndef SPOIL_H
 #define SPOIL_H
 
@@ -21,13 +21,22 @@ enum spoil_way {
     BIT_BEYOND,   /* one that there is not */
     OTHER_WORD,   /* some other word */
     UNUSED_WORDS, /* words of places not in use, and what fills the struct */
+    /* a ready thread that does not run gets an event wait: */
+    WAIT_NO_FLAG, /* woken with 0, and none of its flags is pending */
+    WAIT_FLAGS,   /* woken with 0; flags in its mask are pending, and others */
+    WAIT_MESSAGE, /* the same, timed out or with what no event wakes with */
+    WAIT_MASK_0,  /* no flag is in its mask; it may await events as well */
+    /* and these break a rule: */
+    WAIT_AWAITED,    /* it awaits events, and one of its flags is pending */
+    WAIT_OTHER_MASK, /* its awaited flags are not the call's mask */
     SPOIL_WAYS
 };
 
 const char *spoil_name(uint32_t way);
 
 /* Whether the code of a step on good tables that were spoilt so can be: a wrong
-   word is always refused with 1, and words not in use never are. */
+   word is always refused with 1, and words not in use never are; event waits as
+   their ways say. */
 bool spoil_allows(uint32_t way, uint32_t code);
 
 void spoil(struct random *r, uint32_t way, struct plant *plant);

@@ -42,18 +42,16 @@ static void resume(struct work *w, uint32_t r, int32_t message)
     }
 }
 
-/* "At the waking, the awaited flags then pending are cleared, are the datum
-   with message 0, and the call is finished." */
+/* "If its state is awaiting events, for any of them, it is made ready."
+   Document 02, 2/13: the flags are not taken at the waking; "the call stays
+   unfinished until it is continued", and until then further flags may come. */
 static void signal_events(struct work *w, uint32_t i, uint32_t flags)
 {
     struct thread *th = &w->t->thread[i];
-    struct answer answer;
 
     th->pending |= flags;
-    if (th->state == AWAITING_EVENTS
-        && try_events(w, i, th->awaited, &answer)) {
+    if (th->state == AWAITING_EVENTS && (th->pending & th->awaited) != 0) {
         make_ready(w, i, MSG_OK);
-        finish(w, i, answer);
     }
 }
 

@@ -45,18 +45,22 @@ static bool try_semaphore(struct work *w, uint32_t s, struct answer *out)
     return true;
 }
 
-/* "Pending flags in a are cleared and are the datum." */
-bool try_events(struct work *w, uint32_t i, uint32_t mask,
-                struct answer *out)
+/* "Clears and answers all pending flags in its mask." */
+static uint32_t take_flags(struct thread *th, uint32_t mask)
 {
-    struct thread *th = &w->t->thread[i];
-    uint32_t found = th->pending & mask;
+    uint32_t taken = th->pending & mask;
 
-    if (found == 0) {
+    th->pending &= ~mask;
+    return taken;
+}
+
+/* "Pending flags in a are cleared and are the datum", where there are any. */
+static bool try_events(struct thread *th, uint32_t mask, struct answer *out)
+{
+    if ((th->pending & mask) == 0) {
         return false;
     }
-    th->pending &= ~found;
-    *out = (struct answer){ MSG_OK, found };
+    *out = (struct answer){ MSG_OK, take_flags(th, mask) };
     return true;
 }
 
@@ -158,7 +162,7 @@ static bool try_call(struct work *w, uint32_t caller, const struct call *c,
     case SEMAPHORE_WAIT:
         return try_semaphore(w, c->object, out);
     case EVENT_WAIT:
-        return try_events(w, caller, c->operand, out);
+        return try_events(&w->t->thread[caller], c->operand, out);
     case POST:
     case POST_AHEAD:
     case FETCH:
@@ -194,7 +198,9 @@ static bool is_mailbox_call(uint32_t kind)
 
 /* "Mailbox, wake message 0: the whole mailbox rule is tried again ...; pool,
    message 0: it takes the top; all others answer their wake message with
-   datum 0." */
+   datum 0." Document 02, 2/13: an event wait woken with 0 takes its flags now
+   (in tables from outside there may be none); "a wait that timed out still
+   answers -1 with 0, and flags that came afterwards stay pending". */
 void continue_call(struct work *w, uint32_t i)
 {
     struct thread *th = &w->t->thread[i];
@@ -208,6 +214,9 @@ void continue_call(struct work *w, uint32_t i)
         }
         if (c.kind == POOL_ALLOC) {
             answer.datum = take_top(&w->t->pool[c.object]);
+        }
+        if (c.kind == EVENT_WAIT) {
+            answer.datum = take_flags(th, c.operand);
         }
     }
     finish(w, i, answer);

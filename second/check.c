@@ -99,6 +99,7 @@ int main(void)
 {
     check_waits();
     check_times();
+    check_events();
     check_mailboxes();
     check_pools();
     check_refusals();

@@ -47,6 +47,7 @@ void ticks(uint32_t n);
 /* The cases, a file each. */
 void check_waits(void);
 void check_times(void);
+void check_events(void);
 void check_mailboxes(void);
 void check_pools(void);
 void check_refusals(void);

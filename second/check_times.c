@@ -1,4 +1,4 @@
-/* Hand-worked cases: time, sleeping and events. */
+/* Hand-worked cases: time and sleeping. */
 #include "check.h"
 #include "ticks.h"
 
@@ -101,56 +101,6 @@ static void check_ranges(void)
     VERIFY(!time_in_range(one, end, one) && time_in_range(end, end, one));
 }
 
-static void check_events(void)
-{
-    START("events", 0, 2, 0, 0, 0, 0, 0);
-    DO(14, 0, 9, 0, 5, 6, 0, 0, 0, 0, 0);
-    DO(14, 0, 9, 6, 0, 0, 0, 0, 1, -1, 0);
-    DO(14, 0, 9, 6, INFINITE, 0, 1, 0, 0, 0, 0);
-    VERIFY(waits(0, AWAITING_EVENTS, NOWHERE, 0) && t.thread[0].awaited == 6);
-    VERIFY(call_is(0, 14, 0, 6, INFINITE));
-    DO(13, 1, 0, 1, 0, 0, 1, 0, 2, 0, 0);
-    VERIFY(t.thread[0].pending == 1);
-    /* Flags are taken at the waking: the call finishes in this step. */
-    DO(13, 1, 0, 12, 0, 0, 0, 1, 3, 0, 0);
-    VERIFY(last_is(0, 0, 4) && t.thread[0].pending == 9);
-    VERIFY(t.thread[0].awaited == 0 && call_is(0, 0, 0, 0, 0));
-    DO(14, 0, 0, 1, 5, 0, 0, 0, 1, 0, 1);
-    VERIFY(t.thread[0].pending == 8);
-    DO(13, 0, 0, 2, 0, 0, 0, 0, 1, 0, 0);
-    VERIFY(t.thread[0].pending == 10);
-    DO(13, 0, 2, 2, 0, 5, 0, 0, 0, 0, 0);
-    DO(13, FF, 1, 0, 0, 0, 0, 0, 0, 0, 0);
-    DO(14, 0, 0, UINT32_MAX, 0, 0, 0, 0, 1, 0, 10);
-}
-
-/* The waking finishes the call of a thread that does not come to run. */
-static void check_events_below(void)
-{
-    START("events of a lower thread", 0, 2, 0, 0, 0, 0, 0);
-    DO(11, 0, 0, 0, 1, 0, 1, 0, 0, 0, 0);
-    DO(14, 1, 0, 3, 9, 0, 255, 0, 0, 0, 0);
-    ticks(1);
-    DO(13, 0, 1, 7, 0, 0, 0, 2, 3, 0, 0);
-    VERIFY(last_is(1, 0, 3) && t.thread[1].pending == 4);
-    VERIFY(t.thread[1].remaining == 0 && t.thread[1].wake_message == 0);
-}
-
-static void check_events_timed_out(void)
-{
-    START("flags for an event wait that has timed out", 0, 2, 0, 0, 0, 0, 0);
-    DO(11, 0, 0, 0, 1, 0, 1, 0, 0, 0, 0);
-    DO(14, 1, 0, 1, 2, 0, 255, 0, 0, 0, 0);
-    ticks(1);
-    DO(1, FF, 0, 0, 0, 0, 0, 2, 0, 0, 0);
-    VERIFY(t.thread[1].awaited == 1 && t.thread[1].wake_message == -1);
-    DO(13, 0, 1, 1, 0, 0, 0, 0, 1, 0, 0);
-    VERIFY(t.thread[1].pending == 1);
-    DO(11, 0, 0, 0, 5, 0, 1, 0, 2, 0, 0);
-    VERIFY(last_is(1, -1, 0) && t.thread[1].pending == 1);
-    VERIFY(t.thread[1].awaited == 0);
-}
-
 void check_times(void)
 {
     check_sleep();
@@ -158,7 +108,4 @@ void check_times(void)
     check_same_tick();
     check_conversions();
     check_ranges();
-    check_events();
-    check_events_below();
-    check_events_timed_out();
 }

@@ -109,6 +109,36 @@ static uint32_t some_flags(struct random *r)
     return random_between(r, 1, 15);
 }
 
+/* One of the flags given, or any where there is none. */
+static uint32_t one_flag(struct random *r, uint32_t among)
+{
+    uint32_t start = random_below(r, 32);
+
+    for (uint32_t k = 0; k < 32; k++) {
+        uint32_t flag = UINT32_C(1) << (start + k) % 32;
+
+        if ((among & flag) != 0) {
+            return flag;
+        }
+    }
+    return some_flags(r);
+}
+
+/* Mostly without the flags that are pending already, else few waits sleep; and
+   often wide, so that flags can come one after the other. */
+static uint32_t some_mask(struct random *r, const struct tables *t,
+                          uint32_t caller)
+{
+    uint32_t flags = some_flags(r);
+    uint32_t pending = caller < MAX_THREADS ? t->thread[caller].pending : 0;
+
+    if (random_chance(r, 50)) {
+        flags |= some_flags(r) << 4;
+    }
+    return (flags & ~pending) != 0 && random_chance(r, 70) ? flags & ~pending
+                                                           : flags;
+}
+
 static uint32_t some_timeout(struct random *r)
 {
     switch (random_below(r, 10)) {
@@ -181,8 +211,9 @@ static uint32_t some_operand(struct random *r, const struct tables *t,
     case SLEEP_UNTIL:
         return some_time(r, t->clock.time);
     case EVENT_SIGNAL:
-    case EVENT_WAIT:
         return some_flags(r);
+    case EVENT_WAIT:
+        return some_mask(r, t, s->caller);
     case POOL_FREE:
         return s->object < t->sizes.pools
             ? some_marked(r, &t->pool[s->object], OUT) : 0;
@@ -289,6 +320,57 @@ static uint32_t robbing_move(const struct tables *t, uint32_t m)
     return box->readers < 0 ? POST : FETCH;
 }
 
+/* Of the threads below the running one; below idle there is none. */
+static uint32_t waiter_below(const struct tables *t, uint32_t state)
+{
+    for (uint32_t i = running_thread(t) + 1; i < t->sizes.threads; i++) {
+        if (t->thread[i].state == state
+            && t->thread[i].call.kind == EVENT_WAIT) {
+            return i;
+        }
+    }
+    return NOBODY;
+}
+
+/* Whose event wait others keep from going on: a thread that is ready and has
+   not come to run yet, or else one that awaits events. */
+static uint32_t slow_waiter(const struct tables *t)
+{
+    uint32_t ready = waiter_below(t, READY);
+
+    return ready != NOBODY ? ready : waiter_below(t, AWAITING_EVENTS);
+}
+
+/* Mostly one flag of its mask at a time, so that others may follow late. */
+static struct step signal_slow(struct director *d, const struct tables *t,
+                               uint32_t i)
+{
+    uint32_t missing = t->thread[i].awaited & ~t->thread[i].pending;
+    struct step s = complete(d, t, EVENT_SIGNAL, some_caller(d, t, 50),
+                             IMMEDIATE);
+
+    s.object = (uint8_t)i;
+    if (random_chance(d->random, 70)) {
+        s.a = one_flag(d->random, missing);
+    }
+    return s;
+}
+
+/* What goes before and after late flags: the running thread waits for events
+   itself, a slow one's ticks run out, and the running one makes way for it. */
+static struct step late_step(struct director *d, const struct tables *t)
+{
+    uint32_t slow = slow_waiter(t);
+
+    if (slow == NOBODY) {
+        return complete(d, t, EVENT_WAIT, running_thread(t), d->timeout);
+    }
+    if (t->thread[slow].state == READY) {
+        return complete(d, t, SLEEP_FOR, running_thread(t), d->timeout);
+    }
+    return complete(d, t, TICK, INTERRUPT, IMMEDIATE);
+}
+
 /* The running thread takes and gives without waiting, while woken ones of
    lower priority have not come to run yet. */
 static struct step rob_step(struct director *d, const struct tables *t)
@@ -299,6 +381,9 @@ static struct step rob_step(struct director *d, const struct tables *t)
         kind = robbing_move(t, d->object);
         return complete(d, t, kind, running_thread(t),
                         kind == SLEEP_FOR ? d->timeout : IMMEDIATE);
+    }
+    if (d->family == EVENTS && random_chance(d->random, 75)) {
+        return late_step(d, t);
     }
     if (random_chance(d->random, 45)) {
         return serve_step(d, t, 85);
@@ -324,8 +409,14 @@ static struct step mixed_step(struct director *d, const struct tables *t)
     return complete(d, t, kind, caller, some_timeout(d->random));
 }
 
+/* Around events a slow waiter is signalled in between, whatever the mood. */
 static struct step mood_step(struct director *d, const struct tables *t)
 {
+    uint32_t slow = d->family == EVENTS ? slow_waiter(t) : NOBODY;
+
+    if (slow != NOBODY && random_chance(d->random, 40)) {
+        return signal_slow(d, t, slow);
+    }
     switch (d->mood) {
     case GATHER:
         return gather_step(d, t);

@@ -147,13 +147,13 @@ static uint32_t some_length(struct random *r, uint32_t shape,
 
 /* ---- the trace -------------------------------------------------------- */
 
-/* Mailboxes and pools twice: their calls go on after the waking. */
+/* Events, mailboxes and pools twice: their calls go on after the waking. */
 static uint32_t some_shape(struct random *r)
 {
     static const uint8_t usual[] = {
         SHAPE_SEMAPHORES, SHAPE_QUEUES, SHAPE_REFERENCES, SHAPE_EVENTS,
-        SHAPE_MAILBOXES, SHAPE_MAILBOXES, SHAPE_POOLS, SHAPE_POOLS,
-        SHAPE_SLEEPS, SHAPE_MIXED, SHAPE_MIXED
+        SHAPE_EVENTS, SHAPE_MAILBOXES, SHAPE_MAILBOXES, SHAPE_POOLS,
+        SHAPE_POOLS, SHAPE_SLEEPS, SHAPE_MIXED, SHAPE_MIXED
     };
     uint32_t dice = random_below(r, 100);
 

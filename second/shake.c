@@ -6,10 +6,12 @@
  *     is 255 and every byte is kept; the change is then taken back;
  *   - a rule can be named exactly where the tables are broken;
  *   - where it does not, it stays (but for a size's, since the director has
- *     an object in mind), and "accepted steps keep it so".
+ *     an object in mind), and "accepted steps keep it so";
+ *   - no accepted step loses an event flag or makes one up.
  */
 #include "broken.h"
 #include "director.h"
+#include "flags.h"
 
 #include <inttypes.h>
 #include <stddef.h>
@@ -30,6 +32,7 @@ static struct {
     uint64_t kept;
     uint64_t broken;
     uint32_t most_continued;
+    struct flags_seen flags;
 } seen;
 
 static void expect(bool fine, uint64_t seed, uint32_t step, const char *what)
@@ -133,12 +136,19 @@ static void shaken_step(struct director *d, uint64_t seed, uint32_t step,
                         struct tables *t)
 {
     struct step s = next_step(d, t);
+    struct tables before = *t;
     struct result r = do_step(t, &s);
+    struct moment m = { &before, &s, &r, t };
 
     expect(tables_hang_together(t), seed, step, "tables do not hang");
     expect(r.code != BROKEN_TABLES, seed, step, "refusal 1");
-    seen.accepted += r.code == ACCEPTED;
-    seen.refused += r.code != ACCEPTED;
+    if (r.code == ACCEPTED) {
+        seen.accepted++;
+        expect(flags_add_up(&m), seed, step, "flags lost or made up");
+        note_flags(&seen.flags, &m);
+    } else {
+        seen.refused++;
+    }
     if (r.continued > seen.most_continued) {
         seen.most_continued = r.continued;
     }
@@ -154,6 +164,7 @@ static void shake(uint64_t seed)
     struct tables t;
 
     fresh_tables(&t, &z, NULL);
+    begin_flags(&seen.flags);
     for (uint32_t step = 1; step <= STEPS; step++) {
         for (uint32_t k = random_below(&random, CHANGES); k > 0; k--) {
             change_something(&random, seed, step, &t);
@@ -178,5 +189,9 @@ int main(int argc, char **argv)
            PRIu64 ", broken %" PRIu64 "; most continued %" PRIu32 "\n",
            seen.accepted, seen.refused, seen.kept, seen.broken,
            seen.most_continued);
+    printf("event waits woken %" PRIu64 ", without a flag %" PRIu64
+           "; with another message %" PRIu64 ", flags kept %" PRIu64 "\n",
+           seen.flags.woken, seen.flags.empty, seen.flags.timed_out,
+           seen.flags.kept);
     return fflush(stdout) == 0 ? 0 : 1;
 }

@@ -5,10 +5,14 @@
  *     hang together, and settling never exhausts its budget;
  *   - the running thread and the number of ready ones can be read from the
  *     ready word alone;
+ *   - a call that slept is finished by being continued, and in no other way;
+ *   - no event flag is lost, none is made up, and an event wait that goes on
+ *     with 0 answers one at least;
  *   - a refused step keeps all bytes and gives masks, message and datum 0;
  *   - a clean trace, read and written again, gives the same bytes.
  * At the end it prints what the traces covered.
  */
+#include "flags.h"
 #include "scenario.h"
 #include "trace.h"
 
@@ -33,6 +37,7 @@ static struct {
     uint32_t most_continued;
     uint32_t most_woken;
     uint32_t tightest_percent; /* of the budget */
+    struct flags_seen flags;
 } seen;
 
 static void fail(uint64_t seed, uint32_t record, const char *what)
@@ -150,12 +155,42 @@ static bool word_tells(const struct tables *t, uint32_t running)
         && running == (word == 0 ? (uint32_t)IDLE : first);
 }
 
+/* But for the caller's, each call finished was continued; of those continued
+   some may sleep again. */
+static bool finished_by_settling(const struct step *s, const struct result *r)
+{
+    uint32_t own = s->caller == INTERRUPT ? 0 : UINT32_C(1) << s->caller;
+
+    return bits_in(r->finished & ~own) <= r->continued;
+}
+
+static void expect_flags(uint64_t seed, uint32_t record,
+                         const struct moment *m)
+{
+    expect(flags_add_up(m), seed, record, "flags lost or made up");
+    note_flags(&seen.flags, m);
+    expect(seen.flags.empty == 0, seed, record, "woken by events, no flag");
+}
+
+static void expect_nothing(uint64_t seed, uint32_t record,
+                           const struct moment *m)
+{
+    static const struct answer none = { 0, 0 };
+    const struct result *r = m->result;
+
+    expect(memcmp(m->before, m->after, sizeof *m->before) == 0, seed, record,
+           "a refused step changed something");
+    expect(r->woken == 0 && r->finished == 0
+           && memcmp(&r->answer, &none, sizeof none) == 0,
+           seed, record, "a refused step gave something");
+}
+
 static void run_step(uint64_t seed, uint32_t record, struct tables *t,
                      const struct step *s)
 {
-    static const struct answer none = { 0, 0 };
     struct tables before = *t;
     struct result r = do_step(t, s);
+    struct moment m = { &before, s, &r, t };
     uint32_t all = (UINT32_C(1) << t->sizes.threads) - 1;
 
     expect(is_settled(t), seed, record, "settling ran out of its budget");
@@ -163,12 +198,12 @@ static void run_step(uint64_t seed, uint32_t record, struct tables *t,
     expect(r.running == running_thread(t), seed, record, "wrong running");
     expect(word_tells(t, r.running), seed, record, "wrong ready word");
     expect(((r.woken | r.finished) & ~all) == 0, seed, record, "stray bits");
-    if (r.code != ACCEPTED) {
-        expect(memcmp(&before, t, sizeof before) == 0, seed, record,
-               "a refused step changed something");
-        expect(r.woken == 0 && r.finished == 0
-               && memcmp(&r.answer, &none, sizeof none) == 0,
-               seed, record, "a refused step gave something");
+    if (r.code == ACCEPTED) {
+        expect(finished_by_settling(s, &r), seed, record,
+               "a call that slept was finished and not continued");
+        expect_flags(seed, record, &m);
+    } else {
+        expect_nothing(seed, record, &m);
     }
     note_step(&before, t, s, &r);
 }
@@ -198,6 +233,7 @@ static void run_trace(uint64_t seed, const struct bytes *trace)
     seen.traces++;
     if (code == ACCEPTED) {
         fresh_tables(&t, &sizes, NULL);
+        begin_flags(&seen.flags);
         while ((code = trace_next(&reader, &steps[count])) == ACCEPTED) {
             run_step(seed, reader.record - 1, &t, &steps[count]);
             count++;
@@ -229,6 +265,16 @@ static void print_kinds(void)
     }
 }
 
+static void print_flags(void)
+{
+    printf("event waits woken %" PRIu64 ": with late flags %" PRIu64
+           ", leaving others pending %" PRIu64 "\n", seen.flags.woken,
+           seen.flags.late, seen.flags.beside);
+    printf("event waits timed out %" PRIu64 ": with flags kept %" PRIu64
+           ", which %" PRIu64 " later waits found\n", seen.flags.timed_out,
+           seen.flags.kept, seen.flags.found);
+}
+
 static void print_seen(void)
 {
     printf("traces %" PRIu64 ", clean %" PRIu64 ", steps %" PRIu64 "\n",
@@ -250,6 +296,7 @@ static void print_seen(void)
            seen.promised_refused);
     printf("steps leaving a ready thread unfinished %" PRIu64 "\n",
            seen.unfinished_ready);
+    print_flags();
     printf("most continued %" PRIu32 " (%" PRIu32 "%% of a budget), "
            "most woken %" PRIu32 "\n",
            seen.most_continued, seen.tightest_percent, seen.most_woken);

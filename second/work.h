@@ -33,9 +33,6 @@ bool may_sleep(uint32_t kind);
 bool make_call(struct work *w, const struct step *s, struct answer *out);
 /* Goes on with the unfinished call of a thread that has come to run. */
 void continue_call(struct work *w, uint32_t i);
-/* Takes the pending flags in the mask, if there are any. */
-bool try_events(struct work *w, uint32_t i, uint32_t mask,
-                struct answer *out);
 
 /* acts.c: the kinds that never wait. */
 void act(struct work *w, const struct step *s);

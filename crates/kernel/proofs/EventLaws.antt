@@ -1,13 +1,10 @@
--- Event flags: a signal and a wait touch one thread's row, its flags and its call. Flags found are cleared and are the datum, so that
--- none is lost: what stays pending and the datum together are what was pending before.
+-- Event flags: a signal, a wait and its continuation touch one thread's row, its flags and its call.
 use Prim.Native.Nat.{ℕ, _-_}
-use native.Mathlib.Omega.{arith}
 use lib.Bits.{bitAnd}
 use Rattle.kernel.specs.declared.records.Thread.{Thread}
 use Rattle.kernel.specs.declared.records.Kernel.{Kernel}
 use Rattle.kernel.specs.Numbers.{ok}
 use Rattle.kernel.specs.Tables.{threadAt, withThread}
-use Rattle.kernel.specs.Moves.{woken}
 use Rattle.kernel.specs.Event.{withPending, flagged, tookFlags, isMet, eventSignalled}
 use Rattle.kernel.proofs.Cases.{chosen}
 use Rattle.kernel.proofs.TablesLaws.{SameSizes, sizes-trans, thread-sizes}
@@ -49,6 +46,5 @@ module _ (k : Kernel) (i mask : ℕ) where
   unfolding eventSignalled
   event-signal-sizes =
       chosen (SameSizes k) (isMet row)
-      (λ e. sizes-trans (thread-sizes k i row)
-      (sizes-trans (wake-sizes told i ok) (take-sizes (woken told i ok) i (threadAt k i .awaited))))
+      (λ e. sizes-trans (thread-sizes k i row) (wake-sizes told i ok))
       (λ e. thread-sizes k i row)

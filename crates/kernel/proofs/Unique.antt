@@ -26,6 +26,8 @@ use Rattle.kernel.proofs.delay.sleep_for.Reads as delay-sleep-for
 use Rattle.kernel.proofs.delay.sleep_for.Kinds as delay-sleep-for-kinds
 use Rattle.kernel.proofs.delay.sleep_until.Reads as delay-sleep-until
 use Rattle.kernel.proofs.delay.sleep_until.Kinds as delay-sleep-until-kinds
+use Rattle.kernel.proofs.event.take_flags.Reads as event-take-flags
+use Rattle.kernel.proofs.event.take_flags.Kinds as event-take-flags-kinds
 use Rattle.kernel.proofs.event.signal_events.Reads as event-signal-events
 use Rattle.kernel.proofs.event.signal_events.Kinds as event-signal-events-kinds
 use Rattle.kernel.proofs.event.wait_events.Reads as event-wait-events
@@ -175,6 +177,9 @@ delay-sleep-for-one κs a e x y = coincide
 
 pub delay-sleep-until-one : Fixes 0 delay-sleep-until-kinds.ps delay-sleep-until-kinds.r delay-sleep-until.Post
 delay-sleep-until-one κs a e x y = coincide
+
+pub event-take-flags-one : Fixes 0 event-take-flags-kinds.ps event-take-flags-kinds.r event-take-flags.Post
+event-take-flags-one κs a e x y = coincide
 
 pub event-signal-events-one : Fixes 0 event-signal-events-kinds.ps event-signal-events-kinds.r event-signal-events.Post
 event-signal-events-one κs a e x y = coincide

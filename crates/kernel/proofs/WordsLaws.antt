@@ -6,9 +6,9 @@ use native.Mathlib.Numerals.{add-one}
 use native.Mathlib.Omega.{arith}
 use mathlib.Core.Path.{_≡_, refl, sym, ap, _∙_}
 use mathlib.Core.Logic.{_≢_}
-use mathlib.Core.Bool.{Bool, true, false, cond, _&&_}
+use mathlib.Core.Bool.{Bool, true, false, cond, not, _&&_, _||_}
 use mathlib.Core.List.{List}
-use lib.Bits.{bitAnd, bitOr, bitXor, differ, and-shr, or-shr, xor-shr, and-step, or-step, xor-step, or-zero-r}
+use lib.Bits.{bitAnd, bitOr, bitXor, differ, and-shr, or-shr, xor-shr, and-step, or-step, xor-step, xor-add-and, or-zero-r}
 use lib.Count.{ones, ones-step, trailingZeros}
 use lib.Dec.{eqb, ltb}
 use lib.ListN.{length, getD, set, length-set}
@@ -92,6 +92,53 @@ module _ (a b i : ℕ) where
   xor-digit =
       rw (xor-shr a b i, xor-step (a / 2 ^ i) (b / 2 ^ i))
       (differ-digit (digit a i) (digit b i) (bitXor (a / 2 ^ i / 2) (b / 2 ^ i / 2)) (below (a / 2 ^ i)) (below (b / 2 ^ i)))
+
+-- ---- two words, bit by bit
+
+or-bit : (p q : Bool) → max (bit p) (bit q) ≡ bit (p || q)
+or-bit true true = refl
+or-bit true false = refl
+or-bit false true = refl
+or-bit false false = refl
+
+and-bit : (p q : Bool) → min (bit p) (bit q) ≡ bit (p && q)
+and-bit true true = refl
+and-bit true false = refl
+and-bit false true = refl
+and-bit false false = refl
+
+less-bit : (p q : Bool) → differ (bit p) (min (bit p) (bit q)) ≡ bit (p && not q)
+less-bit true true = refl
+less-bit true false = refl
+less-bit false true = refl
+less-bit false false = refl
+
+module _ (a b : ℕ) where
+  and-again : bitAnd a (bitAnd a b) ≡ bitAnd a b
+  and-again = same-digits (bitAnd a (bitAnd a b)) (bitAnd a b) (λ i. rw (and-digit a (bitAnd a b) i, and-digit a b i) (omega arith))
+
+  -- what is taken off a word by subtraction is what differs
+  less-differs : a - bitAnd a b ≡ bitXor a (bitAnd a b)
+  less-differs = omega (arith, rw and-again at (xor-add-and a (bitAnd a b)))
+
+  module _ (i : ℕ) where
+    -- two digits are their tests
+    as-bits : (f : ℕ → ℕ → ℕ) → f (digit a i) (digit b i) ≡ f (bit (hasBit a i)) (bit (hasBit b i))
+    as-bits f = ap (λ (x : ℕ). f x (digit b i)) (digit-bit a i) ∙ ap (f (bit (hasBit a i))) (digit-bit b i)
+
+    pub or-test : hasBit (bitOr a b) i ≡ hasBit a i || hasBit b i
+    or-test = digit-test (bitOr a b) i (hasBit a i || hasBit b i) (or-digit a b i ∙ as-bits max ∙ or-bit (hasBit a i) (hasBit b i))
+
+    pub and-test : hasBit (bitAnd a b) i ≡ hasBit a i && hasBit b i
+    and-test = digit-test (bitAnd a b) i (hasBit a i && hasBit b i) (and-digit a b i ∙ as-bits min ∙ and-bit (hasBit a i) (hasBit b i))
+
+    pub less-test : hasBit (a - bitAnd a b) i ≡ hasBit a i && not (hasBit b i)
+    less-test =
+        digit-test (a - bitAnd a b) i (hasBit a i && not (hasBit b i))
+        (ap (λ (x : ℕ). digit x i) less-differs ∙ xor-digit a (bitAnd a b) i ∙ ap (differ (digit a i)) (and-digit a b i)
+        ∙ as-bits (λ x y. differ x (min x y)) ∙ less-bit (hasBit a i) (hasBit b i))
+
+-- ---- the bit of an index
 
 -- 2 ^ i has the digit i
 power-same : (i : ℕ) → digit (2 ^ i) i ≡ 1

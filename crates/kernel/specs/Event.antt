@@ -40,11 +40,11 @@ tookFlags k i mask =
 abbrev pub isMet : Thread → Bool
 isMet t = eqb (t .state) awaiting && not (eqb (bitAnd (t .pending) (t .awaited)) 0)
 
--- ".. it is made ready"; "at the waking, the awaited flags then pending are cleared, are the datum with message 0, and the call is finished"
+-- ".. it is made ready"; of document 02: "the call stays unfinished until it is continued"
 unfoldable pub eventSignalled : Kernel → ℕ → ℕ → Kernel
 eventSignalled k i mask =
     cond (isMet (flagged (threadAt k i) mask))
-    (tookFlags (woken (withThread k i (flagged (threadAt k i) mask)) i ok) i (threadAt k i .awaited))
+    (woken (withThread k i (flagged (threadAt k i) mask)) i ok)
     (withThread k i (flagged (threadAt k i) mask))
 
 -- flags of the mask that are pending are taken at once; otherwise the thread waits for them

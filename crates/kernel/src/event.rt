@@ -1,4 +1,4 @@
-// Event flags of a thread: signalled by anyone, taken by the thread that waits for them.
+// Event flags of a thread: signalled by anyone, taken by the thread that waits for them, when it goes on.
 use crate::moves::block;
 use crate::moves::finish;
 use crate::moves::wake;
@@ -30,7 +30,7 @@ fn is_met(t: Thread) -> bool
 }
 
 // Thread i takes its pending flags in `mask`: they are cleared, and are the datum of its call.
-fn take_flags(k: Kernel, i: u8, mask: u32) -> Kernel
+pub fn take_flags(k: Kernel, i: u8, mask: u32) -> Kernel
     ensures { λ r. ⌜ r ≡ tookFlags k i mask ⌝ }
 {
     let mut t = thread_at(k, i);
@@ -39,18 +39,14 @@ fn take_flags(k: Kernel, i: u8, mask: u32) -> Kernel
     finish(set_thread(k, i, t), i, OK, found)
 }
 
-// The flags of `mask` are signalled to thread i; if it awaits any of those now pending it is made ready, and its call is
-// finished with them: chEvtSignalI.
+// The flags of `mask` are signalled to thread i; if it awaits any of those now pending it is made ready. They stay pending until
+// it goes on, and so do flags that come in between: chEvtSignalI.
 pub fn signal_events(k: Kernel, i: u8, mask: u32) -> Kernel
     ensures { λ r. ⌜ r ≡ eventSignalled k i mask ⌝ }
 {
     let t = flag(thread_at(k, i), mask);
     let f = set_thread(k, i, t);
-    if is_met(t) {
-        take_flags(wake(f, i, OK), i, t.awaited)
-    } else {
-        f
-    }
+    if is_met(t) { wake(f, i, OK) } else { f }
 }
 
 // Thread i waits for any flag of the call's mask; those pending are taken at once: chEvtWaitAnyTimeout.

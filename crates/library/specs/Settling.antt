@@ -6,6 +6,7 @@ use lib.IntN.{pos}
 use Rattle.kernel.specs.declared.records.Thread.{Thread}
 use Rattle.kernel.specs.Tables.{threadAt}
 use Rattle.kernel.specs.Moves.{finished}
+use Rattle.kernel.specs.Event.{tookFlags}
 use Rattle.kernel.specs.Waiters.{firstReady}
 use Rattle.library.specs.declared.tables.Plant.{Plant}
 use Rattle.library.specs.Signs.{same}
@@ -17,18 +18,25 @@ use Rattle.library.specs.Tables.{withKernel}
 abbrev pub isBoxCall : ℕ → Bool
 isBoxCall kind = eqb kind 15 || (eqb kind 16 || (eqb kind 17 || eqb kind 20))
 
--- any call but a mailbox's or a pool's with "wake message 0"
-abbrev pub answeredOnly : Thread → Bool
-answeredOnly t = cond (isBoxCall (t .call .kind)) (not (same (t .message) (pos 0))) true
+-- those, and an event wait
+abbrev pub doesMore : ℕ → Bool
+doesMore kind = eqb kind 14 || isBoxCall kind
 
--- "mailbox, wake message 0: the whole mailbox rule is tried again"; "pool, message 0: it takes the top"; "all others answer their wake message with datum 0"
+-- any call but these with "wake message 0"
+abbrev pub answeredOnly : Thread → Bool
+answeredOnly t = cond (doesMore (t .call .kind)) (not (same (t .message) (pos 0))) true
+
+-- an event wait "clears and answers all pending flags in its mask" (document 02); "mailbox, wake message 0: the whole mailbox rule is tried
+-- again"; "pool, message 0: it takes the top"; "all others answer their wake message with datum 0"
 unfoldable pub continued : Plant → ℕ → Plant
 continued p i =
     cond (answeredOnly (threadAt (p .kernel) i))
     (withKernel p (finished (p .kernel) i (threadAt (p .kernel) i .message) 0))
+    (cond (eqb (threadAt (p .kernel) i .call .kind) 14)
+    (withKernel p (tookFlags (p .kernel) i (threadAt (p .kernel) i .call .operand)))
     (cond (eqb (threadAt (p .kernel) i .call .kind) 17) (fetchTried p i (threadAt (p .kernel) i .call))
     (cond (eqb (threadAt (p .kernel) i .call .kind) 20) (handedOver p i (threadAt (p .kernel) i .call .object))
-    (postTried p i (threadAt (p .kernel) i .call))))
+    (postTried p i (threadAt (p .kernel) i .call)))))
 
 -- "the running thread is the first ready one, or idle"
 abbrev pub runningIn : Plant → ℕ

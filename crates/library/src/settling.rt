@@ -9,7 +9,9 @@ use crate::pool::hand_over;
 use crate::signs::is_same;
 use crate::tables::Plant;
 use crate::tables::set_kernel;
+use kernel::event::take_flags;
 use kernel::kinds::KEPT_ALLOC;
+use kernel::kinds::KEPT_EVENT_WAIT;
 use kernel::kinds::KEPT_FETCH;
 use kernel::kinds::KEPT_NONE;
 use kernel::kinds::KEPT_POST;
@@ -21,7 +23,7 @@ use kernel::tables::thread_at;
 use kernel::waiters::first_ready;
 ghost use mathlib.Core.Path.{_≡_};
 ghost use Rattle.kernel.specs.Moves.{finished};
-ghost use Rattle.library.specs.Settling.{isBoxCall, answeredOnly, continued, settled};
+ghost use Rattle.library.specs.Settling.{isBoxCall, doesMore, answeredOnly, continued, settled};
 
 // Whether a kind is a mailbox's or a pool's.
 pub fn is_box_call(kind: u16) -> bool
@@ -36,11 +38,18 @@ pub fn is_box_call(kind: u16) -> bool
     )
 }
 
-// Whether the call is answered by its wake message alone: any but a mailbox's or a pool's that was woken with 0.
+// Whether a kind's call, woken with 0, does more than answer: an event wait, a mailbox's call or a pool's.
+fn does_more(kind: u16) -> bool
+    ensures { λ r. ⌜ r ≡ doesMore kind ⌝ }
+{
+    either(kind == KEPT_EVENT_WAIT, is_box_call(kind))
+}
+
+// Whether the call is answered by its wake message alone: any other, and any that was not woken with 0.
 fn is_answered_only(t: Thread) -> bool
     ensures { λ r. ⌜ r ≡ answeredOnly t ⌝ }
 {
-    if is_box_call(t.call.kind) {
+    if does_more(t.call.kind) {
         !is_same(t.message, 0)
     } else {
         true
@@ -66,6 +75,7 @@ fn go_on(p: Plant, i: u8) -> Plant
         return set_kernel(p, answer_woken(k, i, t));
     }
     match kind {
+        KEPT_EVENT_WAIT => set_kernel(p, take_flags(k, i, call.operand)),
         KEPT_FETCH => try_fetch(p, i, call),
         KEPT_ALLOC => hand_over(p, i, call.object),
         _ => try_post(p, i, call),

@@ -14,3 +14,4 @@ pub mod Writer
 pub mod Boundary
 pub mod Waking
 pub mod Run
+pub mod Flags

@@ -159,6 +159,9 @@ fn main() {
         tote-pool.trace ",
         false,
     );
-    show_all(b"whole-line.trace words-on-the-screen.trace ", true);
+    show_all(
+        b"two-flags-one-wait.trace whole-line.trace words-on-the-screen.trace ",
+        true,
+    );
     write_all_cases();
 }

@@ -1,6 +1,6 @@
-// Hand-worked scenes: each a short run of steps for one rule of document 01 that is easy to get wrong.
+// Hand-worked scenes: each a short run of steps for one rule of documents 01 and 02 that is easy to get wrong.
 // A line for each step: its number, code, running thread, woken mask, finished mask, message and datum.
-// `stdout` holds what document 01's words give.
+// `stdout` holds what their words give.
 use kernel::clock::Clock;
 use kernel::numbers::INFINITE;
 use kernel::numbers::NOBODY;
@@ -256,7 +256,7 @@ fn continuing_one_call_wakes_another() {
 }
 
 // Flags 1 of 3 awaited: datum 1, flag 4 stays pending for the next wait.
-fn flags_are_taken_at_the_waking() {
+fn flags_of_the_mask_alone() {
     let sizes = [2, 0, 0, 0, 0, 0, 0];
     let steps = [
         [EVENT_WAIT, 0, 0, 3, EVER],
@@ -265,7 +265,37 @@ fn flags_are_taken_at_the_waking() {
         [EVENT_WAIT, 0, 0, 4, 0],
         [EVENT_WAIT, 0, 0, 4, 0],
     ];
-    run(b"flags are taken at the waking\n", sizes, &steps);
+    run(b"flags of the mask alone\n", sizes, &steps);
+}
+
+// Slow thread 1 awaits 1 or 2 and is signalled 1, then 2 and 4 before it runs: it sees both, and 4 stays pending.
+fn flags_that_come_late() {
+    let sizes = [2, 0, 0, 0, 0, 0, 0];
+    let steps = [
+        [SLEEP_FOR, 0, 0, 0, 1],
+        [EVENT_WAIT, 1, 0, 3, EVER],
+        [TICK, INTERRUPT, 0, 0, 0],
+        [EVENT_SIGNAL, 0, 1, 1, 0],
+        [EVENT_SIGNAL, 0, 1, 6, 0],
+        [SLEEP_FOR, 0, 0, 0, 9],
+        [EVENT_WAIT, 1, 0, 3, 0],
+        [EVENT_WAIT, 1, 0, 4, 0],
+    ];
+    run(b"flags that come late\n", sizes, &steps);
+}
+
+// Thread 1's wait timed out before it runs: a flag that comes then is not its answer, and stays pending.
+fn flags_after_a_timeout() {
+    let sizes = [2, 0, 0, 0, 0, 0, 0];
+    let steps = [
+        [SLEEP_FOR, 0, 0, 0, 1],
+        [EVENT_WAIT, 1, 0, 3, 1],
+        [TICK, INTERRUPT, 0, 0, 0],
+        [EVENT_SIGNAL, 0, 1, 1, 0],
+        [SLEEP_FOR, 0, 0, 0, 9],
+        [EVENT_WAIT, 1, 0, 3, 0],
+    ];
+    run(b"flags after a timeout\n", sizes, &steps);
 }
 
 // Both waiters get -2, the counter is 2.
@@ -406,7 +436,9 @@ fn main() {
     a_retry_sleeps_its_full_timeout();
     a_promised_object_is_not_given_away();
     continuing_one_call_wakes_another();
-    flags_are_taken_at_the_waking();
+    flags_of_the_mask_alone();
+    flags_that_come_late();
+    flags_after_a_timeout();
     reset_of_a_semaphore();
     refusals_in_order();
     suspend_and_resume();

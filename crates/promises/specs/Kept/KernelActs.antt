@@ -255,7 +255,7 @@ module _ (p : Plant) (c : Clock) (s : Step) (a : Accepted p c s) (w : Whole (p .
       (eqb-false (s .kind) 7 e7) (eqb-false (s .kind) 8 e8) (eqb-false (s .kind) 10 e10) in
       let l = object-of 13 is in
       plainly (eventSignalled k (s .object) (s .a))
-      (event-signal-chained z g k (s .object) (s .a) (w .kernel .rules .sized) l (w .kernel .rows (s .object) l)))))))))
+      (event-signal-chained z g k (s .object) (s .a) (w .kernel .rules .sized) l))))))))
 
   -- ---- 2, 6, 9, 11, 12, 14
 

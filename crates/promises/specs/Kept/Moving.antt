@@ -29,17 +29,16 @@ use Rattle.kernel.specs.Event.{withPending, flagged, tookFlags, isMet, eventSig
 use Rattle.kernel.specs.Ticking.{ticked}
 use Rattle.kernel.proofs.Cases.{split, same-or, contrary, both-means, both-true}
 use Rattle.kernel.proofs.CountersLaws.{debt-some}
-use Rattle.kernel.proofs.TablesLaws.{Sized, sized-kept, thread-sizes, thread-same, used-all, used-le-given}
-use Rattle.kernel.proofs.MovesLaws.{wake-row, wake-past, wake-sizes, finish-interrupt}
+use Rattle.kernel.proofs.TablesLaws.{Sized, thread-same, used-all, used-le-given}
+use Rattle.kernel.proofs.MovesLaws.{wake-row, wake-past, finish-interrupt}
 use Rattle.kernel.proofs.WaitersLaws.{queued-place, first-waiter-cases, first-waiter-counted}
 use Rattle.kernel.proofs.QueueLaws.{release-all-keeps, release-all-empties}
 use Rattle.library.specs.declared.sizes.Sizes.{Sizes}
 use Rattle.library.specs.Binary.{binarySignalled}
 use Rattle.rules.specs.RowRules.{waitState, waitPlace}
 use Rattle.rules.specs.PoolRules.{isPromised}
-use Rattle.promises.specs.Together.Good.{GoodSizes, GoodThread, CallKind}
+use Rattle.promises.specs.Together.Good.{GoodSizes}
 use Rattle.promises.specs.Kept.Tallies.{Tallies}
-use Rattle.promises.specs.Kept.Rows.{each-kind}
 use Rattle.promises.specs.Kept.Chain.{Waken, Sleeper, sleepOf, signalAt, takeAt, Move, Chained, one, rested, after, queued-unready}
 
 -- a thread whose call may finish: it is ready, and no object is promised to it
@@ -55,13 +54,6 @@ Caller z k i = (i ≡ nobody) ⊎ ((i < z .threads) × Free (threadAt k i))
 below-one : (c : ℤ) → ltZ c (pos 1) ≡ true → ltZ c (pos 2147483647) ≡ true
 below-one (pos m) e = lt-ltb m 2147483647 (omega (arith, ltb-true m 1 e))
 below-one (negsuc m) e = refl
-
--- only an event wait awaits events
-awaiting-kind : (n : ℕ) → CallKind n → waitState n ≡ awaiting → n ≡ 14
-awaiting-kind =
-    each-kind (λ n. waitState n ≡ awaiting → n ≡ 14) (λ e. absurd (omega (arith, e))) (λ e. absurd (omega (arith, e)))
-    (λ e. absurd (omega (arith, e))) (λ e. absurd (omega (arith, e))) (λ e. absurd (omega (arith, e))) (λ e. refl)
-    (λ e. absurd (omega (arith, e))) (λ e. absurd (omega (arith, e))) (λ e. absurd (omega (arith, e))) (λ e. absurd (omega (arith, e)))
 
 module _ (z : Sizes) (g : GoodSizes z) where
   abbrev n : ℕ
@@ -256,10 +248,9 @@ module _ (z : Sizes) (g : GoodSizes z) where
           }
 
   -- 13: "the flags of a are ORed to those pending"; "if its state is awaiting events, for any of them, it is made ready"
-  pub event-signal-chained : (k : Kernel) (i mask : ℕ) → Sized k → i < n → GoodThread z (threadAt k i)
-      → Chained z k (eventSignalled k i mask) []
+  pub event-signal-chained : (k : Kernel) (i mask : ℕ) → Sized k → i < n → Chained z k (eventSignalled k i mask) []
   unfolding eventSignalled
-  event-signal-chained k i mask s l t =
+  event-signal-chained k i mask s l =
       split (isMet (flagged (threadAt k i) mask)) (λ e. rw e (met e))
       (λ e. rw e (flags-chained k i (bitOr (threadAt k i .pending) mask) (unmet e)))
     where
@@ -274,28 +265,9 @@ module _ (z : Sizes) (g : GoodSizes z) where
           split (eqb (bitAnd f (threadAt k i .awaited)) 0) (λ b. eqb-true (bitAnd f (threadAt k i .awaited)) 0 b)
           (λ b. contrary (both-true (eq-eqb (threadAt k i .state) awaiting a) (rw b)) e)
 
-      -- its call is an event wait
-      kind : threadAt k i .state ≡ awaiting → threadAt k i .call .kind ≡ 14
-      kind a =
-          let u : threadAt k i .state ≢ ready = λ r. absurd (not-ready (sym a ∙ r)) in
-          awaiting-kind (threadAt k i .call .kind) (t .kind (t .unready-call u)) (sym (t .unready-state u) ∙ a)
-        where
-          not-ready : awaiting ≡ ready → ⊥
-          not-ready e = omega arith
-
-      met : isMet (flagged (threadAt k i) mask) ≡ true
-          → Chained z k (tookFlags (woken (withThread k i (flagged (threadAt k i) mask)) i ok) i (threadAt k i .awaited)) []
+      met : isMet (flagged (threadAt k i) mask) ≡ true → Chained z k (woken (withThread k i (flagged (threadAt k i) mask)) i ok) []
       met e =
           let a = eqb-true (threadAt k i .state) awaiting (both-means (eqb (threadAt k i .state) awaiting) _ e .0) in
-          let k14 = kind a in
-          let row : threadAt (woken k i ok) i ≡ readied (threadAt k i) ok = wake-row k i ok here in
-          let after-wake = woken k i ok in
-          let told = withThread after-wake i (withPending (threadAt after-wake i) f) in
-          let s1 = sized-kept (wake-sizes k i ok) s in
-          let s2 = sized-kept (thread-sizes after-wake i (withPending (threadAt after-wake i) f)) s1 in
-          let toldrow : threadAt told i ≡ withPending (readied (threadAt k i) ok) f =
-          thread-same after-wake i (withPending (threadAt after-wake i) f) (omega (arith, s1 .threads, g .threads .1)) ∙ ap
-          (λ (x : Thread). withPending x f) row in
           rw (told-woken k i f here a)
           (after (wake-chained k i ok
           (record {
@@ -306,8 +278,7 @@ module _ (z : Sizes) (g : GoodSizes z) where
                 (sym a ∙ eqb-true (threadAt k i .state) queued
                 (both-means (eqb (threadAt k i .state) queued) (eqb (threadAt k i .place) p) q .0)));
           }))
-          (after (flags-chained after-wake i f (λ r. absurd (ready-not (sym (ap (λ (x : Thread). x .state) row) ∙ r))))
-          (take-flags-chained told i (threadAt k i .awaited) l s2 (ap (λ (x : Thread). x .state) toldrow) (rw (toldrow, k14)))))
+          (flags-chained (woken k i ok) i f (λ r. absurd (ready-not (sym (ap (λ (x : Thread). x .state) (wake-row k i ok here)) ∙ r)))))
         where
           not-ready : awaiting ≡ ready → ⊥
           not-ready e = omega arith

@@ -1,12 +1,13 @@
 -- Settling: every continued call is a chain that leaves the tables whole, and finishes a call or puts its thread to sleep. So settling
 -- ends, within twice the threads, with a running thread that has no unfinished call.
-use Prim.Native.Nat.{ℕ, zero, suc, _+_, _*_, _≤_, _<_}
+use Prim.Native.Nat.{ℕ, zero, suc, _+_, _-_, _*_, _≤_, _<_}
 use native.Mathlib.Omega.{arith}
 use mathlib.Core.Path.{_≡_, refl, sym, ap, subst}
 use mathlib.Core.Logic.{_≢_, inl, inr}
 use mathlib.Core.Bool.{Bool, true, false, not, _&&_, and-false}
 use mathlib.Core.List.{[], _++_}
 use lib.Dec.{eqb}
+use lib.Bits.{bitAnd}
 use lib.ListN.{length}
 use lib.IntN.{ℤ}
 use borrow.Author.Tests.{eqb-true, eqb-false, eq-eqb, ne-eqb}
@@ -16,14 +17,15 @@ use Rattle.kernel.specs.declared.records.Kernel.{Kernel}
 use Rattle.kernel.specs.Numbers.{nobody, ready, queued, ok, wasReset, timedOut}
 use Rattle.kernel.specs.Places.{writersPlace, readersPlace}
 use Rattle.kernel.specs.Walk.{countOf}
-use Rattle.kernel.specs.Tables.{threadAt}
+use Rattle.kernel.specs.Tables.{threadAt, withThread}
 use Rattle.kernel.specs.Moves.{woken, slept, finished}
 use Rattle.kernel.specs.Waiters.{isReady, firstWaiter}
 use Rattle.kernel.specs.Queue.{enqueued, releasedFirst}
+use Rattle.kernel.specs.Event.{withPending, tookFlags}
 use Rattle.kernel.proofs.Cases.{split, chosen, contrary, both-means}
-use Rattle.kernel.proofs.WalkLaws.{bit-le, count-le, count-change}
+use Rattle.kernel.proofs.WalkLaws.{bit-le, count-le, count-agree, count-change}
 use Rattle.kernel.proofs.QueueLaws.{release-first-sizes}
-use Rattle.kernel.proofs.TablesLaws.{Sized, sized-kept, used-all, used-le-given, thread-blank}
+use Rattle.kernel.proofs.TablesLaws.{Sized, sized-kept, thread-sizes, thread-same, thread-kept, used-all, used-le-given, thread-blank}
 use Rattle.kernel.proofs.WaitersLaws.{first-ready-cases, first-waiter-cases}
 use Rattle.kernel.proofs.MovesLaws.{wake-row, wake-others, wake-past, sleep-row, sleep-others, finish-row, finish-others, block-cases}
 use Rattle.library.specs.declared.sizes.Sizes.{Sizes}
@@ -33,14 +35,14 @@ use Rattle.library.specs.Sizes.{slotsAt}
 use Rattle.library.specs.Ring.{noSlot, fetched}
 use Rattle.library.specs.Mailbox.{messageAt, placedFor, postTried, postDone, fetchTried, fetchDone}
 use Rattle.library.specs.Pool.{topOf, handedOver}
-use Rattle.library.specs.Settling.{isBoxCall, answeredOnly, continued, runningIn, isSettled, settled}
+use Rattle.library.specs.Settling.{isBoxCall, doesMore, answeredOnly, continued, runningIn, isSettled, settled}
 use Rattle.library.specs.Tables.{mailboxAt, poolAt, withKernel}
 use Rattle.rules.specs.PoolRules.{isPromised}
 use Rattle.steps.specs.Stepping.{budgetOf}
 use Rattle.promises.specs.Together.Good.{GoodThread}
 use Rattle.promises.specs.Kept.Rows.{CallSound}
 use Rattle.promises.specs.Kept.Chain.{Move, one, rested, after, countIn}
-use Rattle.promises.specs.Kept.Moving.{Free}
+use Rattle.promises.specs.Kept.Moving.{Free, take-flags-chained}
 use Rattle.promises.specs.Kept.Whole.{Whole, kernel-done}
 use Rattle.promises.specs.Kept.BoxActs.{Tries, Tryer, post-tries, fetch-tries, hand-tries, released-row}
 
@@ -84,13 +86,28 @@ module _ (p : Plant) (w : Whole (p .sizes) p) (i : ℕ) (d : Due (p .sizes) (p .
           contrary e (rw (eqb-true (t .call .kind) 20 (x .0), x .1)))
           (λ b. rw b (and-false (isReady t)))
 
+  -- "then clears and answers all pending flags in its mask"
+  flags-tries : t .call .kind ≡ 14 → Tries z p (withKernel p (tookFlags k i (t .call .operand)))
+  unfolding countIn
+  flags-tries e =
+      record {
+        notes = [];
+        done = kernel-done z p (tookFlags k i (t .call .operand)) [] w
+            (take-flags-chained z (w .sizes) k i (t .call .operand) (d .within) (w .kernel .rules .sized) (d .is-ready)
+            (rw e (and-false (isReady t))))
+            (λ q l. refl);
+      }
+
   -- a mailbox's or a pool's call woken with 0
-  module _ (e : answeredOnly t ≡ false) where
+  module _ (e : answeredOnly t ≡ false) (no-flags : eqb (t .call .kind) 14 ≡ false) where
+    more : doesMore (t .call .kind) ≡ true
+    more = split (doesMore (t .call .kind)) (λ b. b) (λ b. contrary (rw b) e)
+
     box : isBoxCall (t .call .kind) ≡ true
-    box = split (isBoxCall (t .call .kind)) (λ b. b) (λ b. contrary (rw b) e)
+    box = rw no-flags at more
 
     woken-ok : same (t .message) ok ≡ true
-    woken-ok = split (same (t .message) ok) (λ b. b) (λ b. contrary (rw (box, b)) e)
+    woken-ok = split (same (t .message) ok) (λ b. b) (λ b. contrary (rw (more, b)) e)
 
     -- it keeps what it slept with: "it may sleep again with its FULL timeout"
     fits : CallSound z (t .call)
@@ -139,9 +156,10 @@ module _ (p : Plant) (w : Whole (p .sizes) p) (i : ℕ) (d : Due (p .sizes) (p .
   unfolding continued
   continue-tries =
       chosen (Tries z p) (answeredOnly t) others-tries
-      (λ e. chosen (Tries z p) (eqb (t .call .kind) 17) (λ f. fetch-again e (eqb-true (t .call .kind) 17 f))
-      (λ f. chosen (Tries z p) (eqb (t .call .kind) 20) (λ g. hand-over e (eqb-true (t .call .kind) 20 g))
-      (λ g. post-again e (eqb-false (t .call .kind) 17 f) (eqb-false (t .call .kind) 20 g))))
+      (λ e. chosen (Tries z p) (eqb (t .call .kind) 14) (λ n. flags-tries (eqb-true (t .call .kind) 14 n))
+      (λ n. chosen (Tries z p) (eqb (t .call .kind) 17) (λ f. fetch-again e n (eqb-true (t .call .kind) 17 f))
+      (λ f. chosen (Tries z p) (eqb (t .call .kind) 20) (λ g. hand-over e n (eqb-true (t .call .kind) 20 g))
+      (λ g. post-again e n (eqb-false (t .call .kind) 17 f) (eqb-false (t .call .kind) 20 g)))))
 
 -- ---- each continued call lowers a weight: 1 for a call that sleeps, 2 for one that is to be continued
 
@@ -258,6 +276,20 @@ module _ (p : Plant) (w : Whole (p .sizes) p) (i : ℕ) (d : Due (p .sizes) (p .
   finish-lighter : (m : ℤ) (x : ℕ) → weight n (finished k' i m x) < weight n k'
   finish-lighter m x = omega (arith, finish-weight n few k' sized i (d .within) (d .is-ready) (d .unfinished) m x)
 
+  -- "clears and answers": the cleared row has the same call, in the same state
+  flags-lighter : (mask : ℕ) → weight n (tookFlags k' i mask) < weight n k'
+  unfolding tookFlags
+  flags-lighter mask =
+      let u = withPending (threadAt k' i) (threadAt k' i .pending - bitAnd (threadAt k' i .pending) mask) in
+      let row = thread-same k' i u (omega (arith, sized .threads, few, d .within)) in
+      omega (
+        arith,
+        finish-weight n few (withThread k' i u) (sized-kept (thread-sizes k' i u) sized) i (d .within) (rw row (d .is-ready))
+            (rw row (d .unfinished)) ok (bitAnd (threadAt k' i .pending) mask),
+        count-agree (λ j. hasCall (threadAt (withThread k' i u) j)) (λ j. hasCall (threadAt k' j)) n (λ j l. thread-kept k' i u hasCall refl j),
+        count-agree (λ j. isDue (threadAt (withThread k' i u) j)) (λ j. isDue (threadAt k' j)) n (λ j l. thread-kept k' i u isDue refl j),
+      )
+
   enqueue-lighter : (q : ℕ) (c : Call) → weight n (enqueued k' i q c) < weight n k'
   enqueue-lighter q c = enqueue-weight n few k' sized i (d .within) (d .is-ready) (d .unfinished) q c
 
@@ -291,9 +323,10 @@ module _ (p : Plant) (w : Whole (p .sizes) p) (i : ℕ) (d : Due (p .sizes) (p .
   unfolding continued
   continue-lighter =
       chosen Lighter (answeredOnly (threadAt k' i)) (λ e. finish-lighter (threadAt k' i .message) 0)
-      (λ e. chosen Lighter (eqb (threadAt k' i .call .kind) 17) (λ f. fetch-lighter (threadAt k' i .call))
+      (λ e. chosen Lighter (eqb (threadAt k' i .call .kind) 14) (λ n. flags-lighter (threadAt k' i .call .operand))
+      (λ n. chosen Lighter (eqb (threadAt k' i .call .kind) 17) (λ f. fetch-lighter (threadAt k' i .call))
       (λ f. chosen Lighter (eqb (threadAt k' i .call .kind) 20) (λ g. hand-lighter (threadAt k' i .call .object))
-      (λ g. post-lighter (threadAt k' i .call))))
+      (λ g. post-lighter (threadAt k' i .call)))))
 
 -- ---- settling
 

@@ -263,7 +263,7 @@ module _ (p : Plant) (w : Whole (p .sizes) p) where
       state d = good .references .holds r h (holderAt k₁ r) (within d) .0 refl .0
 
 -- the pending flags of a mask are taken
-took-is : (p : Plant) → Sized (p .kernel) → (i : ℕ) → i < 16 → (mask : ℕ)
+pub took-is : (p : Plant) → Sized (p .kernel) → (i : ℕ) → i < 16 → (mask : ℕ)
     → worldOf (withKernel p (tookFlags (p .kernel) i mask)) ≡ tookOf (worldOf p) i mask
 unfolding tookFlags
 took-is p z i here mask =
@@ -282,18 +282,14 @@ module _ (p : Plant) (z : Sized (p .kernel)) (i : ℕ) (here : i < 16) where
   flagged-is a = thread-world p z i here (flagged (threadAt k₂ i) a)
 
   came-is : (a : ℕ) → threadAt k₂ i .state ≡ 4
-      → worldOf (withKernel p (tookFlags (woken (withThread k₂ i (flagged (threadAt k₂ i) a)) i ok) i (threadAt k₂ i .awaited)))
-      ≡ tookOf (madeReady (flaggedOf (worldOf p) i a) i (pos 0)) i
-      (threadAt k₂ i .awaited)
+      → worldOf (withKernel p (woken (withThread k₂ i (flagged (threadAt k₂ i) a)) i ok)) ≡ madeReady (flaggedOf (worldOf p) i a) i (pos 0)
   came-is a s =
       let told = withThread k₂ i (flagged (threadAt k₂ i) a) in
       let y = sized-kept (thread-sizes k₂ i (flagged (threadAt k₂ i) a)) z in
       let row : threadAt told i ≡ flagged (threadAt k₂ i) a =
       thread-same k₂ i (flagged (threadAt k₂ i) a) (rw (z .threads) here) in
-      took-is (withKernel p (woken told i ok)) (sized-kept (wake-sizes told i ok) y) i here (threadAt k₂ i .awaited)
-      ∙ ap (λ (w : World). tookOf w i (threadAt k₂ i .awaited))
-      (wake-world (withKernel p told) y i (pos 0) here (λ x. absurd (omega (arith, s, ap (λ (t : Thread). t .state) row, x)))
-      ∙ ap (λ (w : World). madeReady w i (pos 0)) (flagged-is a))
+      wake-world (withKernel p told) y i (pos 0) here (λ x. absurd (omega (arith, s, ap (λ (t : Thread). t .state) row, x)))
+      ∙ ap (λ (w : World). madeReady w i (pos 0)) (flagged-is a)
 
   pub event-signal-is : (a : ℕ) → EventSignal (worldOf p) i a (worldOf (withKernel p (eventSignalled k₂ i a)))
   unfolding eventSignalled

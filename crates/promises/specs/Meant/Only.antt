@@ -84,7 +84,7 @@ highest-only w p i j a b =
     least-only (λ k. (w .thread k .state ≡ 3) × (w .thread k .place ≡ p)) i j (a .waits) (b .waits)
     (λ k l x. a .highest k l (x .0) (x .1)) (λ k l x. b .highest k l (x .0) (x .1))
 
-running-only : (w : World) (r q : ℕ) → Running w r → Running w q → r ≡ q
+pub running-only : (w : World) (r q : ℕ) → Running w r → Running w q → r ≡ q
 running-only w r q (Running.thread a) (Running.thread b) = first-only w r q a b
 running-only w r q (Running.thread a) (Running.idle f e) = absurd (f r (a .thread) (a .is-ready))
 running-only w r q (Running.idle f e) (Running.thread b) = absurd (f q (b .thread) (b .is-ready))
@@ -274,37 +274,49 @@ module _ (t : Tables) (now : SystemTime) (s : Step) where
 -- ---- settling
 
 -- the bullets exclude each other
-not-other : {n : ℕ} {m : ℤ} → IsOther n ⊎ (m ≢ pos 0) → (n ≡ 15) ⊎ ((n ≡ 16) ⊎ ((n ≡ 17) ⊎ (n ≡ 20))) → m ≡ pos 0 → ⊥
+not-other : {n : ℕ} {m : ℤ} → IsOther n ⊎ (m ≢ pos 0) → (n ≡ 14) ⊎ ((n ≡ 15) ⊎ ((n ≡ 16) ⊎ ((n ≡ 17) ⊎ (n ≡ 20)))) → m ≡ pos 0 → ⊥
 not-other (inl f) (inl e) z = f .0 e
 not-other (inl f) (inr (inl e)) z = f .1 e
 not-other (inl f) (inr (inr (inl e))) z = f .2 e
-not-other (inl f) (inr (inr (inr e))) z = f .3 e
+not-other (inl f) (inr (inr (inr (inl e)))) z = f .3 e
+not-other (inl f) (inr (inr (inr (inr e)))) z = f .4 e
 not-other (inr f) e z = f z
 
-either : {n : ℕ} → (n ≡ 15) ⊎ (n ≡ 16) → (n ≡ 15) ⊎ ((n ≡ 16) ⊎ ((n ≡ 17) ⊎ (n ≡ 20)))
-either (inl e) = inl e
-either (inr e) = inr (inl e)
+either : {n : ℕ} → (n ≡ 15) ⊎ (n ≡ 16) → (n ≡ 14) ⊎ ((n ≡ 15) ⊎ ((n ≡ 16) ⊎ ((n ≡ 17) ⊎ (n ≡ 20))))
+either (inl e) = inr (inl e)
+either (inr e) = inr (inr (inl e))
 
-not-post : {n : ℕ} → (n ≡ 15) ⊎ (n ≡ 16) → 17 ≤ n → ⊥
-not-post (inl e) h = omega arith
-not-post (inr e) h = omega arith
+not-post : {n : ℕ} → (n ≡ 15) ⊎ (n ≡ 16) → (n ≤ 14) ⊎ (17 ≤ n) → ⊥
+not-post (inl e) (inl h) = omega arith
+not-post (inl e) (inr h) = omega arith
+not-post (inr e) (inl h) = omega arith
+not-post (inr e) (inr h) = omega arith
 
 continued-only : (w : World) (i : ℕ) (x y : World) → Continued w i x → Continued w i y → x ≡ y
+continued-only w i x y (Continued.flags a z e) (Continued.flags b o d) = e ∙ sym d
+continued-only w i x y (Continued.flags a z e) (Continued.posts b o d) = absurd (not-post b (inl (omega arith)))
+continued-only w i x y (Continued.flags a z e) (Continued.fetches b o d) = absurd (omega arith)
+continued-only w i x y (Continued.flags a z e) (Continued.takes b o d) = absurd (omega arith)
+continued-only w i x y (Continued.flags a z e) (Continued.answers b d) = absurd (not-other b (inl a) z)
+continued-only w i x y (Continued.posts a z e) (Continued.flags b o d) = absurd (not-post a (inl (omega arith)))
 continued-only w i x y (Continued.posts a z e) (Continued.posts b o d) = post-only w i (w .thread i .call) x y e d
-continued-only w i x y (Continued.posts a z e) (Continued.fetches b o d) = absurd (not-post a (omega arith))
-continued-only w i x y (Continued.posts a z e) (Continued.takes b o d) = absurd (not-post a (omega arith))
+continued-only w i x y (Continued.posts a z e) (Continued.fetches b o d) = absurd (not-post a (inr (omega arith)))
+continued-only w i x y (Continued.posts a z e) (Continued.takes b o d) = absurd (not-post a (inr (omega arith)))
 continued-only w i x y (Continued.posts a z e) (Continued.answers b d) = absurd (not-other b (either a) z)
-continued-only w i x y (Continued.fetches a z e) (Continued.posts b o d) = absurd (not-post b (omega arith))
+continued-only w i x y (Continued.fetches a z e) (Continued.flags b o d) = absurd (omega arith)
+continued-only w i x y (Continued.fetches a z e) (Continued.posts b o d) = absurd (not-post b (inr (omega arith)))
 continued-only w i x y (Continued.fetches a z e) (Continued.fetches b o d) = fetch-only w i (w .thread i .call) x y e d
 continued-only w i x y (Continued.fetches a z e) (Continued.takes b o d) = absurd (omega arith)
-continued-only w i x y (Continued.fetches a z e) (Continued.answers b d) = absurd (not-other b (inr (inr (inl a))) z)
-continued-only w i x y (Continued.takes a z e) (Continued.posts b o d) = absurd (not-post b (omega arith))
+continued-only w i x y (Continued.fetches a z e) (Continued.answers b d) = absurd (not-other b (inr (inr (inr (inl a)))) z)
+continued-only w i x y (Continued.takes a z e) (Continued.flags b o d) = absurd (omega arith)
+continued-only w i x y (Continued.takes a z e) (Continued.posts b o d) = absurd (not-post b (inr (omega arith)))
 continued-only w i x y (Continued.takes a z e) (Continued.fetches b o d) = absurd (omega arith)
 continued-only w i x y (Continued.takes a z e) (Continued.takes b o d) = e ∙ sym d
-continued-only w i x y (Continued.takes a z e) (Continued.answers b d) = absurd (not-other b (inr (inr (inr a))) z)
+continued-only w i x y (Continued.takes a z e) (Continued.answers b d) = absurd (not-other b (inr (inr (inr (inr a)))) z)
+continued-only w i x y (Continued.answers a e) (Continued.flags b o d) = absurd (not-other a (inl b) o)
 continued-only w i x y (Continued.answers a e) (Continued.posts b o d) = absurd (not-other a (either b) o)
-continued-only w i x y (Continued.answers a e) (Continued.fetches b o d) = absurd (not-other a (inr (inr (inl b))) o)
-continued-only w i x y (Continued.answers a e) (Continued.takes b o d) = absurd (not-other a (inr (inr (inr b))) o)
+continued-only w i x y (Continued.answers a e) (Continued.fetches b o d) = absurd (not-other a (inr (inr (inr (inl b)))) o)
+continued-only w i x y (Continued.answers a e) (Continued.takes b o d) = absurd (not-other a (inr (inr (inr (inr b)))) o)
 continued-only w i x y (Continued.answers a e) (Continued.answers b d) = e ∙ sym d
 
 settles-only : (x y w : World) → Settles x w → Settles y w → x ≡ y

@@ -14,9 +14,11 @@ use Rattle.kernel.proofs.Cases.{contrary}
 use Rattle.kernel.proofs.TablesLaws.{used-all}
 use Rattle.kernel.proofs.WaitersLaws.{first-ready-cases}
 use Rattle.library.specs.declared.tables.Plant.{Plant}
+use Rattle.kernel.specs.Event.{tookFlags}
 use Rattle.library.specs.Mailbox.{postTried, fetchTried}
 use Rattle.library.specs.Pool.{handedOver}
-use Rattle.library.specs.Settling.{isBoxCall, answeredOnly, continued, runningIn, settled}
+use Rattle.library.specs.Settling.{doesMore, answeredOnly, continued, runningIn, settled}
+use Rattle.library.specs.Tables.{withKernel}
 use Rattle.library.proofs.SettlingLaws.{settled-quiet}
 
 -- ---- "the running thread is the first ready one, or idle"
@@ -53,9 +55,14 @@ module _ (p : Plant) (i : ℕ) where
   abbrev t : Thread
   t = threadAt (p .kernel) i
 
-  -- a box call that was woken with 0 is more than answered
-  not-answered : isBoxCall (t .call .kind) ≡ true → t .message ≡ pos 0 → answeredOnly t ≡ false
+  -- a call that does more, woken with 0, is more than answered
+  not-answered : doesMore (t .call .kind) ≡ true → t .message ≡ pos 0 → answeredOnly t ≡ false
   not-answered b m = rw (b, m)
+
+  -- an event wait "clears and answers all pending flags in its mask"
+  pub flags-now : t .call .kind ≡ 14 → t .message ≡ pos 0 → continued p i ≡ withKernel p (tookFlags (p .kernel) i (t .call .operand))
+  unfolding continued
+  flags-now e m = rw (not-answered (rw e) m, e)
 
   -- "mailbox, wake message 0: the whole mailbox rule is tried again"
   pub post-again : (t .call .kind ≡ 15) ⊎ (t .call .kind ≡ 16) → t .message ≡ pos 0 → continued p i ≡ postTried p i (t .call)

@@ -22,7 +22,7 @@ use Rattle.library.specs.declared.tables.Plant.{Plant}
 use Rattle.library.specs.declared.tables.Tables.{Tables}
 use Rattle.library.specs.Signs.{same}
 use Rattle.library.specs.Acting.{acted}
-use Rattle.library.specs.Settling.{isBoxCall, answeredOnly, continued, runningIn, isSettled, settled}
+use Rattle.library.specs.Settling.{doesMore, answeredOnly, continued, runningIn, isSettled, settled}
 use Rattle.library.specs.Tables.{opened, closed}
 use Rattle.rules.specs.Hanging.{hangsTogether}
 use Rattle.steps.specs.declared.stepping.Stepped.{Stepped}
@@ -43,16 +43,16 @@ use Rattle.promises.specs.Kept.Settles.{continue-tries}
 use Rattle.promises.specs.Kept.Steps.{Hangs, settles}
 use Rattle.promises.specs.Meant.Clock.{tick-time, tick-time-wraps, other-time}
 use Rattle.promises.specs.Meant.Pools.{promise-stocked}
-use Rattle.promises.specs.Meant.Settling.{running-first, post-again, fetch-again, alloc-again, settle-on, settle-stops}
+use Rattle.promises.specs.Meant.Settling.{running-first, flags-now, post-again, fetch-again, alloc-again, settle-on, settle-stops}
 use Rattle.promises.specs.Meant.Refusals.{first-broken}
 use Rattle.promises.specs.Paper.World.{World, Left, ended, First, Running}
 use Rattle.promises.specs.Paper.Rows.{Post, Fetch}
 use Rattle.promises.specs.Paper.Host.{HostTables, Host}
-use Rattle.promises.specs.Paper.Settling.{Continued, Settles}
+use Rattle.promises.specs.Paper.Settling.{IsOther, Continued, Settles}
 use Rattle.promises.specs.Paper.Refusals.{RefusedWith}
 use Rattle.promises.specs.Paper.Step.{WordsLeft, ClockAfter, ResultOf, StepOf}
 use Rattle.promises.specs.Meant.Moves.{worldOf, found-is, finish-world}
-use Rattle.promises.specs.Meant.Calls.{sized, few, good, post-is, fetch-is, top-is, pool-row}
+use Rattle.promises.specs.Meant.Calls.{sized, few, good, took-is, post-is, fetch-is, top-is, pool-row}
 use Rattle.promises.specs.Meant.Rows.{act-is}
 use Rattle.promises.specs.Meant.Only.{first-only, step-only}
 
@@ -127,9 +127,19 @@ module _ (p : Plant) (w : Whole (p .sizes) p) where
     unfolding continued
     answer-is e = rw e (finish-world p (sized p w) i (t .message) 0 (inr here))
 
-    other-kind : t .call .kind ≢ 15 → t .call .kind ≢ 16 → t .call .kind ≢ 17 → t .call .kind ≢ 20 → answeredOnly t ≡ true
-    other-kind a b c d =
-        rw (ne-eqb (t .call .kind) 15 a, ne-eqb (t .call .kind) 16 b, ne-eqb (t .call .kind) 17 c, ne-eqb (t .call .kind) 20 d)
+    other-kind : IsOther (t .call .kind) → answeredOnly t ≡ true
+    other-kind n =
+        rw (
+          ne-eqb (t .call .kind) 14 (n .0),
+          ne-eqb (t .call .kind) 15 (n .1),
+          ne-eqb (t .call .kind) 16 (n .2),
+          ne-eqb (t .call .kind) 17 (n .3),
+          ne-eqb (t .call .kind) 20 (n .4),
+        )
+
+    -- "then clears and answers all pending flags in its mask"
+    flags-on : t .call .kind ≡ 14 → t .message ≡ pos 0 → Continued (worldOf p) i (worldOf (continued p i))
+    flags-on e m = Continued.flags e m (ap worldOf (flags-now p i e m) ∙ took-is p (sized p w) i here (t .call .operand))
 
     -- "mailbox, wake message 0: the whole mailbox rule is tried again"
     post-on : (t .call .kind ≡ 15) ⊎ (t .call .kind ≡ 16) → t .message ≡ pos 0 → Continued (worldOf p) i (worldOf (continued p i))
@@ -157,19 +167,20 @@ module _ (p : Plant) (w : Whole (p .sizes) p) where
         ∙ top-is p (sized p w) i (inr here) o (pool-row p w o there)
         (promise-stocked p (good p w) o there i (f .thread) (f .is-ready) e m refl))
 
-    -- the three bullets
+    -- the bullets, and document 02's
     continued-is : Continued (worldOf p) i (worldOf (continued p i))
     continued-is =
         split (same (t .message) (pos 0))
         (λ e.
         let m = same-means (t .message) (pos 0) e in
-        same-or (t .call .kind) 15 (λ a. post-on (inl a) m)
+        same-or (t .call .kind) 14 (λ a. flags-on a m)
+        (λ n14. same-or (t .call .kind) 15 (λ a. post-on (inl a) m)
         (λ n15. same-or (t .call .kind) 16 (λ a. post-on (inr a) m)
         (λ n16. same-or (t .call .kind) 17 (λ a. fetch-on a m)
         (λ n17. same-or (t .call .kind) 20 (λ a. take-on a m)
-        (λ n20. Continued.answers (inl (n15, n16, n17, n20)) (answer-is (other-kind n15 n16 n17 n20)))))))
+        (λ n20. let n : IsOther (t .call .kind) = (n14, n15, n16, n17, n20) in Continued.answers (inl n) (answer-is (other-kind n))))))))
         (λ e.
-        Continued.answers (inr (λ x. contrary (rw x) e)) (answer-is (split (isBoxCall (t .call .kind)) (λ b. rw (b, e)) (λ b. rw b))))
+        Continued.answers (inr (λ x. contrary (rw x) e)) (answer-is (split (doesMore (t .call .kind)) (λ b. rw (b, e)) (λ b. rw b))))
 
     whole-on : Whole (continued p i .sizes) (continued p i)
     whole-on =

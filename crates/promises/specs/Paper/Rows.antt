@@ -120,11 +120,11 @@ tookFlags w i a =
 abbrev pub flagged : World → ℕ → ℕ → World
 flagged w i a = threadTo w i (pendingTo (w .thread i) (bitOr (w .thread i .pending) a))
 
--- "if its state is awaiting events, for any of them, it is made ready"; "at the waking, the awaited flags then pending are cleared, are the
--- datum with message 0, and the call is finished". Awaiting events is state 4
+-- "if its state is awaiting events, for any of them, it is made ready"; of document 02: "the call stays unfinished until it is continued".
+-- Awaiting events is state 4
 pub data EventSignal (w : World) (i a : ℕ) (x : World) : Type 0 where
   comes : w .thread i .state ≡ 4 → bitAnd (bitOr (w .thread i .pending) a) (w .thread i .awaited) ≢ 0
-      → x ≡ tookFlags (madeReady (flagged w i a) i (pos 0)) i (w .thread i .awaited) → EventSignal w i a x
+      → x ≡ madeReady (flagged w i a) i (pos 0) → EventSignal w i a x
   only-flagged : (w .thread i .state ≢ 4) ⊎ (bitAnd (bitOr (w .thread i .pending) a) (w .thread i .awaited) ≡ 0) → x ≡ flagged w i a
       → EventSignal w i a x
 

@@ -4,16 +4,18 @@ use mathlib.Core.Path.{_≡_}
 use mathlib.Core.Logic.{_≢_, _⊎_}
 use lib.IntN.{pos}
 use Rattle.promises.specs.Paper.World.{World, ended, First}
-use Rattle.promises.specs.Paper.Rows.{Post, Fetch, topTaken}
+use Rattle.promises.specs.Paper.Rows.{tookFlags, Post, Fetch, topTaken}
 
 -- ---- settling
 
--- neither a mailbox's call nor a pool's
+-- neither an event wait, nor a mailbox's call, nor a pool's
 abbrev pub IsOther : ℕ → Type 0
-IsOther n = (n ≢ 15) × (n ≢ 16) × (n ≢ 17) × (n ≢ 20)
+IsOther n = (n ≢ 14) × (n ≢ 15) × (n ≢ 16) × (n ≢ 17) × (n ≢ 20)
 
 -- "that call is continued", of thread i
 pub data Continued (w : World) (i : ℕ) (x : World) : Type 0 where
+  -- of document 02: "then clears and answers all pending flags in its mask"
+  flags : w .thread i .call .kind ≡ 14 → w .thread i .message ≡ pos 0 → x ≡ tookFlags w i (w .thread i .call .operand) → Continued w i x
   -- "mailbox, wake message 0: the whole mailbox rule is tried again"; the call has its FULL timeout
   posts : (w .thread i .call .kind ≡ 15) ⊎ (w .thread i .call .kind ≡ 16) → w .thread i .message ≡ pos 0
       → Post w i (w .thread i .call) x → Continued w i x

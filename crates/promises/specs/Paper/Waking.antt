@@ -12,12 +12,13 @@ use Rattle.kernel.specs.declared.records.Thread.{Thread}
 use Rattle.library.specs.declared.calls.Step.{Step}
 use Rattle.library.specs.declared.tables.Tables.{Tables}
 use Rattle.promises.specs.Paper.World.{noCall, noAnswer, found, signed}
+use Rattle.promises.specs.Paper.Settling.{IsOther}
 
 -- thread i's record between two steps
 abbrev pub rowOf : Tables → ℕ → Thread
 rowOf t i = found t .thread i
 
--- whether thread i is in a mask
+-- whether thread i is in a mask, or flag i in a set of flags
 abbrev pub inMask : ℕ → ℕ → Bool
 inMask i mask = eqb (mask / 2 ^ i % 2) 1
 
@@ -72,17 +73,13 @@ sleptOn s i a =
       answer = a .answer;
     }
 
--- neither an event wait, nor a mailbox's call, nor a pool's
-abbrev pub IsPlain : ℕ → Type 0
-IsPlain n = (n ≢ 14) × (n ≢ 15) × (n ≢ 16) × (n ≢ 17) × (n ≢ 20)
-
 -- the answer of a call that was woken with m: message, datum, and the flags that stay pending
 pub data AnswerOf (a : Thread) (flags : ℕ) (m : ℤ) : ℤ → ℕ → ℕ → Type 0 where
   -- "all others answer their wake message with datum 0"
-  message : IsPlain (a .call .kind) ⊎ (m ≢ pos 0) → AnswerOf a flags m m 0 flags
-  -- "the awaited flags then pending are cleared, are the datum with message 0"
+  message : IsOther (a .call .kind) ⊎ (m ≢ pos 0) → AnswerOf a flags m m 0 flags
+  -- of document 02: "clears and answers all pending flags in its mask"
   events : a .call .kind ≡ 14 → m ≡ pos 0
-      → AnswerOf a flags m (pos 0) (bitAnd flags (a .awaited)) (flags - bitAnd flags (a .awaited))
+      → AnswerOf a flags m (pos 0) (bitAnd flags (a .call .operand)) (flags - bitAnd flags (a .call .operand))
   -- "it takes the top"
   object : a .call .kind ≡ 20 → m ≡ pos 0 → (o : ℕ) → o < 32 → AnswerOf a flags m (pos 0) o flags
   -- "the whole mailbox rule is tried again, reset state first"
@@ -137,9 +134,8 @@ againRow s i a =
 pub data SleeperAfter (t : Tables) (s : Step) (i : ℕ) (b : Thread) (woken finished : Bool) : Type 0 where
   -- it sleeps on
   on : b ≡ sleptOn s i (rowOf t i) → woken ≡ false → finished ≡ false → SleeperAfter t s i b woken finished
-  -- it was made ready, and its call is not continued yet; an event wait that its flags woke is finished at once. Its last answer is 0 and
-  -- 0 if the call was tried in between
-  ready : (m : ℤ) → WokenBy t s i (rowOf t i) m → (rowOf t i .call .kind ≡ 14 → m ≢ pos 0) → (l : Answer)
+  -- it was made ready, and its call is not continued yet. Its last answer is 0 and 0 if the call was tried in between
+  ready : (m : ℤ) → WokenBy t s i (rowOf t i) m → (l : Answer)
       → (l ≡ rowOf t i .answer) ⊎ (IsMailing (rowOf t i .call .kind) × (l ≡ noAnswer)) → b ≡ wokenRow s i (rowOf t i) m l
       → woken ≡ true → finished ≡ false → SleeperAfter t s i b woken finished
   -- it was made ready, and its call finished with the answer that follows
@@ -148,6 +144,31 @@ pub data SleeperAfter (t : Tables) (s : Step) (i : ℕ) (b : Thread) (woken fini
   -- it was made ready with 0, and its mailbox call, tried again, sleeps again at the same place
   again : IsMailing (rowOf t i .call .kind) → WokenBy t s i (rowOf t i) (pos 0) → b ≡ againRow s i (rowOf t i) → woken ≡ true
       → finished ≡ false → SleeperAfter t s i b woken finished
+
+-- a ready record as it was, once flags of the step have come
+abbrev pub readyOn : Step → ℕ → Thread → Thread
+readyOn s i a =
+    record {
+      state = a .state;
+      place = a .place;
+      remaining = a .remaining;
+      pending = heard s i a;
+      awaited = a .awaited;
+      message = a .message;
+      call = a .call;
+      answer = a .answer;
+    }
+
+-- what it has made of thread i that was made ready by an earlier step, and whose call was not continued yet
+pub data ReadyAfter (t : Tables) (s : Step) (i : ℕ) (b : Thread) (woken finished : Bool) : Type 0 where
+  -- it has not come to run
+  on : b ≡ readyOn s i (rowOf t i) → woken ≡ false → finished ≡ false → ReadyAfter t s i b woken finished
+  -- its call finished, with the answer that follows from the message with which it was woken
+  done : (x : ℤ) (d f : ℕ) → AnswerOf (rowOf t i) (heard s i (rowOf t i)) (rowOf t i .message) x d f
+      → b ≡ doneRow (rowOf t i .message) x d f → woken ≡ false → finished ≡ true → ReadyAfter t s i b woken finished
+  -- its mailbox call was tried again, and slept again in this step; whether it sleeps still or not, the call is the same or none
+  tried : IsMailing (rowOf t i .call .kind) → rowOf t i .message ≡ pos 0 → b .pending ≡ heard s i (rowOf t i)
+      → (b .call ≡ rowOf t i .call) ⊎ (b .call ≡ noCall) → ReadyAfter t s i b woken finished
 
 -- where the step's own call waits, if it does: the state, and the place
 pub data OwnWait (s : Step) : ℕ → ℕ → Type 0 where

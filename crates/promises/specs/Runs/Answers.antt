@@ -1,6 +1,5 @@
 -- Demands 1 and 2 of one step: any tables, any clock and any step get an answer. A step is refused by the first rule of document 01
 -- that it breaks and then leaves everything as it was, or it is accepted and is done and settled.
-use native.Mathlib.Omega.{arith}
 use mathlib.Core.Path.{_≡_, sym, _∙_}
 use mathlib.Core.Logic.{_≢_}
 use borrow.Author.Tests.{eq-eqb, ne-eqb}

@@ -20,12 +20,14 @@ use Rattle.steps.proofs.StepLaws.{Untouched, step-refused}
 use Rattle.promises.specs.Paper.World.{found}
 use Rattle.promises.specs.Paper.Together.{TicksFit, HangTogether}
 use Rattle.promises.specs.Paper.Host.{HostTables, HostStep, Host, HostSteps}
-use Rattle.promises.specs.Paper.Waking.{rowOf, inMask, WokenBy, sleptOn, SleeperAfter, WakerAfter}
+use Rattle.promises.specs.Paper.Waking.{rowOf, inMask, WokenBy, sleptOn, SleeperAfter, ReadyAfter, WakerAfter}
+use Rattle.promises.specs.Paper.Flags.{awaitsFlags, FlagsAfter}
 use Rattle.promises.specs.Paper.Step.{ClockAfter, StepOf}
 use Rattle.promises.specs.Paper.Run.{Moment, isTick, ticksIn, signalsAt, signalsIn, joinsAt, joinsIn, higher, WokenIn, TurnOf}
 use Rattle.promises.specs.Together.Tests.{neither-means}
 use Rattle.promises.specs.Kept.Steps.{Hangs, step-hangs}
-use Rattle.promises.specs.Runs.OneStep.{sizes-after, sleeper-after, waker-after}
+use Rattle.promises.specs.Runs.OneStep.{sizes-after, sleeper-after, waker-after, woken-after, flags-of}
+use Rattle.promises.specs.Runs.GoingOn.{goes-running}
 use Rattle.promises.specs.Runs.Waiters.{turns-on, waits-on, turn-of}
 use Rattle.promises.specs.Meant.Together.{rules-together, together-rules}
 use Rattle.promises.specs.Meant.Step.{host-sized, sized-host, step-is}
@@ -87,14 +89,14 @@ timed-left (TicksFit.some x y l u) n m = l
 -- the waking of a sleeper that is in the woken mask, with the message that its record has then
 waking : {t : Tables} {s : Step} {i : ℕ} {b : Thread} {w f : Bool} → SleeperAfter t s i b w f → w ≡ true → WokenBy t s i (rowOf t i) (b .message)
 waking (SleeperAfter.on e x y) z = contrary z x
-waking {t} {s} {i} (SleeperAfter.ready m b k l g e x y) z = subst (WokenBy t s i (rowOf t i)) (sym (ap (λ (r : Thread). r .message) e)) b
+waking {t} {s} {i} (SleeperAfter.ready m b l g e x y) z = subst (WokenBy t s i (rowOf t i)) (sym (ap (λ (r : Thread). r .message) e)) b
 waking {t} {s} {i} (SleeperAfter.done m u d f b g e x y) z = subst (WokenBy t s i (rowOf t i)) (sym (ap (λ (r : Thread). r .message) e)) b
 waking {t} {s} {i} (SleeperAfter.again g b e x y) z = subst (WokenBy t s i (rowOf t i)) (sym (ap (λ (r : Thread). r .message) e)) b
 
 -- and what goes on of one that is not
 sleeping : {t : Tables} {s : Step} {i : ℕ} {b : Thread} {w f : Bool} → SleeperAfter t s i b w f → w ≡ false → b ≡ sleptOn s i (rowOf t i)
 sleeping (SleeperAfter.on e x y) z = e
-sleeping (SleeperAfter.ready m b k l g e x y) z = contrary x z
+sleeping (SleeperAfter.ready m b l g e x y) z = contrary x z
 sleeping (SleeperAfter.done m u d f b g e x y) z = contrary x z
 sleeping (SleeperAfter.again g b e x y) z = contrary x z
 
@@ -197,6 +199,13 @@ pub record EachThread (m : Moment) : Type 0 where
       → SleeperAfter (m .before) (m .step) i (rowOf (m .after) i) (inMask i (m .result .woken)) (inMask i (m .result .finished))
   pub ready : (i : ℕ) → i < m .before .sizes .threads → rowOf (m .before) i .state ≡ 0
       → WakerAfter (m .before) (m .step) i (rowOf (m .after) i) (inMask i (m .result .woken))
+  pub woken-before : (i : ℕ) → i < m .before .sizes .threads → rowOf (m .before) i .state ≡ 0 → rowOf (m .before) i .call .kind ≢ 0
+      → ReadyAfter (m .before) (m .step) i (rowOf (m .after) i) (inMask i (m .result .woken)) (inMask i (m .result .finished))
+  pub flags : (i : ℕ) → i < m .before .sizes .threads
+      → FlagsAfter (m .before) (m .step) i (rowOf (m .after) i) (inMask i (m .result .finished))
+  -- an event wait finishes only in a step after which its thread runs
+  pub goes-on : (i : ℕ) → i < m .before .sizes .threads → awaitsFlags (m .before) (m .step) i ≡ true → inMask i (m .result .finished) ≡ true
+      → m .result .running ≡ i
 
 -- of every accepted moment of a run
 pub data Throughout (P : Moment → Type 0) : List Moment → Type 0 where
@@ -208,5 +217,11 @@ unfolding moments
 each-step [] hs t c g = Throughout.none
 each-step (s ∷ ss) (HostSteps.more h hs) t c g =
     Throughout.more
-    (λ e. record { slept = sleeper-after t c s (host t c g s h) e; ready = waker-after t c s (host t c g s h) e })
+    (λ e. record {
+      slept = sleeper-after t c s (host t c g s h) e;
+      ready = waker-after t c s (host t c g s h) e;
+      woken-before = woken-after t c s (host t c g s h) e;
+      flags = flags-of t c s (host t c g s h) e;
+      goes-on = goes-running t c s (host t c g s h) e;
+    })
     (each-step ss hs (stepped t c s .tables) (stepped t c s .clock) (going-on t c g s h))

@@ -1,4 +1,4 @@
--- One accepted step, of any thread: what it makes of one that slept before it, and of one that was ready.
+-- One accepted step, of any thread: what it makes of one that slept before it, of one that was ready, and of the flags of each.
 use Prim.Native.Nat.{ℕ, _-_, _/_, _%_, _^_, _≤_, _<_}
 use native.Mathlib.Omega.{arith}
 use mathlib.Core.Path.{_≡_, refl, sym, _∙_, subst}
@@ -23,13 +23,18 @@ use Rattle.promises.specs.Paper.World.{World, found, First}
 use Rattle.promises.specs.Paper.Host.{Host}
 use Rattle.promises.specs.Paper.Rows.{topIn, Act}
 use Rattle.promises.specs.Paper.Settling.{Continued}
-use Rattle.promises.specs.Paper.Together.{TicksFit, ThreadFits}
+use Rattle.promises.specs.Paper.Together.{WaitFits, TicksFit, ThreadFits}
 use Rattle.promises.specs.Paper.Refusals.{Broken}
-use Rattle.promises.specs.Paper.Waking.{rowOf, inMask, SleeperAfter, WakerAfter}
+use Rattle.promises.specs.Paper.Waking.{rowOf, inMask, SleeperAfter, ReadyAfter, WakerAfter}
+use Rattle.promises.specs.Paper.Flags.{FlagsAfter}
 use Rattle.promises.specs.Kept.Whole.{Whole}
 use Rattle.promises.specs.Runs.Answers.{step-done}
 use Rattle.promises.specs.Runs.Keeping.{KeepsOn, Keeps, both-on, act-keeps, continue-keeps}
-use Rattle.promises.specs.Runs.Sleepers.{Kept, kept-keeps, Life, life-keeps, Calm, calm-keeps, calm-after}
+use Rattle.promises.specs.Runs.Tried.{Kept, kept-keeps}
+use Rattle.promises.specs.Runs.Sleepers.{Life, life-keeps}
+use Rattle.promises.specs.Runs.Wakers.{Calmly, calm-keeps, calm-after}
+use Rattle.promises.specs.Runs.Ready.{After, ready-keeps}
+use Rattle.promises.specs.Runs.Flags.{ready-flags, sleeper-flags, Flags, flags-keep, caller-flags}
 use Rattle.promises.specs.Meant.Together.{rules-together}
 use Rattle.promises.specs.Meant.Pools.{promise-stocked}
 use Rattle.promises.specs.Meant.Refusals.{first-broken}
@@ -39,7 +44,7 @@ use Rattle.promises.specs.Meant.Rows.{act-is}
 use Rattle.promises.specs.Meant.Step.{settled-keeps, result-is, h, hangs, begun-whole, acted-whole, settled-whole, own}
 
 -- a bit of a mask is its test
-bit-in : (mask : ℕ) (i : ℕ) (b : Bool) → mask / 2 ^ i % 2 ≡ cond b 1 0 → inMask i mask ≡ b
+pub bit-in : (mask : ℕ) (i : ℕ) (b : Bool) → mask / 2 ^ i % 2 ≡ cond b 1 0 → inMask i mask ≡ b
 bit-in mask i true e = rw e
 bit-in mask i false e = rw e
 
@@ -66,7 +71,7 @@ module _ (t : Tables) (c : Clock) (s : Step) (host : Host t c s) (e : stepped t 
   unbroken = first-broken t c s (host .tables .threads) (host .step .object) .none accepted
 
   -- whom a reference holds is suspended on it
-  held : (i : ℕ) → s .kind ≡ 10 → found t .holder (s .object) ≡ i → i ≢ 255
+  pub held : (i : ℕ) → s .kind ≡ 10 → found t .holder (s .object) ≡ i → i ≢ 255
       → (found t .thread i .state ≡ 2) × (found t .thread i .place ≡ s .object)
   held i k x d =
       let g = rules-together t c (hangs t c s host accepted .together) in
@@ -89,7 +94,7 @@ module _ (t : Tables) (c : Clock) (s : Step) (host : Host t c s) (e : stepped t 
   act = act-is t c s (begun-whole t c s host accepted) (host .step .operand) accepted
 
   kept-act : Kept t s x₀
-  kept-act = act-keeps t s (Kept t s) (kept-keeps t s) (c .time) held refl act
+  kept-act = act-keeps t s (Kept t s) (kept-keeps t s .act) (c .time) held refl act
 
   -- what each continued call keeps, settling keeps
   settle-keeps : (P : World → Type 0) → KeepsOn t s P → P x₀ → P (worldOf (h t c s host))
@@ -104,11 +109,11 @@ module _ (t : Tables) (c : Clock) (s : Step) (host : Host t c s) (e : stepped t 
           → Continued (worldOf p) i x → Q (worldOf p) → Q x
       continues p w i f call x h q =
           let within : i < t .sizes .threads = rw (q .0 .sizes) at (f .thread) in
-          continue-keeps t s Q (both-on t s (Kept t s) P (kept-keeps t s .moves) k) (worldOf p) i within (f .is-ready) call (timed p w i f call)
+          continue-keeps t s Q (both-on t s (Kept t s) P (kept-keeps t s .on) k) (worldOf p) i within (f .is-ready) call (timed p w i f call)
           (q .0 .tried i within) (top-object p w i f call) h q
 
   step-keeps : (P : World → Type 0) → Keeps t s P → P (worldOf (h t c s host))
-  step-keeps P k = settle-keeps P (k .moves) (act-keeps t s P k (c .time) held refl act)
+  step-keeps P k = settle-keeps P (k .on) (act-keeps t s P (k .act) (c .time) held refl act)
 
   -- the sizes stay
   pub sizes-after : stepped t c s .tables .sizes ≡ t .sizes
@@ -134,11 +139,14 @@ module _ (t : Tables) (c : Clock) (s : Step) (host : Host t c s) (e : stepped t 
       stays : KeepsOn t s (λ w. w .woken j ≡ true)
       stays =
           record {
-            counter = λ w p c q. q;
-            box = λ w b x q. q;
-            pool = λ w p x q. q;
-            wakes = λ w i m n d q. same-or j i (λ z. rw (z, eq-eqb i i refl)) (λ z. rw (ne-eqb j i z) q);
+            moves = record {
+              counter = λ w p c q. q;
+              box = λ w b x q. q;
+              pool = λ w p x q. q;
+              wakes = λ w i m n d q. same-or j i (λ z. rw (z, eq-eqb i i refl)) (λ z. rw (ne-eqb j i z) q);
+            };
             ends-on = λ w r m d l z n g q. q;
+            takes-on = λ w r l z g m q. q;
             sleeps-on = λ w r p l z b m g q. q;
           }
 
@@ -161,27 +169,86 @@ module _ (t : Tables) (c : Clock) (s : Step) (host : Host t c s) (e : stepped t 
     apart : rowOf t i .state ≢ 0 → i ≢ s .caller
     apart n z = unbroken 3 (Broken.caller (rw z at someone) (λ f. n (rw z (f .is-ready))))
 
+    -- what holds of it where settling has ended, holds of its record in the tables after the step, and of its bits in the result
+    told : (P : Thread → Bool → Bool → Type 0) → let x = worldOf (h t c s host) in P (x .thread i) (x .woken i) (x .finished i)
+        → P (rowOf u i) (inMask i (stepped t c s .outcome .woken)) (inMask i (stepped t c s .outcome .finished))
+    unfolding doneWith outcomeOf
+    told P q =
+        let x : World = worldOf (h t c s host) in
+        let r = result-is (h t c s host) (settled-whole t c s host accepted .sizes .threads .1) (s .caller) in
+        subst (λ (q : Stepped). P (rowOf (q .tables) i) (inMask i (q .outcome .woken)) (inMask i (q .outcome .finished)))
+        (sym (step-done t c s e)) (rw (bit-in _ i (x .woken i) (r .woken i), bit-in _ i (x .finished i) (r .finished i)) q)
+
     -- a thread that slept
     pub sleeper-after : rowOf t i .state ≢ 0
         → SleeperAfter t s i (rowOf u i) (inMask i (stepped t c s .outcome .woken)) (inMask i (stepped t c s .outcome .finished))
-    unfolding doneWith outcomeOf
     sleeper-after n =
-        let x : World = worldOf (h t c s host) in
-        let r = result-is (h t c s host) (settled-whole t c s host accepted .sizes .threads .1) (s .caller) in
-        let life = step-keeps (Life t s i someone within n (apart n) fits) (life-keeps t s i someone within n (apart n) fits) in
-        subst (λ (q : Stepped). SleeperAfter t s i (rowOf (q .tables) i) (inMask i (q .outcome .woken)) (inMask i (q .outcome .finished)))
-        (sym (step-done t c s e)) (rw (bit-in _ i (x .woken i) (r .woken i), bit-in _ i (x .finished i) (r .finished i)) life)
+        told (SleeperAfter t s i)
+        (step-keeps (Life t s i someone within n (apart n) fits) (life-keeps t s i someone within n (apart n) fits))
+
+    no-ticks : rowOf t i .state ≡ 0 → rowOf t i .remaining ≡ 0
+    no-ticks z = none (fits .ticks)
+      where
+        none : TicksFit (rowOf t i) → rowOf t i .remaining ≡ 0
+        none (TicksFit.none h r) = r
+        none (TicksFit.some n m l q) = absurd (n z)
 
     -- a thread that was ready
     pub waker-after : rowOf t i .state ≡ 0 → WakerAfter t s i (rowOf u i) (inMask i (stepped t c s .outcome .woken))
-    unfolding doneWith outcomeOf
     waker-after z =
-        let x : World = worldOf (h t c s host) in
-        let r = result-is (h t c s host) (settled-whole t c s host accepted .sizes .threads .1) (s .caller) in
-        let calm = step-keeps (Calm t s i someone z (no-ticks (fits .ticks) z)) (calm-keeps t s i someone z (no-ticks (fits .ticks) z)) in
-        subst (λ (q : Stepped). WakerAfter t s i (rowOf (q .tables) i) (inMask i (q .outcome .woken))) (sym (step-done t c s e))
-        (rw (bit-in _ i (x .woken i) (r .woken i)) (calm-after t s i someone z (no-ticks (fits .ticks) z) x calm))
+        told (λ b w f. WakerAfter t s i b w)
+        (calm-after t s i someone z (no-ticks z)
+        (step-keeps (Calmly t s i someone z (no-ticks z)) (calm-keeps t s i someone z (no-ticks z))))
+
+    -- whoever calls has no call to be continued
+    no-call : s .caller ≡ i → rowOf t i .call .kind ≡ 0
+    no-call z =
+        same-or (rowOf t i .call .kind) 0 (λ x. x)
+        (λ d. absurd (unbroken 3
+        (Broken.caller (rw z someone) (λ f. d (rules-together t c (hangs t c s host accepted .together) .running i (rw z at f))))))
+
+    no-place : rowOf t i .state ≡ 0 → rowOf t i .place ≡ 0
+    no-place z = nowhere (fits .wait)
       where
-        no-ticks : {a : Thread} → TicksFit a → a .state ≡ 0 → a .remaining ≡ 0
-        no-ticks (TicksFit.none h r) z = r
-        no-ticks (TicksFit.some n m l q) z = absurd (n z)
+        nowhere : WaitFits (rowOf t i) → rowOf t i .place ≡ 0
+        nowhere (WaitFits.ready e p) = p
+        nowhere (WaitFits.sleeps e b p) = p
+        nowhere (WaitFits.events e b p) = p
+        nowhere (WaitFits.reference e b p) = absurd (omega (arith, b, z))
+        nowhere (WaitFits.semaphore e b p) = absurd (omega (arith, b, z))
+        nowhere (WaitFits.pool e b p) = absurd (omega (arith, b, z))
+        nowhere (WaitFits.queue e b p) = absurd (omega (arith, b, z))
+        nowhere (WaitFits.writer e b p) = absurd (omega (arith, b, z))
+        nowhere (WaitFits.reader e b p) = absurd (omega (arith, b, z))
+
+    -- a thread that was ready, and is not the caller
+    ready-after : rowOf t i .state ≡ 0 → i ≢ s .caller
+        → ReadyAfter t s i (rowOf u i) (inMask i (stepped t c s .outcome .woken)) (inMask i (stepped t c s .outcome .finished))
+    ready-after z n =
+        told (ReadyAfter t s i)
+        (step-keeps (After t s i someone n z (no-ticks z) (no-place z)) (ready-keeps t s i someone n z (no-ticks z) (no-place z)))
+
+    -- a thread that was woken before, and not continued yet
+    pub woken-after : rowOf t i .state ≡ 0 → rowOf t i .call .kind ≢ 0
+        → ReadyAfter t s i (rowOf u i) (inMask i (stepped t c s .outcome .woken)) (inMask i (stepped t c s .outcome .finished))
+    woken-after z k = ready-after z (λ e. k (no-call (sym e)))
+
+    -- the caller
+    own-flags : i ≡ s .caller → FlagsAfter t s i (rowOf u i) (inMask i (stepped t c s .outcome .finished))
+    own-flags x =
+        let z = same-or (rowOf t i .state) 0 (λ y. y) (λ n. absurd (apart n x)) in
+        let v : World = worldOf (h t c s host) in
+        let me : s .caller ≢ 255 = rw x at someone in
+        let is-ready : rowOf t (s .caller) .state ≡ 0 = rw x at z in
+        let ticks : rowOf t (s .caller) .remaining ≡ 0 = rw x at (no-ticks z) in
+        let call : rowOf t (s .caller) .call .kind ≡ 0 = rw x at (no-call (sym x)) in
+        told (λ b w f. FlagsAfter t s i b f)
+        (subst (λ (j : ℕ). FlagsAfter t s j (v .thread j) (v .finished j)) (sym x)
+        (caller-flags t s me is-ready ticks call (step-keeps (Flags t s me is-ready ticks call) (flags-keep t s me is-ready ticks call))))
+
+    -- and the flags of each
+    pub flags-of : FlagsAfter t s i (rowOf u i) (inMask i (stepped t c s .outcome .finished))
+    flags-of =
+        same-or i (s .caller) own-flags
+        (λ x. same-or (rowOf t i .state) 0 (λ z. ready-flags t s i (λ e. x (sym e)) z (ready-after z x))
+        (λ n. sleeper-flags t s i (λ e. x (sym e)) (sleeper-after n)))

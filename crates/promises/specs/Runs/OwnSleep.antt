@@ -4,7 +4,7 @@ use Prim.Native.Nat.{ℕ, _+_, _-_, _%_, _<_}
 use native.Mathlib.Omega.{arith}
 use mathlib.Core.Path.{_≡_, refl, sym, ap, _∙_, subst}
 use mathlib.Core.Logic.{_≢_}
-use mathlib.Core.Bool.{cond}
+use mathlib.Core.Bool.{Bool, cond}
 use lib.Dec.{eqb}
 use lib.IntN.{ℤ, pos}
 use borrow.Author.Tests.{ne-eqb}
@@ -12,16 +12,15 @@ use Rattle.kernel.specs.declared.clock.Clock.{Clock}
 use Rattle.kernel.specs.declared.time.SystemTime.{SystemTime}
 use Rattle.kernel.specs.declared.records.Call.{Call}
 use Rattle.kernel.specs.declared.records.Thread.{Thread}
-use Rattle.kernel.proofs.Cases.{same-or}
 use Rattle.library.specs.declared.calls.Step.{Step}
 use Rattle.library.specs.declared.tables.Tables.{Tables}
 use Rattle.steps.specs.Stepping.{stepped}
-use Rattle.promises.specs.Paper.World.{World, found, readyWith, madeReady, ended, asleep, fallAsleep, kept}
+use Rattle.promises.specs.Paper.World.{World, found, ended, asleep, fallAsleep, kept}
 use Rattle.promises.specs.Paper.Host.{Host}
 use Rattle.promises.specs.Paper.Rows.{Waits, SemaphoreWait, EventWait, Post, Fetch, Alloc, Act}
 use Rattle.promises.specs.Paper.Waking.{rowOf, spanOf, FellAsleep}
-use Rattle.promises.specs.Runs.Keeping.{put-same, put-other, KeepsOn}
-use Rattle.promises.specs.Runs.Sleepers.{ended-other, ended-own}
+use Rattle.promises.specs.Runs.Keeping.{put-same, KeepsOn}
+use Rattle.promises.specs.Runs.OneRow.{ended-own, Stands, row-on}
 use Rattle.promises.specs.Runs.OneStep.{act, few, rows-after}
 
 module _ (t : Tables) (now : SystemTime) (s : Step) (i : ℕ) (someone : i ≢ 255) where
@@ -31,8 +30,11 @@ module _ (t : Tables) (now : SystemTime) (s : Step) (i : ℕ) (someone : i ≢ 2
     pub timeout : b .call .timeout ≡ spanOf now s
     pub ticks : b .state ≢ 0 → b .remaining ≡ cond (eqb (spanOf now s) 4294967295) 0 (spanOf now s)
 
+  abbrev P : Thread → Bool → Bool → Type 0
+  P b w f = b .call .kind ≢ 0 → OwnCall b
+
   abbrev pub Owned : World → Type 0
-  Owned w = w .thread i .call .kind ≢ 0 → OwnCall (w .thread i)
+  Owned = Stands t s i someone P
 
   -- its call has ended
   owned-end : (w : World) (m : ℤ) (d : ℕ) → Owned (ended w i m d)
@@ -46,33 +48,13 @@ module _ (t : Tables) (now : SystemTime) (s : Step) (i : ℕ) (someone : i ≢ 2
 
   owned-keeps : KeepsOn t s Owned
   owned-keeps =
-      record {
-        counter = λ w p c o. o;
-        box = λ w b x o. o;
-        pool = λ w q x o. o;
-        wakes = λ w j m n c o.
-            same-or i j
-            (λ e. subst (λ (k : ℕ). Owned (madeReady w k m)) e (woken w m o))
-            (λ d. rw (put-other (w .thread) j i (readyWith (w .thread j) m) d) o);
-        ends-on = λ w r m d l z n e o.
-            same-or i r (λ e. subst (λ (k : ℕ). Owned (ended w k m d)) e (owned-end w m d)) (λ x. rw (ended-other w r m d i x) o);
-        sleeps-on = λ w r q l z b m e o.
-            same-or i r
-            (λ x. subst (λ (k : ℕ). Owned (fallAsleep w k 3 q (w .thread k .call))) x (again w q o))
-            (λ x. rw (put-other (w .thread) r i (asleep (w .thread r) 3 q (w .thread r .call)) x) o);
-      }
-    where
-      woken : (w : World) (m : ℤ) → Owned w → Owned (madeReady w i m)
-      woken w m o n =
-          let e = put-same (w .thread) i (readyWith (w .thread i) m) in
-          let b = o (λ z. n (ap (λ (u : Thread). u .call .kind) e ∙ z)) in
-          rw e (record { kind = b .kind; timeout = b .timeout; ticks = λ x. absurd (x refl) })
-
-      again : (w : World) (q : ℕ) → Owned w → Owned (fallAsleep w i 3 q (w .thread i .call))
-      again w q o n =
-          let e = put-same (w .thread) i (asleep (w .thread i) 3 q (w .thread i .call)) in
-          let b = o (λ z. n (ap (λ (u : Thread). u .call .kind) e ∙ z)) in
-          rw e (record { kind = b .kind; timeout = b .timeout; ticks = λ x. rw (b .timeout) })
+      row-on t s i someone P
+      (record {
+        wakes = λ m n c o k. let b = o k in record { kind = b .kind; timeout = b .timeout; ticks = λ x. absurd (x refl) };
+        ends-on = λ m d z n e o k. absurd (k refl);
+        takes-on = λ z k m o n. absurd (n refl);
+        sleeps-on = λ q z g m e o k. let b = o k in record { kind = b .kind; timeout = b .timeout; ticks = λ x. rw (b .timeout) };
+      })
 
   -- ---- the rows
 

@@ -228,7 +228,7 @@ module _ (t : Tables) (c : Clock) (s : Step) (host : Host t c s) (e : stepped t 
               let st : rowOf t j .state ≡ 3 = sym (ap (λ (r : Thread). r .state) x) ∙ q .0 in
               let pl : rowOf t j .place ≡ p = sym (ap (λ (r : Thread). r .place) x) ∙ q .1 in
               rw (st, pl, eq-eqb p p refl)
-          slept q d (SleeperAfter.ready m b k r g x w f) = absurd (three (sym (ap (λ (r : Thread). r .state) x) ∙ q .0))
+          slept q d (SleeperAfter.ready m b r g x w f) = absurd (three (sym (ap (λ (r : Thread). r .state) x) ∙ q .0))
           slept q d (SleeperAfter.done m y v f b g x w z) = absurd (three (sym (ap (λ (r : Thread). r .state) x) ∙ q .0))
           slept q d (SleeperAfter.again g b x w f) =
               let pl : rowOf t j .place ≡ p = sym (ap (λ (r : Thread). r .place) x) ∙ q .1 in
@@ -246,7 +246,7 @@ module _ (t : Tables) (c : Clock) (s : Step) (host : Host t c s) (e : stepped t 
             by : {j : ℕ} → (rowOf t j .state ≡ 3) × (rowOf t j .place ≡ p) → j < n → {a b : Bool} → SleeperAfter t s j (rowOf u j) a b
                 → a ≡ true → isQueued (found u) p j ≡ false
             by q l (SleeperAfter.on x v f) w = contrary w v
-            by q l (SleeperAfter.ready m b k r g x v f) w = rw (ap (λ (r : Thread). r .state) x)
+            by q l (SleeperAfter.ready m b r g x v f) w = rw (ap (λ (r : Thread). r .state) x)
             by q l (SleeperAfter.done m y d f b g x v z) w = rw (ap (λ (r : Thread). r .state) x)
             by {j} q l (SleeperAfter.again g b x v f) w =
                 absurd (mail-far (fits t c s host e j l .wait) (λ z. absurd (omega (arith, z, q .0))) g (omega (arith, near, q .1)))
@@ -266,7 +266,7 @@ module _ (t : Tables) (c : Clock) (s : Step) (host : Host t c s) (e : stepped t 
           where
             by : {a b : Bool} → SleeperAfter t s i (rowOf u i) a b → a ≡ false → (rowOf u i .state ≡ 3) × (rowOf u i .place ≡ p)
             by (SleeperAfter.on x v f) w = (ap (λ (r : Thread). r .state) x ∙ queued, ap (λ (r : Thread). r .place) x ∙ place)
-            by (SleeperAfter.ready m b k r g x v f) w = contrary v w
+            by (SleeperAfter.ready m b r g x v f) w = contrary v w
             by (SleeperAfter.done m y d f b g x v z) w = contrary v w
             by (SleeperAfter.again g b x v f) w = contrary v w
 

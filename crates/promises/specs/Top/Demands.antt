@@ -1,12 +1,13 @@
--- THE THREE DEMANDS, AND THE WORDS OF DOCUMENT 02. The first two are of any tables, clock and step of a host; the third of any run, refused steps included, from any
--- tables that hang together, and so from fresh ones. Their words are those of room Paper: what they cite of the code is `stepped` alone,
--- which each function is proved to compute.
+-- THE THREE DEMANDS, AND WHAT DOCUMENT 02 ADDS. The first two are of any tables, clock and step of a host; the third of any run, refused
+-- steps included, from any tables that hang together, and so from fresh ones. Their words are those of room Paper: what they cite of the
+-- code is `stepped` alone, which each function is proved to compute.
 use Prim.Native.Nat.{ℕ, _+_, _≤_, _<_}
 use native.Mathlib.Omega.{arith}
 use mathlib.Core.Path.{_≡_, refl, sym, _∙_, subst}
-use mathlib.Core.Logic.{_≢_, _↔_}
-use mathlib.Core.Bool.{false}
+use mathlib.Core.Logic.{_≢_, _⊎_, _↔_}
+use mathlib.Core.Bool.{true, false}
 use mathlib.Core.List.{List, [], _∷_}
+use borrow.Author.Tests.{eq-eqb}
 use Rattle.kernel.specs.declared.clock.Clock.{Clock}
 use Rattle.kernel.specs.declared.records.Thread.{Thread}
 use Rattle.kernel.specs.declared.units.Rate.{Rate}
@@ -26,9 +27,10 @@ use Rattle.promises.specs.Paper.Together.{TicksFit, WordsAgree, HangToge
 use Rattle.promises.specs.Paper.Host.{Host, HostSteps}
 use Rattle.promises.specs.Paper.Refusals.{Broken, RefusedWith}
 use Rattle.promises.specs.Paper.Step.{StepOf}
-use Rattle.promises.specs.Paper.Waking.{rowOf}
+use Rattle.promises.specs.Paper.Waking.{rowOf, inMask}
 use Rattle.promises.specs.Paper.Boundary.{ScreenOf}
 use Rattle.promises.specs.Paper.Run.{ticksIn, signalsIn, joinsIn, higher, WokenIn}
+use Rattle.promises.specs.Paper.Flags.{answeredIn, Account}
 use Rattle.promises.specs.Runs.Run.{ran}
 use Rattle.promises.specs.Kept.Steps.{made-hang}
 use Rattle.promises.specs.Runs.Moments.{
@@ -43,6 +45,7 @@ use Rattle.promises.specs.Runs.Moments.{
   Throughout,
   each-step,
 }
+use Rattle.promises.specs.Runs.Accounts.{flag-account, signalled-kept}
 use Rattle.promises.specs.Meant.Together.{rules-together}
 use Rattle.promises.specs.Meant.Screen.{screen-is}
 use Rattle.promises.specs.Meant.Step.{sized-host, step-is, demand-two}
@@ -147,7 +150,7 @@ module _ (t : Tables) (c : Clock) (g : Going t c) (ss : List Step) (hs : HostSte
   sleep-ends i l n m r =
       sleeps-end ss hs t c g i l n (λ z. absurd (omega (arith, m, z))) (omega (arith, r, ticks-left (g .together .threads i l .ticks) m))
 
-  -- b. what each accepted step makes of each thread that slept before it, and of each that did not
+  -- b. what each accepted step makes of each thread that slept before it, of each that did not, and of the flags of either
   pub one-waking : Throughout EachThread (moments t c ss)
   one-waking = each-step ss hs t c g
 
@@ -205,6 +208,25 @@ module _ (t : Tables) (c : Clock) (g : Going t c) (ss : List Step) (hs : HostSte
   pub screen-right : ScreenOf after (readyCount after) (readyFirst after) (waitersAt after)
   screen-right = screen-is after (then .together .sizes .threads .1) words-right
 
+-- ---- DOCUMENT 02, 2/13: EVENT FLAGS, from any tables that hang together, over any steps, refused ones included. What each accepted step
+-- makes of the flags of each thread is in `one-waking`
+
+module _ (t : Tables) (c : Clock) (g : Going t c) where
+  -- flag n is pending for thread i exactly if it has come, in these steps or before them, and was not answered since; and only what has
+  -- come is answered, once
+  pub flags-accounted : (ss : List Step) → HostSteps ss → (i n : ℕ) → i < t .sizes .threads
+      → Account i n (inMask n (rowOf (ran t c ss .tables) i .pending)) (inMask n (rowOf t i .pending)) (moments t c ss)
+  flags-accounted ss hs i n l = flag-account ss hs t c g i n l
+
+  -- "no flag signalled is lost: each is pending or was answered", in that step or later
+  pub no-flag-lost : (s : Step) (ss : List Step) → HostSteps (s ∷ ss) → (i n : ℕ) → i < t .sizes .threads
+      → stepped t c s .outcome .code ≡ 0 → s .kind ≡ 13 → s .object ≡ i → inMask n (s .a) ≡ true
+      → (inMask n (rowOf (ran t c (s ∷ ss) .tables) i .pending) ≡ true) ⊎ (answeredIn i n (moments t c (s ∷ ss)) ≡ true)
+  unfolding moments
+  no-flag-lost s ss hs i n l e k o f =
+      signalled-kept (flag-account (s ∷ ss) hs t c g i n l)
+      (rw (eq-eqb (stepped t c s .outcome .code) 0 e, eq-eqb (s .kind) 13 k, eq-eqb (s .object) i o) f)
+
 -- ---- DEMAND 3, from fresh tables of the sizes y, after any steps xs, over any steps ss
 module _ (y : Sizes) (r : Rate) (legal : made y r .code ≡ 0) (xs : List Step) (hx : HostSteps xs) where
   abbrev pub t₁ : Tables
@@ -232,6 +254,11 @@ module _ (y : Sizes) (r : Rate) (legal : made y r .code ≡ 0) (xs : List Step) 
     -- "each sleep ends at most once, at its first waking, with that waking's message"
     pub demand-3b : Throughout EachThread (moments t₁ c₁ ss)
     demand-3b = one-waking t₁ c₁ going ss hs
+
+    -- of document 02: no flag that was signalled to it is lost
+    pub flags-always : (n : ℕ)
+        → Account i n (inMask n (rowOf (ran t₁ c₁ ss .tables) i .pending)) (inMask n (rowOf t₁ i .pending)) (moments t₁ c₁ ss)
+    flags-always n = flags-accounted t₁ c₁ going ss hs i n within
 
     -- "a semaphore waiter with w higher ones is released by the (w+1)-th later signal"
     pub demand-3c : (p : ℕ) → p < t₁ .sizes .semaphores → rowOf t₁ i .state ≡ 3 → rowOf t₁ i .place ≡ p

@@ -1,21 +1,24 @@
 -- What the statements of the demands rule out, each in a line or two: answers and wakings that no step gives.
 use Prim.Native.Nat.{ℕ, _+_, _/_, _%_, _^_, _≤_, _<_}
 use native.Mathlib.Omega.{arith}
-use mathlib.Core.Path.{_≡_, refl, sym, ap, _∙_}
+use mathlib.Core.Path.{_≡_, refl, sym, ap, _∙_, subst}
 use mathlib.Core.Logic.{_≢_, inl, inr}
-use mathlib.Core.Bool.{Bool, true, false, cond, _&&_, true≢false}
+use mathlib.Core.Bool.{Bool, true, false, cond, not, _&&_, true≢false}
 use lib.Dec.{eqb, ltb}
 use lib.ListN.{getD}
 use lib.IntN.{ℤ, pos, negsuc}
 use borrow.Author.Tests.{eqb-true, le-ltb}
+use Rattle.kernel.specs.declared.records.Answer.{Answer}
 use Rattle.kernel.specs.declared.records.Thread.{Thread}
 use Rattle.kernel.specs.declared.records.Words.{Words}
 use Rattle.kernel.proofs.Cases.{split}
+use Rattle.kernel.proofs.WordsLaws.{and-test, less-test}
 use Rattle.library.specs.declared.calls.Step.{Step}
 use Rattle.library.specs.declared.tables.Tables.{Tables}
 use Rattle.promises.specs.Paper.World.{World}
 use Rattle.promises.specs.Paper.Together.{InUse, WordOf, WordsAgree}
-use Rattle.promises.specs.Paper.Waking.{rowOf, AnswerOf, SleeperAfter, WakerAfter}
+use Rattle.promises.specs.Paper.Waking.{rowOf, inMask, heard, AnswerOf, SleeperAfter, ReadyAfter, WakerAfter}
+use Rattle.promises.specs.Paper.Flags.{awaitsFlags, FlagsAfter}
 use Rattle.promises.specs.Paper.Run.{TurnOf}
 
 -- how far below 0 a message is
@@ -35,6 +38,29 @@ late-flags (AnswerOf.object k z o l) = absurd (below z)
 late-flags (AnswerOf.in-reset k z) = absurd (below z)
 late-flags (AnswerOf.posted k z) = absurd (below z)
 late-flags (AnswerOf.fetched k z y) = absurd (below z)
+
+-- a call that timed out in one step and is continued in a later one answers -1 and no datum, whatever came in between
+pub late-answer : {t : Tables} {s : Step} {i : ℕ} {b : Thread} {w : Bool} → ReadyAfter t s i b w true → rowOf t i .message ≡ negsuc 0
+    → (b .answer .message ≡ negsuc 0) × (b .answer .datum ≡ 0) × (b .pending ≡ heard s i (rowOf t i))
+late-answer (ReadyAfter.on e p q) m = absurd (true≢false q)
+late-answer {t} {s} {i} {b} (ReadyAfter.done x d f h e p q) m =
+    let g = late-flags (subst (λ (y : ℤ). AnswerOf (rowOf t i) (heard s i (rowOf t i)) y x d f) m h) in
+    (ap (λ (u : Thread). u .answer .message) e ∙ g .0, ap (λ (u : Thread). u .answer .datum) e ∙ g .1, ap (λ (u : Thread). u .pending) e ∙ g .2)
+late-answer (ReadyAfter.tried g z p c) m = absurd (below (sym m ∙ z))
+
+-- a flag that was answered is not left pending
+pub none-left : {t : Tables} {s : Step} {i : ℕ} {b : Thread} {f : Bool} → FlagsAfter t s i b f → (awaitsFlags t s i && f) ≡ true
+    → b .answer .message ≡ pos 0 → (n : ℕ) → inMask n (b .answer .datum) ≡ true → inMask n (b .pending) ≡ false
+none-left {t} {s} {i} (FlagsAfter.taken mask g q r p) e z n x =
+    let f = heard s i (rowOf t i) in
+    ap (inMask n) p ∙ less-test f mask n ∙ rest (inMask n f) (inMask n mask) (sym (and-test f mask n) ∙ sym (ap (λ (a : Answer). inMask n (a .datum)) r) ∙ x)
+  where
+    rest : (x y : Bool) → (x && y) ≡ true → (x && not y) ≡ false
+    rest true true e = refl
+    rest true false e = absurd (true≢false (sym e))
+    rest false y e = refl
+none-left (FlagsAfter.late mask m g d q r p) e z n x = absurd (d (sym (ap (λ (a : Answer). a .message) r) ∙ z))
+none-left (FlagsAfter.stays h p) e z n x = absurd (true≢false (sym e ∙ h))
 
 -- an alloc that was woken with 0 answers 0
 pub promise-kept : {a : Thread} {f e d : ℕ} {x : ℤ} → a .call .kind ≡ 20 → AnswerOf a f (pos 0) x d e → x ≡ pos 0
@@ -69,7 +95,7 @@ no-fake-waking c l k (WakerAfter.tried-again (inr x) m h) = absurd (omega (arith
 -- who sleeps and is not in the woken mask finishes nothing
 pub unwoken-unfinished : {t : Tables} {s : Step} {i : ℕ} {b : Thread} {w f : Bool} → SleeperAfter t s i b w f → w ≡ false → f ≡ false
 unwoken-unfinished (SleeperAfter.on e p q) z = q
-unwoken-unfinished (SleeperAfter.ready m b k l g e p q) z = absurd (true≢false (sym p ∙ z))
+unwoken-unfinished (SleeperAfter.ready m b l g e p q) z = absurd (true≢false (sym p ∙ z))
 unwoken-unfinished (SleeperAfter.done m x d f b g e p q) z = absurd (true≢false (sym p ∙ z))
 unwoken-unfinished (SleeperAfter.again g b e p q) z = q
 

@@ -3,6 +3,9 @@ use Prim.Native.Nat.{ℕ, _<_}
 use native.Mathlib.Omega.{arith}
 use mathlib.Core.Path.{_≡_, refl}
 use mathlib.Core.List.{List, [], _∷_, _++_}
+use lib.IntN.{pos, negsuc}
+use Rattle.kernel.specs.declared.records.Answer.{Answer}
+use Rattle.kernel.specs.declared.records.Thread.{Thread}
 use Rattle.kernel.specs.declared.units.Rate.the-variants.{Standard}
 use Rattle.kernel.specs.Walk.{firstFrom, allFrom, countOf}
 use Rattle.kernel.specs.Words.{wordOf, onesOf, firstOf}
@@ -10,6 +13,8 @@ use Rattle.kernel.specs.Moves.{takenOff, putOn, woken, slept, finished, blocked
 use Rattle.kernel.specs.Waiters.{firstReady, firstWaiter}
 use Rattle.kernel.specs.Queue.{enqueued, releasedFirst, releasedAll}
 use Rattle.kernel.specs.Semaphore.{taken, waited, signalled}
+use Rattle.kernel.specs.Delay.{sleptFor}
+use Rattle.kernel.specs.Event.{tookFlags, eventSignalled, eventWaited}
 use Rattle.kernel.specs.Ticking.{ticked}
 use Rattle.library.specs.declared.calls.Step.{Step}
 use Rattle.library.specs.declared.sizes.Sizes.{Sizes}
@@ -30,6 +35,7 @@ use Rattle.steps.specs.Refusal.{refusalOf}
 use Rattle.steps.specs.Stepping.{maskOf, outcomeOf, doneWith, refusedWith, stepped}
 use Rattle.host.specs.Screen.{readyCount, readyFirst, waitersAt}
 use Rattle.promises.specs.Paper.Host.{HostStep, HostSteps}
+use Rattle.promises.specs.Paper.Waking.{rowOf}
 use Rattle.promises.specs.Paper.Run.{WokenIn}
 use Rattle.promises.specs.Runs.Run.{ran}
 use Rattle.promises.specs.Runs.Moments.{moments, WakingOf, TurnAt, EachThread, Throughout}
@@ -132,3 +138,33 @@ pub words-shown : wordsAfter [] ∷ wordsAfter (alone (waits 0 5)) ∷ wordsAfte
     ≡ (3 ∷ 0 ∷ 2 ∷ 0 ∷ []) ∷ (2 ∷ 1 ∷ 1 ∷ 1 ∷ []) ∷ (0 ∷ 3 ∷ 0 ∷ 255 ∷ []) ∷ (1 ∷ 2 ∷ 1 ∷ 0 ∷ []) ∷ []
 unfolding firstFrom allFrom countOf wordOf firstReady firstWaiter takenOff putOn woken slept finished blocked enqueued releasedFirst releasedAll taken waited signalled ticked sizesFit made waitBegun effected actedOnKernel acted continued settled callFits waitFits ticksFit flagsFit rowFits rowsFit queuedCount countersFit readyWord waitingWord readyFits waitingFits wordsFit holderFits referencesFit positionsFit mailboxesFit promisedCount occurrences entriesFit objectsFit poolFits poolsFit runningFree hangsTogether refusalOf maskOf outcomeOf doneWith refusedWith stepped ran onesOf firstOf
 words-shown = refl
+
+-- ---- the flags of document 02, in runs. Thread 1 is slow: it awaits flags 1 or 2, and thread 0 sleeps for one tick
+
+abbrev slow : ℕ → List Step
+slow timeout = by 0 11 0 1 ∷ by 1 14 3 timeout ∷ tick ∷ []
+
+-- thread 0 signals flags to thread 1
+abbrev signals : ℕ → Step
+signals a = record { kind = 13; caller = 0; object = 1; a = a; timeout = 0 }
+
+-- thread 0 sleeps again, and thread 1 goes on
+abbrev goesOn : List Step
+goesOn = by 0 11 0 1 ∷ []
+
+-- thread 1 then: its state, the kind of its unfinished call, its pending flags, and its last answer
+abbrev slowAfter : List Step → (List ℕ) × Answer
+slowAfter ss =
+    let u : Thread = rowOf (ran (made two Standard .tables) (made two Standard .clock) ss .tables) 1 in
+    (u .state ∷ u .call .kind ∷ u .pending ∷ [], u .answer)
+
+-- "a slow thread awaiting flags 1 or 2 was signalled 1, then 2 before it ran, and saw both"; flag 4 is not its
+pub both-flags-seen : slowAfter (slow 9 ++ signals 1 ∷ signals 6 ∷ []) ∷ slowAfter (slow 9 ++ signals 1 ∷ signals 6 ∷ goesOn) ∷ []
+    ≡ (0 ∷ 14 ∷ 7 ∷ [], record { message = pos 0; datum = 0 }) ∷ (0 ∷ 0 ∷ 4 ∷ [], record { message = pos 0; datum = 3 }) ∷ []
+unfolding firstFrom allFrom countOf wordOf firstReady firstWaiter takenOff putOn woken slept finished blocked enqueued releasedFirst releasedAll taken waited signalled sleptFor tookFlags eventSignalled eventWaited ticked sizesFit made waitBegun effected actedOnKernel acted continued settled callFits waitFits ticksFit flagsFit rowFits rowsFit queuedCount countersFit readyWord waitingWord readyFits waitingFits wordsFit holderFits referencesFit positionsFit mailboxesFit promisedCount occurrences entriesFit objectsFit poolFits poolsFit runningFree hangsTogether refusalOf maskOf outcomeOf doneWith refusedWith stepped ran
+both-flags-seen = refl
+
+-- "A wait that timed out still answers -1 with 0, and flags that came afterwards stay pending"
+pub late-flag-stays : slowAfter (slow 1 ++ signals 1 ∷ goesOn) ≡ (0 ∷ 0 ∷ 1 ∷ [], record { message = negsuc 0; datum = 0 })
+unfolding firstFrom allFrom countOf wordOf firstReady firstWaiter takenOff putOn woken slept finished blocked enqueued releasedFirst releasedAll taken waited signalled sleptFor tookFlags eventSignalled eventWaited ticked sizesFit made waitBegun effected actedOnKernel acted continued settled callFits waitFits ticksFit flagsFit rowFits rowsFit queuedCount countersFit readyWord waitingWord readyFits waitingFits wordsFit holderFits referencesFit positionsFit mailboxesFit promisedCount occurrences entriesFit objectsFit poolFits poolsFit runningFree hangsTogether refusalOf maskOf outcomeOf doneWith refusedWith stepped ran
+late-flag-stays = refl

@@ -1,4 +1,4 @@
--- Both arms are the meaning's, by the test: t is the row with the flags ORed in, f the kernel with that row, w the kernel after the waking.
+-- Both arms are the meaning's, by the test: t is the row with the flags ORed in, f the kernel with that row.
 use Prim.Native.Nat.{ℕ}
 use mathlib.Core.Path.{_≡_, sym, _∙_}
 use mathlib.Core.Bool.{true, false}
@@ -7,14 +7,14 @@ use Rattle.kernel.specs.declared.records.Kernel.{Kernel}
 use Rattle.kernel.specs.Numbers.{ok}
 use Rattle.kernel.specs.Tables.{threadAt, withThread}
 use Rattle.kernel.specs.Moves.{woken}
-use Rattle.kernel.specs.Event.{flagged, isMet, tookFlags, eventSignalled}
+use Rattle.kernel.specs.Event.{flagged, isMet, eventSignalled}
 use Rattle.kernel.proofs.event.signal_events.Statement.{statement}
 use Rattle.kernel.proofs.event.signal_events.Tie as tie
 
 module _ (k : Kernel) (i mask : ℕ) (t : Thread) (f : Kernel) (row : t ≡ flagged (threadAt k i) mask) (stored : f ≡ withThread k i t) where
-  met : (w h : Kernel) → isMet t ≡ true → w ≡ woken f i ok → h ≡ tookFlags w i (t .awaited) → h ≡ eventSignalled k i mask
+  met : (h : Kernel) → isMet t ≡ true → h ≡ woken f i ok → h ≡ eventSignalled k i mask
   unfolding eventSignalled
-  met w h test wakes takes = rw (takes, wakes, stored, row, rw row at test)
+  met h test wakes = rw (wakes, stored, row, rw row at test)
 
   unmet : isMet t ≡ false → f ≡ eventSignalled k i mask
   unfolding eventSignalled
@@ -22,13 +22,10 @@ module _ (k : Kernel) (i mask : ℕ) (t : Thread) (f : Kernel) (row : t ≡ flag
 
 returns : tie.Need-returns
 returns c =
-    let test = c .before .before .before in
+    let test = c .before .before in
     let read = test .before .before in
     let row = rw (read .before .thread-at .ensures) at (read .flag .ensures) in
-    met _ _ _ _ _ row (test .before .set-thread .ensures) _ _
-    (sym (test .is-met .ensures) ∙ c .before .before .if1 .taken)
-    (c .before .wake .ensures)
-    (c .take-flags .ensures)
+    met _ _ _ _ _ row (test .before .set-thread .ensures) _ (sym (test .is-met .ensures) ∙ c .before .if1 .taken) (c .wake .ensures)
 
 returns-2 : tie.Need-returns-2
 returns-2 c =
@@ -40,4 +37,4 @@ returns-2 c =
 pub signal-events-spec : {M : Type 1} → statement M
 signal-events-spec =
     tie.close
-    (tie.spec (λ c κs. tt) (λ c κs. tt) (λ c κs. tt) (λ c κs. tt) (λ c κs. tt) (λ c κs. tt) returns returns-2)
+    (tie.spec (λ c κs. tt) (λ c κs. tt) (λ c κs. tt) (λ c κs. tt) (λ c κs. tt) returns returns-2)

@@ -1,0 +1,190 @@
+-- One thread's record through the moves of a step. The moves of other threads leave it as it is, with its bits in the result; so whoever
+-- shows what each move makes of the record that it is about has a `Keeps`.
+use Prim.Native.Nat.{ℕ, _-_}
+use native.Mathlib.Omega.{arith}
+use mathlib.Core.Path.{_≡_, refl, sym, ap, _∙_, subst}
+use mathlib.Core.Logic.{_≢_, inl, inr}
+use mathlib.Core.Bool.{Bool, true, false}
+use lib.Dec.{eqb}
+use lib.Bits.{bitAnd}
+use lib.IntN.{ℤ, pos}
+use borrow.Author.Tests.{eq-eqb, ne-eqb}
+use Rattle.kernel.specs.declared.records.Call.{Call}
+use Rattle.kernel.specs.declared.records.Thread.{Thread}
+use Rattle.kernel.proofs.Cases.{split, same-or}
+use Rattle.library.specs.declared.calls.Step.{Step}
+use Rattle.library.specs.declared.tables.Tables.{Tables}
+use Rattle.promises.specs.Paper.World.{World, found, threadTo, readyWith, madeReady, callEnded, ended, asleep, fallAsleep}
+use Rattle.promises.specs.Paper.Rows.{Ticks, pendingTo, tookFlags, EventSignal}
+use Rattle.promises.specs.Paper.Waking.{rowOf, IsMailing, CalledOut, OwnWait}
+use Rattle.promises.specs.Runs.Keeping.{put-same, put-other, Ends, SideOf, ownFlags, OwnEnd, Moves, KeepsOn, Keeps}
+
+-- a call that ends touches no record but its own
+module _ (w : World) (j : ℕ) (m : ℤ) (d : ℕ) where
+  pub ended-other : (i : ℕ) → i ≢ j → ended w j m d .thread i ≡ w .thread i
+  ended-other i n = split (eqb j 255) (λ e. rw e) (λ e. rw (e, ne-eqb i j n))
+
+  pub ended-unfinished : (i : ℕ) → i ≢ j → ended w j m d .finished i ≡ w .finished i
+  ended-unfinished i n = split (eqb j 255) (λ e. rw e) (λ e. rw (e, ne-eqb i j n))
+
+  pub ended-own : j ≢ 255 → ended w j m d .thread j ≡ callEnded (w .thread j) m d
+  ended-own n = rw (ne-eqb j 255 n, eq-eqb j j refl)
+
+  pub ended-finished : j ≢ 255 → ended w j m d .finished j ≡ true
+  ended-finished n = rw (ne-eqb j 255 n, eq-eqb j j refl)
+
+-- a record whose pending flags in a mask were taken
+abbrev pub flagsTaken : Thread → ℕ → Thread
+flagsTaken r a = callEnded (pendingTo r (r .pending - bitAnd (r .pending) a)) (pos 0) (bitAnd (r .pending) a)
+
+-- nor do flags that are taken
+module _ (w : World) (j a : ℕ) where
+  abbrev f : ℕ
+  f = w .thread j .pending
+
+  abbrev u : Thread
+  u = pendingTo (w .thread j) (f - bitAnd f a)
+
+  pub took-other : (i : ℕ) → i ≢ j → tookFlags w j a .thread i ≡ w .thread i
+  took-other i n = ended-other (threadTo w j u) j (pos 0) (bitAnd f a) i n ∙ put-other (w .thread) j i u n
+
+  pub took-unfinished : (i : ℕ) → i ≢ j → tookFlags w j a .finished i ≡ w .finished i
+  took-unfinished i n = ended-unfinished (threadTo w j u) j (pos 0) (bitAnd f a) i n
+
+  pub took-own : j ≢ 255 → tookFlags w j a .thread j ≡ flagsTaken (w .thread j) a
+  took-own n =
+      ended-own (threadTo w j u) j (pos 0) (bitAnd f a) n ∙ ap (λ (r : Thread). callEnded r (pos 0) (bitAnd f a)) (put-same (w .thread) j u)
+
+  pub took-finished : j ≢ 255 → tookFlags w j a .finished j ≡ true
+  took-finished n = ended-finished (threadTo w j u) j (pos 0) (bitAnd f a) n
+
+-- a mailbox call is no event wait
+pub mail-other : {n : ℕ} → IsMailing n → (n ≢ 14) × (n ≢ 0)
+mail-other (inl (inl e)) = (λ x. omega arith, λ x. omega arith)
+mail-other (inl (inr e)) = (λ x. omega arith, λ x. omega arith)
+mail-other (inr e) = (λ x. omega arith, λ x. omega arith)
+
+-- P of thread i's record, of whether it was woken, and of whether its call finished
+module _ (t : Tables) (s : Step) (i : ℕ) (someone : i ≢ 255) (P : Thread → Bool → Bool → Type 0) where
+  abbrev pub Stands : World → Type 0
+  Stands w = P (w .thread i) (w .woken i) (w .finished i)
+
+  -- ---- another's moves
+
+  pub same-row : (w x : World) → x .thread i ≡ w .thread i → x .woken i ≡ w .woken i → x .finished i ≡ w .finished i → Stands w → Stands x
+  same-row w x a b c h = rw (a, b, c) h
+
+  module _ (w : World) (j : ℕ) (apart : i ≢ j) where
+    pub row-stays : (u : Thread) → Stands w → Stands (threadTo w j u)
+    row-stays u = same-row w (threadTo w j u) (put-other (w .thread) j i u apart) refl refl
+
+    pub ready-stays : (m : ℤ) → Stands w → Stands (madeReady w j m)
+    ready-stays m =
+        same-row w (madeReady w j m) (put-other (w .thread) j i (readyWith (w .thread j) m) apart) (put-other (w .woken) j i true apart) refl
+
+    ended-stays : (m : ℤ) (d : ℕ) → Stands w → Stands (ended w j m d)
+    ended-stays m d = same-row w (ended w j m d) (ended-other w j m d i apart) refl (ended-unfinished w j m d i apart)
+
+    took-stays : (a : ℕ) → Stands w → Stands (tookFlags w j a)
+    took-stays a = same-row w (tookFlags w j a) (took-other w j a i apart) refl (took-unfinished w j a i apart)
+
+    sleep-stays : (st pl : ℕ) (c : Call) → Stands w → Stands (fallAsleep w j st pl c)
+    sleep-stays st pl c = same-row w (fallAsleep w j st pl c) (put-other (w .thread) j i (asleep (w .thread j) st pl c) apart) refl refl
+
+  -- ---- its own
+
+  -- what each move of a continued call keeps of a record r
+  pub record RowOn : Type 0 where
+    pub wakes : {r : Thread} {w f : Bool} (m : ℤ) → r .state ≢ 0 → CalledOut t s (r .state) (r .place) m → P r w f → P (readyWith r m) true f
+    pub ends-on : {r : Thread} {w f : Bool} (m : ℤ) (d : ℕ) → r .state ≡ 0 → r .call .kind ≢ 0 → Ends r m d → P r w f
+        → P (callEnded r m d) w true
+    pub takes-on : {r : Thread} {w f : Bool} → r .state ≡ 0 → r .call .kind ≡ 14 → r .message ≡ pos 0 → P r w f
+        → P (flagsTaken r (r .call .operand)) w true
+    pub sleeps-on : {r : Thread} {w f : Bool} (q : ℕ) → r .state ≡ 0 → IsMailing (r .call .kind) → r .message ≡ pos 0 → SideOf (r .call) q
+        → P r w f → P (asleep r 3 q (r .call)) w f
+
+  -- and of the step's own act; three of them if it is the caller
+  pub record RowAct : Type 0 where
+    pub begins : s .kind ≢ 1 → s .kind ≢ 13 → Stands (found t)
+    pub ticks : (v : World) → s .kind ≡ 1 → Ticks (found t) (t .sizes .threads) v → Stands v
+    pub events : (v : World) → s .kind ≡ 13 → EventSignal (found t) (s .object) (s .a) v → Stands v
+    pub ends : {r : Thread} {w f : Bool} → s .caller ≡ i → (m : ℤ) (d : ℕ) → OwnEnd t s m d → P r w f → P (callEnded r m d) w true
+    pub takes : {w f : Bool} → s .caller ≡ i → s .kind ≡ 14 → ownFlags t s ≢ 0 → f ≡ false → P (rowOf t i) w f → P (flagsTaken (rowOf t i) (s .a)) w true
+    pub sleeps : {r : Thread} {w f : Bool} → s .caller ≡ i → (st pl : ℕ) (c : Call) → OwnWait s st pl → c .kind ≡ s .kind
+        → (s .kind ≡ 14 → ownFlags t s ≡ 0) → P r w f → P (asleep r st pl c) w f
+
+  module _ (k : RowOn) where
+    own-ready : (w : World) (m : ℤ) → w .thread i .state ≢ 0 → CalledOut t s (w .thread i .state) (w .thread i .place) m → Stands w
+        → Stands (madeReady w i m)
+    own-ready w m n c h = rw (put-same (w .thread) i (readyWith (w .thread i) m), put-same (w .woken) i true) (k .wakes m n c h)
+
+    own-ended : (w : World) (m : ℤ) (d : ℕ) → P (callEnded (w .thread i) m d) (w .woken i) true → Stands (ended w i m d)
+    own-ended w m d h = rw (ended-own w i m d someone, ended-finished w i m d someone) h
+
+    own-took : (w : World) (a : ℕ) → P (flagsTaken (w .thread i) a) (w .woken i) true → Stands (tookFlags w i a)
+    own-took w a h = rw (took-own w i a someone, took-finished w i a someone) h
+
+    own-asleep : (w : World) (st pl : ℕ) (c : Call) → P (asleep (w .thread i) st pl c) (w .woken i) (w .finished i) → Stands (fallAsleep w i st pl c)
+    own-asleep w st pl c h = rw (put-same (w .thread) i (asleep (w .thread i) st pl c)) h
+
+    row-moves : Moves t s Stands
+    row-moves =
+        record {
+          counter = λ w p c h. h;
+          box = λ w b x h. h;
+          pool = λ w q x h. h;
+          wakes = λ w j m n c h.
+              same-or i j
+              (λ e. subst (λ (k : ℕ). Stands (madeReady w k m)) e
+              (own-ready w m (rw e n) (subst (λ (k : ℕ). CalledOut t s (w .thread k .state) (w .thread k .place) m) (sym e) c) h))
+              (λ d. ready-stays w j d m h);
+        }
+
+    -- OF A CONTINUED CALL
+    pub row-on : KeepsOn t s Stands
+    row-on =
+        record {
+          moves = row-moves;
+          ends-on = λ w r m d l z n g h.
+              same-or i r
+              (λ e. subst (λ (j : ℕ). Stands (ended w j m d)) e
+              (own-ended w m d (k .ends-on m d (rw e z) (rw e n) (subst (λ (j : ℕ). Ends (w .thread j) m d) (sym e) g) h)))
+              (λ x. ended-stays w r x m d h);
+          takes-on = λ w r l z g m h.
+              same-or i r
+              (λ e. subst (λ (j : ℕ). Stands (tookFlags w j (w .thread j .call .operand))) e
+              (own-took w (w .thread i .call .operand) (k .takes-on (rw e z) (rw e g) (rw e m) h)))
+              (λ x. took-stays w r x (w .thread r .call .operand) h);
+          sleeps-on = λ w r q l z g m side h.
+              same-or i r
+              (λ e. subst (λ (j : ℕ). Stands (fallAsleep w j 3 q (w .thread j .call))) e
+              (own-asleep w 3 q (w .thread i .call)
+              (k .sleeps-on q (rw e z) (subst (λ (j : ℕ). IsMailing (w .thread j .call .kind)) (sym e) g) (rw e m)
+              (subst (λ (j : ℕ). SideOf (w .thread j .call) q) (sym e) side) h)))
+              (λ d. sleep-stays w r d 3 q (w .thread r .call) h);
+        }
+
+    -- AND OF THE WHOLE STEP
+    pub row-keeps : RowAct → Keeps t s Stands
+    row-keeps a =
+        record {
+          act = record {
+            moves = row-moves;
+            begins = a .begins;
+            ticks = a .ticks;
+            events = a .events;
+            ends = λ w m d o h.
+                same-or (s .caller) i
+                (λ e. subst (λ (j : ℕ). Stands (ended w j m d)) (sym e) (own-ended w m d (a .ends e m d o h)))
+                (λ n. ended-stays w (s .caller) (λ e. n (sym e)) m d h);
+            takes = λ k n h.
+                same-or (s .caller) i
+                (λ e. subst (λ (j : ℕ). Stands (tookFlags (found t) j (s .a))) (sym e) (own-took (found t) (s .a) (a .takes e k n refl h)))
+                (λ d. took-stays (found t) (s .caller) (λ e. d (sym e)) (s .a) h);
+            sleeps = λ w st pl c o k none tried h.
+                same-or (s .caller) i
+                (λ e. subst (λ (j : ℕ). Stands (fallAsleep w j st pl c)) (sym e) (own-asleep w st pl c (a .sleeps e st pl c o k none h)))
+                (λ d. sleep-stays w (s .caller) (λ e. d (sym e)) st pl c h);
+          };
+          on = row-on;
+        }
