@@ -1,5 +1,5 @@
 -- Proofs by cases on a test, on two numbers, on a choice: each case is handed the fact that it stands for.
-use Prim.Native.Nat.{ℕ, _≤_, _<_}
+use Prim.Native.Nat.{ℕ, suc, _≤_, _<_}
 use native.Mathlib.Decide.{ℕ-discrete, decLt}
 use native.Mathlib.Omega.{arith}
 use mathlib.Core.Path.{_≡_, refl, sym, _∙_}
@@ -14,6 +14,10 @@ split false f g = g refl
 -- by whether two numbers are equal
 pub same-or : {C : Type 0} (i j : ℕ) → (i ≡ j → C) → (i ≢ j → C) → C
 same-or {C} i j f g = elim (ℕ-discrete i j) [ yes e ↦ f e | no n ↦ g n ]
+
+-- by whether a number is k or beyond
+pub next : {C : Type 0} (n k : ℕ) → k ≤ n → (n ≡ k → C) → (suc k ≤ n → C) → C
+next n k h f g = same-or n k f (λ d. g (omega arith))
 
 -- by whether an index is within a table
 pub in-or-out : {C : Type 0} (i n : ℕ) → (i < n → C) → (n ≤ i → C) → C

@@ -3,17 +3,14 @@ use Prim.Native.Nat.{ℕ, zero, suc, _+_, _*_, _-_, _≤_, _<_, _^_}
 use native.Mathlib.Nat.{pow-suc, lt-of-lt-of-le, le-of-eq}
 use native.Mathlib.Omega.{arith}
 use mathlib.Core.Path.{_≡_}
-use mathlib.Core.Bool.{Bool, true, false}
+use mathlib.Core.Bool.{Bool, false}
 use mathlib.Core.List.{List, [], _∷_}
 use lib.ListN.{length, getD, drop, length-drop, drop-of-length-le}
 use lib.Seq.{drop-cons}
 use lib.Pow.{pow-mono}
 use Rattle.kernel.specs.Walk.{bit}
+use Rattle.kernel.proofs.WalkLaws.{bit-le}
 use Rattle.steps.specs.Stepping.{maskOf}
-
-pub bit-le : (b : Bool) → bit b ≤ 1
-bit-le true = omega arith
-bit-le false = omega arith
 
 mask-lt : (l : List Bool) → maskOf l < 2 ^ length l
 unfolding maskOf

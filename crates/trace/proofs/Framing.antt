@@ -2,7 +2,7 @@
 use Prim.Native.Nat.{ℕ, _+_, _-_, _≤_, _<_}
 use native.Mathlib.Omega.{arith}
 use mathlib.Core.Path.{_≡_}
-use mathlib.Core.Bool.{true, false}
+use mathlib.Core.Bool.{true, false, true≢false}
 use mathlib.Core.List.{List}
 use lib.Dec.{eqb, ltb}
 use lib.ListN.{length, getD}
@@ -11,7 +11,7 @@ use Rattle.trace.specs.Ordered.{getN}
 use Rattle.trace.specs.TraceBytes.{longest}
 use Rattle.library.specs.Sizes.{sizesFit}
 use Rattle.trace.specs.Decoding.{endsInside, lengthRefusal, headSizes, headRefusal, stepRefusal}
-use Rattle.trace.proofs.Cases.{split, not-both, ltb-same}
+use Rattle.trace.proofs.Cases.{split, ltb-same}
 
 -- record 0 was not refused with 15, 11, 12 or 13
 pub record Opens (s : List ℕ) : Type 0 where
@@ -46,7 +46,7 @@ module _ (s : List ℕ) (at : ℕ) where
   unfolding endsInside
   whole e =
       split (ltb (length s) (at + 2))
-      (λ t. absurd (not-both (rw t at e)))
+      (λ t. absurd (true≢false (rw t at e)))
       (λ f. ltb-false (length s) (at + 2 + getN 2 s at) (rw f at e))
 
   pub inside : at + 2 + getN 2 s at ≤ length s → endsInside s at ≡ false

@@ -103,6 +103,7 @@ use Rattle.promises.specs.Kept.CounterRule.{semaphore-place, pool-place,
 use Rattle.promises.specs.Kept.Rows.{
   CallSound,
   each-kind,
+  waits-unready,
   readied-good,
   asleep-good,
   answered-good,
@@ -369,12 +370,6 @@ module _ (z : Sizes) (g : GoodSizes z) where
       (λ o h w. absurd (omega (arith, w))) (λ o h w. absurd (omega (arith, w))) (λ o h w. absurd (omega (arith, w)))
       (λ o h w. absurd (omega (arith, w)))
 
-  -- no call that sleeps does so ready
-  sleeping-state : (kind : ℕ) → CallKind kind → waitState kind ≢ ready
-  sleeping-state =
-      each-kind (λ m. waitState m ≢ ready) (λ e. omega arith) (λ e. omega arith) (λ e. omega arith) (λ e. omega arith) (λ e. omega arith)
-      (λ e. omega arith) (λ e. omega arith) (λ e. omega arith) (λ e. omega arith) (λ e. omega arith)
-
   -- a place of another counter, and no wait changed
   counter-tallies : (k : Kernel) (p q : ℕ) (c : ℤ) → debt (counterAt (withCounter k p c) q) ≡ debt (counterAt k q) → p < 20
       → Tallies n q k → Tallies n q (withCounter k p c)
@@ -430,7 +425,7 @@ module _ (z : Sizes) (g : GoodSizes z) where
             (ne-eqb (waitState (c .kind)) suspended d) (r .references o h));
         words =
             sleep-said z (g .threads .1) k i (waitState (c .kind)) p c (s .within) (s .is-ready)
-            (ne-eqb (waitState (c .kind)) ready (sleeping-state (c .kind) (s .fits .kind))) (r .sized) (r .words);
+            (ne-eqb (waitState (c .kind)) ready (waits-unready (c .kind) (s .fits .kind))) (r .sized) (r .words);
       }
 
   finish-rules : (k : Kernel) (i : ℕ) (m : ℤ) (d : ℕ) → Rules z k → Rules z (finished k i m d)

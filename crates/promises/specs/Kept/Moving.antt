@@ -39,6 +39,7 @@ use Rattle.rules.specs.RowRules.{waitState, waitPlace}
 use Rattle.rules.specs.PoolRules.{isPromised}
 use Rattle.promises.specs.Together.Good.{GoodSizes}
 use Rattle.promises.specs.Kept.Tallies.{Tallies}
+use Rattle.promises.specs.Kept.Rows.{not-awaiting}
 use Rattle.promises.specs.Kept.Chain.{Waken, Sleeper, sleepOf, signalAt, takeAt, Move, Chained, one, rested, after, queued-unready}
 
 -- a thread whose call may finish: it is ready, and no object is promised to it
@@ -51,9 +52,9 @@ abbrev pub Caller : Sizes → Kernel → ℕ → Type 0
 Caller z k i = (i ≡ nobody) ⊎ ((i < z .threads) × Free (threadAt k i))
 
 -- below 1 is below the top
-below-one : (c : ℤ) → ltZ c (pos 1) ≡ true → ltZ c (pos 2147483647) ≡ true
-below-one (pos m) e = lt-ltb m 2147483647 (omega (arith, ltb-true m 1 e))
-below-one (negsuc m) e = refl
+pub below-top : (c : ℤ) → ltZ c (pos 1) ≡ true → ltZ c (pos 2147483647) ≡ true
+below-top (pos m) e = lt-ltb m 2147483647 (omega (arith, ltb-true m 1 e))
+below-top (negsuc m) e = refl
 
 module _ (z : Sizes) (g : GoodSizes z) where
   abbrev n : ℕ
@@ -126,7 +127,7 @@ module _ (z : Sizes) (g : GoodSizes z) where
     pub binary-chained : Tallies n p k → Chained z k (binarySignalled k n p) (cond (ltZ (counterAt k p) (pos 1)) (signalAt p ∷ []) [])
     unfolding binarySignalled
     binary-chained t =
-        split (ltZ (counterAt k p) (pos 1)) (λ e. rw e (signal-chained t (below-one (counterAt k p) e))) (λ e. rw e rested)
+        split (ltZ (counterAt k p) (pos 1)) (λ e. rw e (signal-chained t (below-top (counterAt k p) e))) (λ e. rw e rested)
 
     -- one unit taken
     pub take-chained : ltZ (pos 0) (counterAt k p) ≡ true → Chained z k (taken k p) (takeAt p ∷ [])
@@ -195,9 +196,6 @@ module _ (z : Sizes) (g : GoodSizes z) where
       let d = bitAnd (threadAt k i .pending) mask in
       after (flags-chained k i (t .pending) (λ e. absurd (not-awaiting (sym r ∙ e))))
       (one (Move.finishes i ok d (record { within = l; is-ready = rw row r; unpromised = rw row u })))
-    where
-      not-awaiting : ready ≡ awaiting → ⊥
-      not-awaiting e = omega arith
 
   -- 14: pending flags are taken at once, else the thread waits for them
   pub event-wait-chained : (k : Kernel) (i : ℕ) (c : Call) → Sized k → i < n → Free (threadAt k i) → c .kind ≡ 14
@@ -278,13 +276,10 @@ module _ (z : Sizes) (g : GoodSizes z) where
                 (sym a ∙ eqb-true (threadAt k i .state) queued
                 (both-means (eqb (threadAt k i .state) queued) (eqb (threadAt k i .place) p) q .0)));
           }))
-          (flags-chained (woken k i ok) i f (λ r. absurd (ready-not (sym (ap (λ (x : Thread). x .state) (wake-row k i ok here)) ∙ r)))))
+          (flags-chained (woken k i ok) i f (λ r. absurd (not-awaiting (sym (ap (λ (x : Thread). x .state) (wake-row k i ok here)) ∙ r)))))
         where
           not-ready : awaiting ≡ ready → ⊥
           not-ready e = omega arith
-
-          ready-not : ready ≡ awaiting → ⊥
-          ready-not e = omega arith
 
           not-queued : awaiting ≡ queued → ⊥
           not-queued e = omega arith

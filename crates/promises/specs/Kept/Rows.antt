@@ -54,7 +54,7 @@ kind-some =
     (omega arith)
     (omega arith) (omega arith)
 
-not-awaiting : ready ≡ awaiting → ⊥
+pub not-awaiting : ready ≡ awaiting → ⊥
 not-awaiting e = omega arith
 
 pub readied-good : (z : Sizes) (t : Thread) (m : ℤ) → GoodThread z t → GoodThread z (readied t m)

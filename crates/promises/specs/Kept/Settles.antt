@@ -370,7 +370,7 @@ continue-at z p w e =
     (continue-tries p v (runningIn p) d, continue-lighter p v (runningIn p) d))
 
 -- a budget, spent call by call
-spent-all : (p : Plant) → settled 0 p ≡ p
+pub spent-all : (p : Plant) → settled 0 p ≡ p
 unfolding settled
 spent-all p = refl
 

@@ -8,7 +8,7 @@ use lib.Bits.{bitAnd, bitOr}
 use lib.ListN.{length, getD}
 use lib.IntN.{ℤ, pos, negsuc, _+ℤ_, _-ℤ_}
 use lib.Signed.{ltZ}
-use borrow.Author.Tests.{eq-eqb, ne-eqb, ltb-true, lt-ltb}
+use borrow.Author.Tests.{eq-eqb, ne-eqb, lt-ltb}
 use Rattle.kernel.specs.declared.records.Call.{Call}
 use Rattle.kernel.specs.declared.records.Thread.{Thread}
 use Rattle.kernel.specs.declared.records.Kernel.{Kernel}
@@ -40,6 +40,7 @@ use Rattle.library.specs.Tables.{mailboxAt, poolAt, withKernel, withMailbox}
 use Rattle.promises.specs.Together.Good.{Good}
 use Rattle.promises.specs.Kept.Tallies.{Tallies, wake-tallies}
 use Rattle.promises.specs.Kept.CounterRule.{pool-place, writers-place, readers-place}
+use Rattle.promises.specs.Kept.Moving.{below-top}
 use Rattle.promises.specs.Kept.RingKept.{after-mod}
 use Rattle.promises.specs.Kept.Whole.{Whole, whole-good}
 use Rattle.promises.specs.Meant.Waiters.{waiting-waits, waits-waiting, rule-below, rule-high, not-most, signal-finds}
@@ -153,15 +154,11 @@ module _ (p : Plant) (z : Sized (p .kernel)) where
       (rw e (wake-world p z i (pos 0) (omega (arith, w .thread, few)) (waiter-room p q i (w .thread) u (w .waits .place)))))
       (λ e. Signal.raises e (rw (e, up-exact (counterAt k q) low) (counter-world p z q (u .0) (counterAt k q +ℤ pos 1))))
 
-  below-most : (c : ℤ) → ltZ c (pos 1) ≡ true → ltZ c (pos 2147483647) ≡ true
-  below-most (pos m) e = lt-ltb m 2147483647 (omega (arith, ltb-true m 1 e))
-  below-most (negsuc m) e = refl
-
   pub binary-is : n ≤ 16 → (q : ℕ) → InUse p q → BinarySignal (worldOf p) q (worldOf (withKernel p (binarySignalled k n q)))
   unfolding binarySignalled
   binary-is few q u =
       split (ltZ (counterAt k q) (pos 1))
-      (λ e. BinarySignal.signals e (rw e (signal-is few q u (below-most (counterAt k q) e))))
+      (λ e. BinarySignal.signals e (rw e (signal-is few q u (below-top (counterAt k q) e))))
       (λ e. BinarySignal.nothing e (rw e))
 
   -- a thread that is not there is not made ready

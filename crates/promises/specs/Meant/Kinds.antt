@@ -24,6 +24,10 @@ use Rattle.library.specs.Mailbox.{postTried, fetchTried, mailboxReset, mailboxR
 use Rattle.library.specs.Pool.{allocTried, putBack}
 use Rattle.library.specs.Acting.{messageOf, waitBegun, effected, actedOnKernel, boxEffected, actedOnBox, acted}
 
+-- "object numbers 0 to 31" are bytes
+pub object-byte : (s : Step) → s .a ≤ 31 → s .a % 256 ≡ s .a
+object-byte s h = mod-eq-of-lt (omega arith)
+
 -- "A thread's call that doesn't sleep finishes at once", and "An answer or datum not named is 0"
 abbrev pub atOnce : Plant → ℕ → Plant
 atOnce p i = withKernel p (finished (p .kernel) i (pos 0) 0)
@@ -97,9 +101,6 @@ rows p now s =
       mailbox-reset = λ e. rw e;
       mailbox-resume = λ e. rw e;
       alloc = λ e. rw e;
-      free = λ e h. rw (e, small h);
-      add = λ e h. rw (e, small h);
+      free = λ e h. rw (e, object-byte s h);
+      add = λ e h. rw (e, object-byte s h);
     }
-  where
-    small : s .a ≤ 31 → s .a % 256 ≡ s .a
-    small h = mod-eq-of-lt (omega arith)

@@ -1,7 +1,6 @@
 -- A step is refused with the number of the first rule that it breaks, and accepted exactly if it breaks none: each test of `refusalOf`
 -- fails just where its rule of Paper/Refusals is broken.
-use Prim.Native.Nat.{ℕ, suc, _%_, _≤_, _<_}
-use native.Mathlib.Nat.{mod-eq-of-lt}
+use Prim.Native.Nat.{ℕ, _≤_, _<_}
 use native.Mathlib.Omega.{arith}
 use mathlib.Core.Path.{_≡_, refl, _∙_}
 use mathlib.Core.Logic.{_≢_, _⊎_, inl, inr}
@@ -15,7 +14,7 @@ use Rattle.kernel.specs.Time.{differed}
 use Rattle.kernel.specs.Tables.{holderAt}
 use Rattle.kernel.specs.Waiters.{firstReady}
 use Rattle.kernel.specs.Walk.{firstFrom}
-use Rattle.kernel.proofs.Cases.{split, same-or, in-or-out, contrary, both-true, both-means, second-fails}
+use Rattle.kernel.proofs.Cases.{next, split, same-or, in-or-out, contrary, both-true, both-means, second-fails}
 use Rattle.kernel.proofs.WalkLaws.{Least, first-cases}
 use Rattle.library.specs.declared.calls.Step.{Step}
 use Rattle.library.specs.declared.sizes.Sizes.{Sizes}
@@ -32,12 +31,9 @@ use Rattle.promises.specs.Together.Hanging.{test-hangs, hangs-test}
 use Rattle.promises.specs.Paper.World.{found as world, First}
 use Rattle.promises.specs.Paper.Refusals.{KernelWait, BoxWait, NoSpan, Broken}
 use Rattle.promises.specs.Meant.Together.{rules-together, together-rules}
+use Rattle.promises.specs.Meant.Kinds.{object-byte}
 use Rattle.promises.specs.Meant.Settling.{running-first}
 use Rattle.promises.specs.Meant.Only.{first-only}
-
--- by whether a number is k or beyond
-next : {A : Type 0} (n k : ℕ) → k ≤ n → (n ≡ k → A) → (suc k ≤ n → A) → A
-next n k h f g = same-or n k f (λ d. g (omega arith))
 
 -- ---- the tests in plain terms
 
@@ -146,9 +142,6 @@ module _ (t : Tables) (c : Clock) (s : Step) where
       (cond (eqb n 5) (not (leb (objectLimit (p .sizes) (s .kind)) (s .object)))
       (cond (eqb n 6) (valueFits (c .time) s) (cond (eqb n 7) (stateFits p s) true))))))
 
-  small : s .a ≤ 31 → s .a % 256 ≡ s .a
-  small h = mod-eq-of-lt (omega arith)
-
   -- the refusal is the first number whose rule fails, or 0
   abbrev found : ℕ
   found = firstFrom (λ n. not (passes n)) 0 8
@@ -198,8 +191,8 @@ module _ (t : Tables) (c : Clock) (s : Step) where
   broken-fails few (Broken.sleep-until e d) = rw (e, no-span (differed (c .time) (record { 0 = s .a }) .0) d)
   broken-fails few (Broken.signal e h) = rw (e, h)
   broken-fails few (Broken.suspend e d) = rw (e, ne-eqb (holderAt (p .kernel) (s .object)) 255 d)
-  broken-fails few (Broken.free e h d) = rw (e, small h, ne-eqb (markAt (poolAt p (s .object)) (s .a)) out d)
-  broken-fails few (Broken.add e h d) = rw (e, small h, ne-eqb (markAt (poolAt p (s .object)) (s .a)) absent d)
+  broken-fails few (Broken.free e h d) = rw (e, object-byte s h, ne-eqb (markAt (poolAt p (s .object)) (s .a)) out d)
+  broken-fails few (Broken.add e h d) = rw (e, object-byte s h, ne-eqb (markAt (poolAt p (s .object)) (s .a)) absent d)
 
   -- ---- and a test that fails has its rule broken
 
@@ -262,11 +255,11 @@ module _ (t : Tables) (c : Clock) (s : Step) where
       (λ n9. same-or k 21
       (λ e.
       let l = leb-true (s .a) 31 (rw e at v) in
-      Broken.free e l (eqb-false (markAt (poolAt p (s .object)) (s .a)) out (rw (e, small l) at h)))
+      Broken.free e l (eqb-false (markAt (poolAt p (s .object)) (s .a)) out (rw (e, object-byte s l) at h)))
       (λ n21. same-or k 22
       (λ e.
       let l = leb-true (s .a) 31 (rw e at v) in
-      Broken.add e l (eqb-false (markAt (poolAt p (s .object)) (s .a)) absent (rw (e, small l) at h)))
+      Broken.add e l (eqb-false (markAt (poolAt p (s .object)) (s .a)) absent (rw (e, object-byte s l) at h)))
       (λ n22. contrary refl (rw (ne-eqb k 3 n3, ne-eqb k 9 n9, ne-eqb k 21 n21, ne-eqb k 22 n22) at h)))))
 
   -- the rule of a number whose test is the first to fail

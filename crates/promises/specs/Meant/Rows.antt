@@ -21,7 +21,7 @@ use Rattle.kernel.specs.Reference.{suspendedOn, resumed}
 use Rattle.kernel.specs.Delay.{sleptFor, sleptUntil}
 use Rattle.kernel.specs.Event.{eventSignalled}
 use Rattle.kernel.specs.Ticking.{countedOff, tickedOne, ticked}
-use Rattle.kernel.proofs.Cases.{split, same-or, in-or-out, chosen, contrary, both-means}
+use Rattle.kernel.proofs.Cases.{next, split, same-or, in-or-out, chosen, contrary, both-means}
 use Rattle.kernel.proofs.TablesLaws.{Sized, SameSizes, sizes-refl, used-all, sized-kept}
 use Rattle.kernel.proofs.QueueLaws.{release-first-sizes, release-all-sizes}
 use Rattle.kernel.proofs.SemaphoreLaws.{signal-sizes, reset-sizes}
@@ -48,7 +48,7 @@ use Rattle.promises.specs.Kept.PoolKept.{stock-below, good-length, push-
 use Rattle.promises.specs.Kept.Whole.{Whole}
 use Rattle.promises.specs.Kept.Accepting.{Accepted, refusal-none, waits-thread}
 use Rattle.promises.specs.Meant.Waiters.{rule-below, not-most}
-use Rattle.promises.specs.Meant.Kinds.{message-up, message-down, Rows, rows, atOnce}
+use Rattle.promises.specs.Meant.Kinds.{object-byte, message-up, message-down, Rows, rows, atOnce}
 use Rattle.promises.specs.Meant.Callers.{caller-runs}
 use Rattle.promises.specs.Paper.World.{World, found, boxTo, poolTo, ended, fallAsleep, signed, kept}
 use Rattle.promises.specs.Paper.Rows.{
@@ -216,10 +216,6 @@ module _ (p : Plant) (z : Sized (p .kernel)) (few : p .sizes .threads ≤ 16) (g
   ticks-is (suc n) h = (worldOf (at n), ticks-is n (omega arith), rw (tick-next k n (omega arith)) (tick-of n h))
 
 -- ---- the table
-
--- by whether a number is k or beyond
-next : {A : Type 0} (n k : ℕ) → k ≤ n → (n ≡ k → A) → (suc k ≤ n → A) → A
-next n k h f g = same-or n k f (λ d. g (omega arith))
 
 last-kind : (k : ℕ) → 22 ≤ k → k ≤ 22 → k ≡ 22
 last-kind k a b = omega arith
@@ -513,14 +509,11 @@ module _ (t : Tables) (c : Clock) (s : Step) (w : Whole (t .sizes) (opened t)) (
         ∙ ap (λ (q : World). ended q (s .caller) (pos 0) 0)
         (pool-world (withKernel p (signalled kern n (16 + o))) o (onTop (poolAt p o) (s .a)) (pool-row p w o l))
 
-  byte : s .a ≤ 31 → s .a % 256 ≡ s .a
-  byte l = omega arith
-
   row-21 : s .kind ≡ 21 → Row 21
   row-21 k =
       let l : o < t .sizes .pools = rw k at (accepts .object) in
       let small = leb-true (s .a) 31 (rw k at (accepts .value)) in
-      let mark = eqb-true (markAt (poolAt p o) (s .a)) out (rw (k, byte small) at (accepts .state)) in
+      let mark = eqb-true (markAt (poolAt p o) (s .a)) out (rw (k, object-byte s small) at (accepts .state)) in
       let puts = row .free k small in
       let not-free : markAt (poolAt p o) (s .a) ≢ free = λ x. absurd (omega (arith, mark, x)) in
       Act.free (after l small not-free puts) (put-signals l small not-free puts) (put-is l small not-free puts)
@@ -529,7 +522,7 @@ module _ (t : Tables) (c : Clock) (s : Step) (w : Whole (t .sizes) (opened t)) (
   row-22 k =
       let l : o < t .sizes .pools = rw k at (accepts .object) in
       let small = leb-true (s .a) 31 (rw k at (accepts .value)) in
-      let mark = eqb-true (markAt (poolAt p o) (s .a)) absent (rw (k, byte small) at (accepts .state)) in
+      let mark = eqb-true (markAt (poolAt p o) (s .a)) absent (rw (k, object-byte s small) at (accepts .state)) in
       let puts = row .add k small in
       let not-free : markAt (poolAt p o) (s .a) ≢ free = λ x. absurd (omega (arith, mark, x)) in
       Act.add (after l small not-free puts) (put-signals l small not-free puts) (put-is l small not-free puts)

@@ -39,7 +39,7 @@ use Rattle.promises.specs.Together.Hanging.{test-hangs}
 use Rattle.promises.specs.Kept.Accepting.{refusal-none}
 use Rattle.promises.specs.Kept.Acts.{step-acts}
 use Rattle.promises.specs.Kept.Whole.{PlantSized, Whole, good-whole}
-use Rattle.promises.specs.Kept.Settles.{continue-tries}
+use Rattle.promises.specs.Kept.Settles.{continue-tries, spent-all}
 use Rattle.promises.specs.Kept.Steps.{Hangs, settles}
 use Rattle.promises.specs.Meant.Clock.{tick-time, tick-time-wraps, other-time}
 use Rattle.promises.specs.Meant.Pools.{promise-stocked}
@@ -186,10 +186,6 @@ module _ (p : Plant) (w : Whole (p .sizes) p) where
     whole-on =
         let v = continue-tries p w i (record { within = f .thread; is-ready = f .is-ready; unfinished = call }) .done .whole in
         subst (λ (y : Sizes). Whole y (continued p i)) (sym (v .same)) v
-
-spent-all : (p : Plant) → settled 0 p ≡ p
-unfolding settled
-spent-all p = refl
 
 -- settling that ended with a budget of b
 abbrev SettlesWith : ℕ → Type 0

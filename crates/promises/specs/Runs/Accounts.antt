@@ -1,6 +1,5 @@
 -- The account of a flag over a run: in each step it comes, is answered, or stays as it is.
-use Prim.Native.Nat.{ℕ, zero, suc, _-_, _^_, _<_}
-use native.Mathlib.Nat.{zero-div}
+use Prim.Native.Nat.{ℕ, zero, suc, _-_, _<_}
 use mathlib.Core.Path.{_≡_, refl, sym, ap, _∙_, subst}
 use mathlib.Core.Logic.{_≢_, _⊎_, inl, inr}
 use mathlib.Core.Bool.{Bool, true, false, not, _&&_, _||_, or-true, or-false}
@@ -12,7 +11,7 @@ use borrow.Author.Tests.{eq-eqb, ne-eqb}
 use Rattle.kernel.specs.declared.clock.Clock.{Clock}
 use Rattle.kernel.specs.declared.records.Answer.{Answer}
 use Rattle.kernel.specs.declared.records.Thread.{Thread}
-use Rattle.kernel.proofs.Cases.{split, same-or, contrary}
+use Rattle.kernel.proofs.Cases.{split, same-or, contrary, both-means}
 use Rattle.kernel.proofs.WordsLaws.{or-test, and-test, less-test}
 use Rattle.library.specs.declared.calls.Step.{Step}
 use Rattle.library.specs.declared.tables.Tables.{Tables}
@@ -25,11 +24,7 @@ use Rattle.promises.specs.Paper.Run.{Moment}
 use Rattle.promises.specs.Paper.Flags.{awaitsFlags, GoesOn, FlagsAfter, signalledTo, answeredTo, answeredIn, Account}
 use Rattle.promises.specs.Runs.Run.{ran}
 use Rattle.promises.specs.Runs.OneStep.{sizes-after, flags-of}
-use Rattle.promises.specs.Runs.Moments.{momentOf, moments, Going, host, going-on}
-
--- no flag is in the set 0
-none-in : (flag : ℕ) → inMask flag 0 ≡ false
-none-in flag = rw (zero-div (2 ^ flag))
+use Rattle.promises.specs.Runs.Moments.{momentOf, moments, Going, host, going-on, no-bit}
 
 -- only the message 0 is 0
 not-zero : (m : ℤ) → m ≢ pos 0 → isZero m ≡ false
@@ -71,12 +66,12 @@ module _ (m : Moment) (i flag : ℕ) where
     heard-come =
         split (eqb (m .step .kind) 13 && eqb (m .step .object) i)
         (λ e. rw (eq-eqb (m .result .code) 0 ok, e) (or-test (before .pending) (m .step .a) flag))
-        (λ e. rw (eq-eqb (m .result .code) 0 ok, e, none-in flag) (sym (or-false (inMask flag (before .pending)))))
+        (λ e. rw (eq-eqb (m .result .code) 0 ok, e, no-bit flag) (sym (or-false (inMask flag (before .pending)))))
 
     -- nothing is answered
     keeps : answeredTo i m ≡ 0 → after .pending ≡ heard (m .step) i before → Line
     keeps e p =
-        let no : answered ≡ false = ap (inMask flag) e ∙ none-in flag in
+        let no : answered ≡ false = ap (inMask flag) e ∙ no-bit flag in
         record {
           pending = ap (inMask flag) p ∙ heard-come ∙ rw no (sym (both-true come));
           due = λ x. contrary x no;
@@ -96,16 +91,12 @@ module _ (m : Moment) (i flag : ℕ) where
           pending =
               ap (inMask flag) p ∙ less-test f mask flag ∙ ap (λ (x : Bool). x && not (inMask flag mask)) heard-come
               ∙ rw is (rest come (inMask flag mask));
-          due = λ x. first come (inMask flag mask) (sym is ∙ x);
+          due = λ x. both-means come (inMask flag mask) (sym is ∙ x) .0;
         }
       where
         rest : (x y : Bool) → (x && not y) ≡ (x && not (x && y))
         rest true y = refl
         rest false y = refl
-
-        first : (x y : Bool) → (x && y) ≡ true → x ≡ true
-        first true y e = refl
-        first false y e = e
 
     -- EACH ACCEPTED STEP
     flag-line : FlagsAfter (m .before) (m .step) i after (inMask i (m .result .finished)) → Line
@@ -126,8 +117,8 @@ module _ (m : Moment) (i flag : ℕ) where
   refused-line n e =
       let no = ne-eqb (m .result .code) 0 n in
       record {
-        pending = rw (no, none-in flag, ap (λ (t : Tables). inMask flag (rowOf t i .pending)) e) (level (inMask flag (before .pending)));
-        due = λ x. contrary x (rw no (none-in flag));
+        pending = rw (no, no-bit flag, ap (λ (t : Tables). inMask flag (rowOf t i .pending)) e) (level (inMask flag (before .pending)));
+        due = λ x. contrary x (rw no (no-bit flag));
       }
     where
       level : (x : Bool) → x ≡ ((x || false) && true)

@@ -1,13 +1,13 @@
 -- What one accepted step makes of the flags of a thread: of any but the caller it follows from `SleeperAfter` and `ReadyAfter`, of the caller
 -- from what becomes of its own call.
-use Prim.Native.Nat.{ℕ, suc, _-_}
+use Prim.Native.Nat.{ℕ, _-_}
 use native.Mathlib.Omega.{arith}
 use mathlib.Core.Path.{_≡_, refl, sym, ap, _∙_, subst}
 use mathlib.Core.Logic.{_≢_, _⊎_, inl, inr}
 use mathlib.Core.Bool.{Bool, true, false, _&&_, and-false}
 use lib.Dec.{eqb}
 use lib.Bits.{bitAnd}
-use lib.IntN.{ℤ, pos, negsuc}
+use lib.IntN.{ℤ, pos, negsuc, pos-ne-negsuc}
 use borrow.Author.Tests.{eq-eqb, ne-eqb}
 use Rattle.kernel.specs.declared.records.Call.{Call}
 use Rattle.kernel.specs.declared.records.Thread.{Thread}
@@ -81,14 +81,6 @@ own-state (OwnWait.writer (inl e) n) k = absurd (omega (arith, e, k))
 own-state (OwnWait.writer (inr e) n) k = absurd (omega (arith, e, k))
 own-state (OwnWait.reader e n) k = absurd (omega (arith, e, k))
 own-state (OwnWait.pool e n) k = absurd (omega (arith, e, k))
-
--- -1 is not 0
-minus-one : _≢_ {A = ℤ} (negsuc 0) (pos 0)
-minus-one e = omega (arith, ap depth e)
-  where
-    depth : ℤ → ℕ
-    depth (pos n) = 0
-    depth (negsuc n) = suc n
 
 module _ (t : Tables) (s : Step) (someone : s .caller ≢ 255) (was-ready : rowOf t (s .caller) .state ≡ 0)
     (no-ticks : rowOf t (s .caller) .remaining ≡ 0) (no-call : rowOf t (s .caller) .call .kind ≡ 0) where
@@ -210,5 +202,5 @@ module _ (t : Tables) (s : Step) (someone : s .caller ≢ 255) (was-ready : rowO
   pub caller-flags : {r : Thread} {q : Bool} → Flagged r q → FlagsAfter t s i r q
   caller-flags (Flagged.waits p e g) = FlagsAfter.stays (rw e (and-false (awaitsFlags t s i))) p
   caller-flags (Flagged.taken k n e r p g) = FlagsAfter.taken (s .a) (GoesOn.finds refl k n) e r p
-  caller-flags (Flagged.late k z l e r p g) = FlagsAfter.late (s .a) (negsuc 0) (GoesOn.finds-none refl k z l) minus-one e r p
+  caller-flags (Flagged.late k z l e r p g) = FlagsAfter.late (s .a) (negsuc 0) (GoesOn.finds-none refl k z l) (λ x. pos-ne-negsuc 0 0 (sym x)) e r p
   caller-flags {r} {q} (Flagged.done n e p g) = FlagsAfter.stays (own-awaits n q) p

@@ -56,7 +56,7 @@ use Rattle.promises.specs.Paper.Waking.{rowOf, inMask}
 use Rattle.promises.specs.Paper.Flags.{awaitsFlags}
 use Rattle.promises.specs.Runs.Keeping.{put-same, put-other, KeepsAct, act-keeps}
 use Rattle.promises.specs.Runs.OneRow.{ended-other, ended-unfinished, ended-own, took-other, took-unfinished}
-use Rattle.promises.specs.Runs.OneStep.{bit-in, accepted, unbroken, held, few}
+use Rattle.promises.specs.Runs.OneStep.{bit-in, accepted, unbroken, held, someone}
 use Rattle.promises.specs.Meant.Callers.{caller-runs}
 use Rattle.promises.specs.Meant.Only.{first-only, running-only}
 use Rattle.promises.specs.Meant.Step.{hangs, step-is}
@@ -250,29 +250,29 @@ module _ (t : Tables) (s : Step) (i : ℕ) (someone : i ≢ 255) where
 
 -- AN EVENT WAIT FINISHES ONLY IF ITS THREAD RUNS THEN
 module _ (t : Tables) (c : Clock) (s : Step) (host : Host t c s) (e : stepped t c s .outcome .code ≡ 0) (i : ℕ) (within : i < t .sizes .threads) where
-  someone : i ≢ 255
-  someone z = omega (arith, z, within, few t c s host e)
+  me : i ≢ 255
+  me = someone t c s host e i within
 
   -- the caller is the first ready thread
   first-caller : s .caller ≡ i → First (found t) i
   first-caller z =
       elim (caller-runs (opened t) c s (hangs t c s host (accepted t c s host e) .sized .kernel) (accepted t c s host e)) [
-        | inl x ↦ absurd (someone (sym z ∙ x))
+        | inl x ↦ absurd (me (sym z ∙ x))
         | inr f ↦ subst (First (found t)) z (record { thread = f .thread; is-ready = f .is-ready; first = f .first })
       ]
 
   module _ (w x : World) (act : Act t (c .time) s w (s .kind)) (settles : Settles x w) (finished : x .finished i ≡ true) where
     own-first : s .caller ≡ i → s .kind ≡ 14 → First x i
     own-first z k =
-        elim (own-act t s i someone z (first-caller z) (subst (Act t (c .time) s w) k act)) [
+        elim (own-act t s i me z (first-caller z) (subst (Act t (c .time) s w) k act)) [
           | inl g ↦ subst (λ (u : World). First u i) (sym (settled-there i settles (g .first) (g .no-call))) (g .first)
-          | inr g ↦ settles-running i someone settles g finished
+          | inr g ↦ settles-running i me settles g finished
         ]
 
     kept-first : s .caller ≢ i → rowOf t i .call .kind ≡ 14 → First x i
     kept-first n k =
-        settles-running i someone settles
-        (act-keeps t s (Waiting i someone) (kept-act t s i someone n k) (c .time) (held t c s host e) refl act) finished
+        settles-running i me settles
+        (act-keeps t s (Waiting i me) (kept-act t s i me n k) (c .time) (held t c s host e) refl act) finished
 
     is-first : awaitsFlags t s i ≡ true → First x i
     is-first a =

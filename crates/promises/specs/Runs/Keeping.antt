@@ -59,6 +59,10 @@ put-same f i a = rw (eq-eqb i i refl)
 pub put-other : {A : Type 0} (f : ℕ → A) (i j : ℕ) (a : A) → j ≢ i → put f i a j ≡ f j
 put-other f i j a d = rw (ne-eqb j i d)
 
+-- who is queued is not ready
+pub queued-asleep : {n : ℕ} → n ≡ 3 → n ≢ 0
+queued-asleep e z = omega arith
+
 -- ---- what each move keeps
 
 -- a woken call that is continued ends with m and d
@@ -137,9 +141,6 @@ module _ (t : Tables) (s : Step) (P : World → Type 0) (k : Moves t s P) where
   to : {x y : World} → x ≡ y → P y → P x
   to e h = subst P (sym e) h
 
-  queued-asleep : {n : ℕ} → n ≡ 3 → n ≢ 0
-  queued-asleep e z = omega arith
-
   -- the first of the waiters at p
   highest-keeps : (w : World) (p i : ℕ) (m : ℤ) → Highest w p i → ((st pl : ℕ) → st ≡ 3 → pl ≡ p → CalledOut t s st pl m) → P w
       → P (madeReady w i m)
@@ -167,10 +168,7 @@ module _ (t : Tables) (s : Step) (P : World → Type 0) (k : KeepsOn t s P) wher
 
     -- whoever is released is another
     released-row : {v : World} {p : ℕ} {m : ℤ} → Release w p m v → v .thread r ≡ w .thread r
-    released-row (Release.first i h e) = ap (λ (x : World). x .thread r) e ∙ put-other (w .thread) i r _ (λ x. apart (sym is-ready ∙ rw (← x) at (h .waits .0)))
-      where
-        apart : _≡_ {A = ℕ} 0 3 → ⊥
-        apart x = omega arith
+    released-row (Release.first i h e) = ap (λ (x : World). x .thread r) e ∙ put-other (w .thread) i r _ (λ x. queued-asleep (rw (← x) at (h .waits .0)) is-ready)
     released-row (Release.nobody h e) = ap (λ (x : World). x .thread r) e
 
     -- its call ends in a world that has its record as it was
@@ -221,7 +219,7 @@ module _ (t : Tables) (s : Step) (P : World → Type 0) (k : KeepsAct t s P) whe
   release-all-keeps p m (suc n) r by g = one (r .2) (release-all-keeps p m n (r .1) by g)
     where
       one : {v x : World} → ReleaseOf v p m n x → P v → P x
-      one {v} (ReleaseOf.waits a b e) h = to t s P (k .moves) e (k .moves .wakes v n m (queued-asleep t s P (k .moves) a) (by (v .thread n .state) (v .thread n .place) a b) h)
+      one {v} (ReleaseOf.waits a b e) h = to t s P (k .moves) e (k .moves .wakes v n m (queued-asleep a) (by (v .thread n .state) (v .thread n .place) a b) h)
       one (ReleaseOf.elsewhere a e) h = to t s P (k .moves) e h
 
   signal-keeps : {w x : World} (p : ℕ) → Signal w p x → ((st pl : ℕ) → st ≡ 3 → pl ≡ p → CalledOut t s st pl (pos 0)) → P w → P x

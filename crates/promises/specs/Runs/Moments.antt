@@ -26,6 +26,7 @@ use Rattle.promises.specs.Paper.Step.{ClockAfter, StepOf}
 use Rattle.promises.specs.Paper.Run.{Moment, isTick, ticksIn, signalsAt, signalsIn, joinsAt, joinsIn, higher, WokenIn, TurnOf}
 use Rattle.promises.specs.Together.Tests.{neither-means}
 use Rattle.promises.specs.Kept.Steps.{Hangs, step-hangs}
+use Rattle.promises.specs.Runs.Keeping.{queued-asleep}
 use Rattle.promises.specs.Runs.OneStep.{sizes-after, sleeper-after, waker-after, woken-after, flags-of}
 use Rattle.promises.specs.Runs.GoingOn.{goes-running}
 use Rattle.promises.specs.Runs.Waiters.{turns-on, waits-on, turn-of}
@@ -74,8 +75,8 @@ module _ (t : Tables) (c : Clock) (g : Going t c) where
           time = time-kept (step-is t c s host);
         }
 
--- nobody is in the mask 0
-no-bit : (i : ℕ) → inMask i 0 ≡ false
+-- nobody is in the mask 0, and no flag in the set 0
+pub no-bit : (i : ℕ) → inMask i 0 ≡ false
 no-bit i = rw (zero-div (2 ^ i))
 
 -- ---- a. a timed sleep ends
@@ -172,7 +173,7 @@ turn-comes p near (s ∷ ss) (HostSteps.more h hs) t c g i l st pl none r =
     let u = stepped t c s .tables in
     let alone : joinsAt p i s ≡ false = rw (eq-eqb (stepped t c s .outcome .code) 0 e) at (no .0) in
     split (inMask i (stepped t c s .outcome .woken))
-    (λ w. WokenIn.now e w (turn-of t c s ht e p near i st pl (waking (sleeper-after t c s ht e i l (three st)) w)))
+    (λ w. WokenIn.now e w (turn-of t c s ht e p near i st pl (waking (sleeper-after t c s ht e i l (queued-asleep st)) w)))
     (λ w.
     let on = waits-on t c s ht e p near i l alone st pl w in
     let fewer = turns-on t c s ht e p near i l alone st pl w in
@@ -187,9 +188,6 @@ turn-comes p near (s ∷ ss) (HostSteps.more h hs) t c g i l st pl none r =
     (subst (λ (v : Tables). WokenIn i (TurnAt p i) (moments v (stepped t c s .clock) ss)) (sym (q .tables))
     (subst (λ (k : Clock). WokenIn i (TurnAt p i) (moments t k ss)) (sym (q .clock))
     (turn-comes p near ss hs t c g i l st pl (rw (q .tables, q .clock) at (no .1)) (omega (arith, r'))))))
-  where
-    three : {n : ℕ} → n ≡ 3 → n ≢ 0
-    three e z = omega arith
 
 -- ---- b. each step, and each thread
 

@@ -159,7 +159,7 @@ module _ (t : Tables) (c : Clock) (s : Step) (host : Host t c s) (e : stepped t 
   few = hangs t c s host accepted .together .good .sizes .threads .1
 
   module _ (i : ℕ) (within : i < t .sizes .threads) where
-    someone : i ≢ 255
+    pub someone : i ≢ 255
     someone z = omega (arith, z, within, few)
 
     pub fits : ThreadFits (t .sizes) (rowOf t i)

@@ -30,12 +30,8 @@ use Rattle.promises.specs.Paper.Waking.{
   againRow,
   SleeperAfter,
 }
-use Rattle.promises.specs.Runs.Keeping.{put-same, put-other, Ends, SideOf, Keeps}
+use Rattle.promises.specs.Runs.Keeping.{put-same, put-other, queued-asleep, Ends, SideOf, Keeps}
 use Rattle.promises.specs.Runs.OneRow.{flagsTaken, mail-other, Stands, row-stays, ready-stays, RowOn, row-keeps}
-
--- nobody is ready and queued
-pub zero-three : _≡_ {A = ℕ} 0 3 → ⊥
-zero-three x = omega arith
 
 -- a thread without a call has no event wait
 pub no-event : {n : ℕ} → n ≡ 0 → n ≢ 14
@@ -109,7 +105,7 @@ module _ (t : Tables) (s : Step) (i : ℕ) (someone : i ≢ 255) (within : i < t
   not-on e z = before (sym (ap (λ (u : Thread). u .state) e) ∙ z)
 
   not-again : {r : Thread} → r ≡ againRow s i a → r .state ≢ 0
-  not-again e z = zero-three (sym z ∙ ap (λ (u : Thread). u .state) e)
+  not-again e = queued-asleep (ap (λ (u : Thread). u .state) e)
 
   module _ {r : Thread} {w f : Bool} where
     -- ---- it is woken

@@ -1,8 +1,6 @@
 -- Whose mailbox call it is that a step tries: its own, or one that a record kept.
 use Prim.Native.Nat.{ℕ, zero, suc, _-_, _<_}
-use native.Mathlib.Omega.{arith}
 use mathlib.Core.Path.{_≡_, refl, sym, ap, _∙_, subst}
-use mathlib.Core.Logic.{inl, inr}
 use lib.Dec.{eqb}
 use lib.Bits.{bitAnd, bitOr}
 use lib.IntN.{ℤ, pos, negsuc}
@@ -27,6 +25,7 @@ use Rattle.promises.specs.Paper.World.{
 use Rattle.promises.specs.Paper.Rows.{TickOf, Ticks, pendingTo, tookFlags, flagged, EventSignal}
 use Rattle.promises.specs.Paper.Waking.{IsMailing, Tried}
 use Rattle.promises.specs.Runs.Keeping.{put-same, put-other, Moves, Keeps}
+use Rattle.promises.specs.Runs.OneRow.{mail-other}
 
 module _ (t : Tables) (s : Step) where
   -- the sizes are the tables', and every mailbox call in the records is one that the step tries
@@ -41,11 +40,6 @@ module _ (t : Tables) (s : Step) where
     none : d ≡ noCall → CallAfter c d
     begun : (IsMailing (d .kind) → Tried t s (d .kind) (d .object)) → CallAfter c d
 
-  no-box : IsMailing 0 → ⊥
-  no-box (inl (inl e)) = omega arith
-  no-box (inl (inr e)) = omega arith
-  no-box (inr e) = omega arith
-
   kept-on : (w x : World) → x .sizes ≡ w .sizes → ((j : ℕ) → CallAfter (w .thread j .call) (x .thread j .call)) → Kept w → Kept x
   kept-on w x z h k = record { sizes = z ∙ k .sizes; tried = λ j l m. one j l (h j) m }
     where
@@ -53,7 +47,7 @@ module _ (t : Tables) (s : Step) where
           → Tried t s (x .thread j .call .kind) (x .thread j .call .object)
       one j l (CallAfter.same e) m =
           subst (λ (c : Call). Tried t s (c .kind) (c .object)) (sym e) (k .tried j l (subst (λ (c : Call). IsMailing (c .kind)) e m))
-      one j l (CallAfter.none e) m = absurd (no-box (subst (λ (c : Call). IsMailing (c .kind)) e m))
+      one j l (CallAfter.none e) m = absurd (mail-other m .1 (ap (λ (c : Call). c .kind) e))
       one j l (CallAfter.begun b) m = b m
 
   -- one record changes

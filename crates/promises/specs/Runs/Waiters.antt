@@ -25,7 +25,7 @@ use Rattle.promises.specs.Paper.Run.{signalsAt, joinsAt, higher, TurnOf}
 use Rattle.promises.specs.Together.Tests.{either-means}
 use Rattle.promises.specs.Meant.Together.{rules-together}
 use Rattle.promises.specs.Meant.Step.{hangs}
-use Rattle.promises.specs.Runs.Keeping.{put-same}
+use Rattle.promises.specs.Runs.Keeping.{put-same, queued-asleep}
 use Rattle.promises.specs.Runs.OneStep.{accepted, unbroken, fits, x₀, act, woken-seen, sleeper-after, waker-after}
 
 -- ---- counting
@@ -213,11 +213,8 @@ module _ (t : Tables) (c : Clock) (s : Step) (host : Host t c s) (e : stepped t 
           same-or (rowOf t j .state) 0 (λ z. absurd (ready-before q (waker-after t c s host e j (omega arith) z)))
           (λ d. slept q d (sleeper-after t c s host e j (omega arith) d))
         where
-          three : _≡_ {A = ℕ} 0 3 → ⊥
-          three x = omega arith
-
           ready-before : (rowOf u j .state ≡ 3) × (rowOf u j .place ≡ p) → {b : Bool} → WakerAfter t s j (rowOf u j) b → ⊥
-          ready-before q (WakerAfter.unwoken z w) = three (sym z ∙ q .0)
+          ready-before q (WakerAfter.unwoken z w) = queued-asleep (q .0) z
           ready-before q (WakerAfter.own-sleep a st pl o h) =
               contrary (joins i (omega (arith, a, l)) (h (q .0) (omega (arith, near, q .1))) (q .1)) none
           ready-before q (WakerAfter.tried-again a m h) = h (q .0) (omega (arith, near, q .1))
@@ -228,8 +225,8 @@ module _ (t : Tables) (c : Clock) (s : Step) (host : Host t c s) (e : stepped t 
               let st : rowOf t j .state ≡ 3 = sym (ap (λ (r : Thread). r .state) x) ∙ q .0 in
               let pl : rowOf t j .place ≡ p = sym (ap (λ (r : Thread). r .place) x) ∙ q .1 in
               rw (st, pl, eq-eqb p p refl)
-          slept q d (SleeperAfter.ready m b r g x w f) = absurd (three (sym (ap (λ (r : Thread). r .state) x) ∙ q .0))
-          slept q d (SleeperAfter.done m y v f b g x w z) = absurd (three (sym (ap (λ (r : Thread). r .state) x) ∙ q .0))
+          slept q d (SleeperAfter.ready m b r g x w f) = absurd (queued-asleep (q .0) (ap (λ (r : Thread). r .state) x))
+          slept q d (SleeperAfter.done m y v f b g x w z) = absurd (queued-asleep (q .0) (ap (λ (r : Thread). r .state) x))
           slept q d (SleeperAfter.again g b x w f) =
               let pl : rowOf t j .place ≡ p = sym (ap (λ (r : Thread). r .place) x) ∙ q .1 in
               absurd (mail-far (fits t c s host e j (omega arith) .wait) d g (omega (arith, near, pl)))

@@ -12,10 +12,9 @@ use Rattle.library.specs.declared.tables.Tables.{Tables}
 use Rattle.promises.specs.Paper.World.{World, noCall, found, readyWith, callEnded, asleep}
 use Rattle.promises.specs.Paper.Rows.{pendingTo}
 use Rattle.promises.specs.Paper.Waking.{rowOf, IsMailing, OwnWait, WakerAfter}
-use Rattle.promises.specs.Runs.Keeping.{SideOf, Keeps}
+use Rattle.promises.specs.Runs.Keeping.{queued-asleep, SideOf, Keeps}
 use Rattle.promises.specs.Runs.OneRow.{mail-other, Stands, row-keeps}
 use Rattle.promises.specs.Runs.Passing.{Passed, found-passed, ticks-passed, events-passed}
-use Rattle.promises.specs.Runs.Sleepers.{zero-three}
 
 -- a side's queue is no semaphore's
 side-far : {c : Call} {q : ℕ} → SideOf c q → q < 20 → ⊥
@@ -54,8 +53,8 @@ module _ (t : Tables) (s : Step) (i : ℕ) (someone : i ≢ 255) (was-ready : ro
     -- it is woken, if it fell asleep before
     woken-calm : (m : ℤ) → r .state ≢ 0 → Calm r w → Calm (readyWith r m) true
     woken-calm m n (Calm.ready z u k c) = absurd (n z)
-    woken-calm m n (Calm.own c st pl o h) = Calm.own c st pl o (λ e. absurd (zero-three e))
-    woken-calm m n (Calm.tried g k h) = Calm.tried g k (λ e. absurd (zero-three e))
+    woken-calm m n (Calm.own c st pl o h) = Calm.own c st pl o (λ e. absurd (queued-asleep e refl))
+    woken-calm m n (Calm.tried g k h) = Calm.tried g k (λ e. absurd (queued-asleep e refl))
 
     -- a mailbox call, tried again, sleeps again
     again-calm : (q : ℕ) → IsMailing (r .call .kind) → r .message ≡ pos 0 → SideOf (r .call) q → Calm r w → Calm (asleep r 3 q (r .call)) w

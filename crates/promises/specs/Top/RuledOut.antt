@@ -1,12 +1,12 @@
 -- What the statements of the demands rule out, each in a line or two: answers and wakings that no step gives.
-use Prim.Native.Nat.{ℕ, _+_, _/_, _%_, _^_, _≤_, _<_}
+use Prim.Native.Nat.{ℕ, _/_, _%_, _^_, _≤_, _<_}
 use native.Mathlib.Omega.{arith}
 use mathlib.Core.Path.{_≡_, refl, sym, ap, _∙_, subst}
 use mathlib.Core.Logic.{_≢_, inl, inr}
 use mathlib.Core.Bool.{Bool, true, false, cond, not, _&&_, true≢false}
 use lib.Dec.{eqb, ltb}
 use lib.ListN.{getD}
-use lib.IntN.{ℤ, pos, negsuc}
+use lib.IntN.{ℤ, pos, negsuc, natAbs, pos-ne-negsuc}
 use borrow.Author.Tests.{eqb-true, le-ltb}
 use Rattle.kernel.specs.declared.records.Answer.{Answer}
 use Rattle.kernel.specs.declared.records.Thread.{Thread}
@@ -21,14 +21,9 @@ use Rattle.promises.specs.Paper.Waking.{rowOf, inMask, heard, AnswerOf, 
 use Rattle.promises.specs.Paper.Flags.{awaitsFlags, FlagsAfter}
 use Rattle.promises.specs.Paper.Run.{TurnOf}
 
--- how far below 0 a message is
-abbrev depth : ℤ → ℕ
-depth (pos n) = 0
-depth (negsuc n) = n + 1
-
 -- -1 and -2 are not 0
 below : {n : ℕ} → _≡_ {A = ℤ} (negsuc n) (pos 0) → ⊥
-below e = omega (arith, ap depth e)
+below {n} e = pos-ne-negsuc 0 n (sym e)
 
 -- an event wait that timed out answers -1 and no flags, and takes none
 pub late-flags : {a : Thread} {f e d : ℕ} {x : ℤ} → AnswerOf a f (negsuc 0) x d e → (x ≡ negsuc 0) × (d ≡ 0) × (e ≡ f)
@@ -80,7 +75,7 @@ no-pool-reset l (TurnOf.object k o) e = below (sym e)
 no-pool-reset l (TurnOf.last-tick k r) e = one-two (sym e)
   where
     one-two : _≡_ {A = ℤ} (negsuc 1) (negsuc 0) → ⊥
-    one-two x = omega (arith, ap depth x)
+    one-two x = omega (arith, ap natAbs x)
 no-pool-reset l (TurnOf.reset k o h) e = omega (arith, l, h)
 
 -- a tick wakes nobody who was ready: no sleep, waking and end is made up on the way

@@ -6,7 +6,8 @@ use mathlib.Core.Bool.{false}
 use lib.ListN.{length, drop, getD}
 use borrow.Author.Needs.{needs}
 use Rattle.steps.specs.Stepping.{maskOf}
-use Rattle.steps.proofs.Masks.{bit-le, mask-room, mask-more, mask-none}
+use Rattle.kernel.proofs.WalkLaws.{bit-le}
+use Rattle.steps.proofs.Masks.{mask-room, mask-more, mask-none}
 use Rattle.steps.proofs.stepping.mask_of.Statement.{statement}
 use Rattle.steps.proofs.stepping.mask_of.Tie as tie
 
