@@ -1,7 +1,6 @@
 // Which rule of "tables that hang together" the tables of a host break first. docs/RULES.md has the rules by their numbers.
 use kernel::clock::Clock;
 use library::tables::Tables;
-use library::tables::open;
 use rules::finding::find_broken;
 ghost use mathlib.Core.Path.{_≡_};
 ghost use Rattle.host.specs.Broken.{brokenNumber};
@@ -10,7 +9,7 @@ ghost use Rattle.host.specs.Broken.{brokenNumber};
 fn number_broken(tables: Tables, clock: Clock) -> u32
     ensures { λ r. ⌜ r ≡ brokenNumber tables clock ⌝ }
 {
-    let found = find_broken(open(tables), clock);
+    let found = find_broken(tables, clock);
     found.rule as u32 * 256 + found.row as u32
 }
 

@@ -12,7 +12,7 @@ fn count_ready(t: Tables) -> u32
 {
     let kernel = t.kernel;
     let words = kernel.words;
-    count_in(words.ready)
+    count_in(words.ready) as u32
 }
 
 // The first of them, or 255, by value.
@@ -21,7 +21,7 @@ fn find_ready(t: Tables) -> u32
 {
     let kernel = t.kernel;
     let words = kernel.words;
-    first_in(words.ready)
+    first_in(words.ready) as u32
 }
 
 // The threads that wait at a place, by value.

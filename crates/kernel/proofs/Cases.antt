@@ -49,3 +49,9 @@ first-fails b e = rw e
 pub second-fails : (a : Bool) {b : Bool} → b ≡ false → a && b ≡ false
 second-fails true e = e
 second-fails false e = refl
+
+-- two tests with the same consequences are the same
+pub same-tests : (a b : Bool) → (a ≡ true → b ≡ true) → (b ≡ true → a ≡ true) → a ≡ b
+same-tests true b f g = sym (f refl)
+same-tests false true f g = g refl
+same-tests false false f g = refl

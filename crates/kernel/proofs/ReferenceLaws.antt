@@ -1,7 +1,6 @@
 -- Reference r holds i exactly if i is suspended on r, as an equation of two tests. Who is made ready leaves both sides, who is
 -- suspended on an empty reference joins both, and nobody else's side changes.
 use Prim.Native.Nat.{ℕ}
-use native.Mathlib.Omega.{arith}
 use mathlib.Core.Path.{_≡_}
 use mathlib.Core.Bool.{false}
 use lib.ListN.{length}

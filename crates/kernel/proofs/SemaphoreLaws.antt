@@ -1,7 +1,6 @@
 -- Semaphores keep the counter rule: a signal below 0 wakes a waiter, whom the rule says is there; a wait takes one, or sleeps at a
 -- counter not above 0; a reset leaves no waiter, so that any counter not below 0 is right.
 use Prim.Native.Nat.{ℕ}
-use native.Mathlib.Omega.{arith}
 use lib.IntN.{ℤ, pos}
 use lib.Signed.{ltZ}
 use Rattle.kernel.specs.declared.records.Kernel.{Kernel}
@@ -16,18 +15,18 @@ use Rattle.kernel.proofs.QueueLaws.{release-first-sizes, release-all-si
 
 -- ---- signal
 
-module _ (k : Kernel) (n p : ℕ) where
+module _ (k : Kernel) (p : ℕ) where
   -- the tables keep their lengths
-  pub signal-sizes : SameSizes k (signalled k n p)
+  pub signal-sizes : SameSizes k (signalled k p)
   unfolding signalled
   signal-sizes =
-      chosen (SameSizes k) (ltZ (counterAt k p) (pos 0)) (λ e. release-first-sizes k n p ok)
+      chosen (SameSizes k) (ltZ (counterAt k p) (pos 0)) (λ e. release-first-sizes k p ok)
       (λ e. counter-sizes k p (up (counterAt k p)))
 
 -- ---- reset
 
-module _ (k : Kernel) (n p : ℕ) (c : ℤ) where
+module _ (k : Kernel) (p : ℕ) (c : ℤ) where
   -- the tables keep their lengths
-  pub reset-sizes : SameSizes k (resetTo k n p c)
+  pub reset-sizes : SameSizes k (resetTo k p c)
   unfolding resetTo
-  reset-sizes = sizes-trans (release-all-sizes k n p wasReset) (counter-sizes (releasedAll k n p wasReset) p c)
+  reset-sizes = sizes-trans (release-all-sizes k p wasReset) (counter-sizes (releasedAll k p wasReset) p c)

@@ -92,12 +92,6 @@ use Rattle.kernel.proofs.tables.set_counter.Reads as tables-set-counter
 use Rattle.kernel.proofs.tables.set_counter.Kinds as tables-set-counter-kinds
 use Rattle.kernel.proofs.tables.holder_at.Reads as tables-holder-at
 use Rattle.kernel.proofs.tables.holder_at.Kinds as tables-holder-at-kinds
-use Rattle.kernel.proofs.tables.set_holder.Reads as tables-set-holder
-use Rattle.kernel.proofs.tables.set_holder.Kinds as tables-set-holder-kinds
-use Rattle.kernel.proofs.tables.mark_finished.Reads as tables-mark-finished
-use Rattle.kernel.proofs.tables.mark_finished.Kinds as tables-mark-finished-kinds
-use Rattle.kernel.proofs.tables.set_answer.Reads as tables-set-answer
-use Rattle.kernel.proofs.tables.set_answer.Kinds as tables-set-answer-kinds
 use Rattle.kernel.proofs.ticking.tick.Reads as ticking-tick
 use Rattle.kernel.proofs.ticking.tick.Kinds as ticking-tick-kinds
 use Rattle.kernel.proofs.time.add.Reads as time-add
@@ -118,14 +112,18 @@ use Rattle.kernel.proofs.units.from_ticks.Reads as units-from-ticks
 use Rattle.kernel.proofs.units.from_ticks.Kinds as units-from-ticks-kinds
 use Rattle.kernel.proofs.waiters.is_ready.Reads as waiters-is-ready
 use Rattle.kernel.proofs.waiters.is_ready.Kinds as waiters-is-ready-kinds
-use Rattle.kernel.proofs.waiters.is_queued_at.Reads as waiters-is-queued-at
-use Rattle.kernel.proofs.waiters.is_queued_at.Kinds as waiters-is-queued-at-kinds
 use Rattle.kernel.proofs.waiters.first_ready.Reads as waiters-first-ready
 use Rattle.kernel.proofs.waiters.first_ready.Kinds as waiters-first-ready-kinds
+use Rattle.kernel.proofs.waiters.is_free.Reads as waiters-is-free
+use Rattle.kernel.proofs.waiters.is_free.Kinds as waiters-is-free-kinds
+use Rattle.kernel.proofs.waiters.running_free.Reads as waiters-running-free
+use Rattle.kernel.proofs.waiters.running_free.Kinds as waiters-running-free-kinds
 use Rattle.kernel.proofs.waiters.first_waiter.Reads as waiters-first-waiter
 use Rattle.kernel.proofs.waiters.first_waiter.Kinds as waiters-first-waiter-kinds
 use Rattle.kernel.proofs.words.bit_value.Reads as words-bit-value
 use Rattle.kernel.proofs.words.bit_value.Kinds as words-bit-value-kinds
+use Rattle.kernel.proofs.words.has_bit.Reads as words-has-bit
+use Rattle.kernel.proofs.words.has_bit.Kinds as words-has-bit-kinds
 use Rattle.kernel.proofs.words.count_in.Reads as words-count-in
 use Rattle.kernel.proofs.words.count_in.Kinds as words-count-in-kinds
 use Rattle.kernel.proofs.words.first_in.Reads as words-first-in
@@ -277,15 +275,6 @@ tables-set-counter-one κs a e x y = coincide
 pub tables-holder-at-one : Fixes 0 tables-holder-at-kinds.ps tables-holder-at-kinds.r tables-holder-at.Post
 tables-holder-at-one κs a e x y = coincide
 
-pub tables-set-holder-one : Fixes 0 tables-set-holder-kinds.ps tables-set-holder-kinds.r tables-set-holder.Post
-tables-set-holder-one κs a e x y = coincide
-
-pub tables-mark-finished-one : Fixes 0 tables-mark-finished-kinds.ps tables-mark-finished-kinds.r tables-mark-finished.Post
-tables-mark-finished-one κs a e x y = coincide
-
-pub tables-set-answer-one : Fixes 0 tables-set-answer-kinds.ps tables-set-answer-kinds.r tables-set-answer.Post
-tables-set-answer-one κs a e x y = coincide
-
 pub ticking-tick-one : Fixes 0 ticking-tick-kinds.ps ticking-tick-kinds.r ticking-tick.Post
 ticking-tick-one κs a e x y = coincide
 
@@ -316,17 +305,23 @@ units-from-ticks-one κs a e x y = coincide
 pub waiters-is-ready-one : Fixes 0 waiters-is-ready-kinds.ps waiters-is-ready-kinds.r waiters-is-ready.Post
 waiters-is-ready-one κs a e x y = coincide
 
-pub waiters-is-queued-at-one : Fixes 0 waiters-is-queued-at-kinds.ps waiters-is-queued-at-kinds.r waiters-is-queued-at.Post
-waiters-is-queued-at-one κs a e x y = coincide
-
 pub waiters-first-ready-one : Fixes 0 waiters-first-ready-kinds.ps waiters-first-ready-kinds.r waiters-first-ready.Post
 waiters-first-ready-one κs a e x y = coincide
+
+pub waiters-is-free-one : Fixes 0 waiters-is-free-kinds.ps waiters-is-free-kinds.r waiters-is-free.Post
+waiters-is-free-one κs a e x y = coincide
+
+pub waiters-running-free-one : Fixes 0 waiters-running-free-kinds.ps waiters-running-free-kinds.r waiters-running-free.Post
+waiters-running-free-one κs a e x y = coincide
 
 pub waiters-first-waiter-one : Fixes 0 waiters-first-waiter-kinds.ps waiters-first-waiter-kinds.r waiters-first-waiter.Post
 waiters-first-waiter-one κs a e x y = coincide
 
 pub words-bit-value-one : Fixes 0 words-bit-value-kinds.ps words-bit-value-kinds.r words-bit-value.Post
 words-bit-value-one κs a e x y = coincide
+
+pub words-has-bit-one : Fixes 0 words-has-bit-kinds.ps words-has-bit-kinds.r words-has-bit.Post
+words-has-bit-one κs a e x y = coincide
 
 pub words-count-in-one : Fixes 0 words-count-in-kinds.ps words-count-in-kinds.r words-count-in.Post
 words-count-in-one κs a e x y = coincide

@@ -4,10 +4,10 @@ use native.Mathlib.Nat.{not-suc-le-zero, le-refl}
 use native.Mathlib.Omega.{arith}
 use mathlib.Core.Path.{_≡_, refl, sym, ap, _∙_}
 use mathlib.Core.Logic.{_≢_, _⊎_, inl, inr}
-use mathlib.Core.Bool.{Bool, true, false}
+use mathlib.Core.Bool.{Bool, true, false, _&&_}
 use Rattle.kernel.specs.Numbers.{nobody}
-use Rattle.kernel.specs.Walk.{each, firstFrom, bit, countOf}
-use Rattle.kernel.proofs.Cases.{split, same-or}
+use Rattle.kernel.specs.Walk.{each, firstFrom, allFrom, bit, countOf}
+use Rattle.kernel.proofs.Cases.{split, same-or, both-true, both-means, same-tests}
 
 -- r is the least of the indexes below n that pass
 pub record Least (f : ℕ → Bool) (n r : ℕ) : Type 0 where
@@ -95,6 +95,37 @@ count-none f (suc n) e = rw (e n (omega arith), count-none f n (λ i l. e i (ome
 -- where any is counted there is a first
 pub counted-first : (f : ℕ → Bool) (n : ℕ) → 1 ≤ countOf f n → Least f n (firstFrom f 0 n)
 counted-first f n h = elim (first-cases f n) [ inl c ↦ c | inr c ↦ absurd (omega (arith, count-none f n (c .1))) ]
+
+-- all of the n indexes from i on pass: each does
+all-from-at : (f : ℕ → Bool) (i n j : ℕ) → allFrom f i n ≡ true → i ≤ j → j < i + n → f j ≡ true
+unfolding allFrom
+all-from-at f i zero j e a b = absurd (omega arith)
+all-from-at f i (suc n) j e a b =
+    let x = both-means (f i) (allFrom f (suc i) n) e in
+    same-or j i (λ s. rw s (x .0)) (λ s. all-from-at f (suc i) n j (x .1) (omega arith) (omega arith))
+
+all-from-of : (f : ℕ → Bool) (i n : ℕ) → ((j : ℕ) → i ≤ j → j < i + n → f j ≡ true) → allFrom f i n ≡ true
+unfolding allFrom
+all-from-of f i zero h = refl
+all-from-of f i (suc n) h =
+    both-true (h i (omega arith) (omega arith)) (all-from-of f (suc i) n (λ j a b. h j (omega arith) (omega arith)))
+
+-- all indexes below n pass: each does
+pub all-at : (f : ℕ → Bool) (n i : ℕ) → allFrom f 0 n ≡ true → i < n → f i ≡ true
+all-at f n i e h = all-from-at f 0 n i e (omega arith) (omega arith)
+
+-- and if each does, all pass
+pub all-of : (f : ℕ → Bool) (n : ℕ) → ((i : ℕ) → i < n → f i ≡ true) → allFrom f 0 n ≡ true
+all-of f n h = all-from-of f 0 n (λ j a b. h j (omega arith))
+
+-- one index more is tested
+pub all-more : (f : ℕ → Bool) (n : ℕ) → allFrom f 0 (n + 1) ≡ allFrom f 0 n && f n
+all-more f n =
+    same-tests (allFrom f 0 (n + 1)) (allFrom f 0 n && f n)
+    (λ e. both-true (all-of f n (λ i h. all-at f (n + 1) i e (omega arith))) (all-at f (n + 1) n e (omega arith)))
+    (λ e.
+    let x = both-means (allFrom f 0 n) (f n) e in
+    all-of f (n + 1) (λ i h. same-or i n (λ s. rw s (x .1)) (λ d. all-at f n i (x .0) (omega arith))))
 
 -- what the body keeps, the walk keeps
 pub each-keeps : {A : Type 0} (P : A → Type 0) (f : ℕ → A → A) (n : ℕ) → ((i : ℕ) → i < n → (a : A) → P a → P (f i a))

@@ -20,7 +20,7 @@ use Rattle.kernel.specs.Numbers.{nobody, queued}
 use Rattle.kernel.specs.Walk.{bit, countOf, firstFrom}
 use Rattle.kernel.specs.Words.{digit, hasBit, wordOf, onesOf, firstOf, bitValue, withBit, withoutBit, waitingAt, notedReady, notedAsleep}
 use Rattle.kernel.proofs.Cases.{split, same-or, in-or-out, chosen}
-use Rattle.kernel.proofs.WalkLaws.{None, bit-le, count-agree, search-agree}
+use Rattle.kernel.proofs.WalkLaws.{None, bit-le, count-le, count-agree, search-agree}
 
 -- ---- digits
 
@@ -35,6 +35,12 @@ digit-half w i = rw (pow-succ' 2 i, ← div-div-eq-div-mul w 2 (2 ^ i))
 -- no word, no digit
 pub digit-none : (i : ℕ) → digit 0 i ≡ 0
 digit-none i = rw (zero-div (2 ^ i))
+
+-- a word below 2 ^ n has no digit from n on
+digit-past : (n w i : ℕ) → w < 2 ^ n → n ≤ i → digit w i ≡ 0
+digit-past zero w i h g = let empty : w ≡ 0 = omega arith in rw empty (digit-none i)
+digit-past (suc n) w zero h g = absurd (omega arith)
+digit-past (suc n) w (suc i) h g = rw (digit-half w i) (digit-past n (w / 2) i (omega (arith, pow-suc 2 n)) (omega arith))
 
 -- a digit is 0 or 1
 pub digit-bit : (w i : ℕ) → digit w i ≡ bit (hasBit w i)
@@ -156,10 +162,10 @@ power-other (suc i) (suc j) n =
     let half : 2 ^ suc i / 2 ≡ 2 ^ i = rw (pow-suc 2 i) (omega arith) in
     rw (digit-half (2 ^ suc i) j, half) (power-other i j (λ e. n (ap suc e)))
 
-value-same : (i : ℕ) → i < 16 → digit (bitValue i) i ≡ 1
+pub value-same : (i : ℕ) → i < 16 → digit (bitValue i) i ≡ 1
 value-same i h = rw (lt-ltb i 16 h) (power-same i)
 
-value-other : (i j : ℕ) → j ≢ i → digit (bitValue i) j ≡ 0
+pub value-other : (i j : ℕ) → j ≢ i → digit (bitValue i) j ≡ 0
 value-other i j n = in-or-out i 16 (λ h. rw (lt-ltb i 16 h) (power-other i j n)) (λ h. rw (le-ltb i 16 h) (digit-none j))
 
 differ-same : (p : ℕ) → p < 2 → differ p (min p 1) ≡ 0
@@ -379,6 +385,15 @@ first-past f (suc n) d i o =
 pub ones-of : (w : ℕ) → w < 65536 → ones w ≡ onesOf w
 unfolding onesOf
 ones-of w h = ones-count (hasBit w) 16 w h (λ i l. digit-bit w i)
+
+-- .. of which there are 16 at most
+pub ones-le : (w : ℕ) → w < 65536 → ones w ≤ 16
+unfolding onesOf
+ones-le w h = rw (ones-of w h) (count-le (hasBit w) 16)
+
+-- a word has no bit from 16 on
+pub bit-past : (w i : ℕ) → w < 65536 → 16 ≤ i → hasBit w i ≡ false
+bit-past w i h g = digit-test w i false (digit-past 16 w i h g)
 
 -- "the number of trailing zeros"
 pub first-some : (w : ℕ) → trailingZeros 16 w < 16 → trailingZeros 16 w ≡ firstOf w

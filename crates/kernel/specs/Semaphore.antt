@@ -20,10 +20,10 @@ unfoldable pub waited : Kernel → ℕ → ℕ → Call → Kernel
 waited k i p call = cond (ltZ (pos 0) (counterAt k p)) (finished (taken k p) i ok 0) (enqueued k i p call)
 
 -- "counter +1; if it was below 0, the highest-priority waiter is made ready with 0": being made ready raises the counter
-unfoldable pub signalled : Kernel → ℕ → ℕ → Kernel
-signalled k n p =
-    cond (ltZ (counterAt k p) (pos 0)) (releasedFirst k n p ok) (withCounter k p (up (counterAt k p)))
+unfoldable pub signalled : Kernel → ℕ → Kernel
+signalled k p =
+    cond (ltZ (counterAt k p) (pos 0)) (releasedFirst k p ok) (withCounter k p (up (counterAt k p)))
 
 -- "counter becomes a; all waiters are made ready with -2"
-unfoldable pub resetTo : Kernel → ℕ → ℕ → ℤ → Kernel
-resetTo k n p c = withCounter (releasedAll k n p wasReset) p c
+unfoldable pub resetTo : Kernel → ℕ → ℤ → Kernel
+resetTo k p c = withCounter (releasedAll k p wasReset) p c

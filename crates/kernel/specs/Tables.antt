@@ -1,6 +1,7 @@
 -- The tables read and written at an index: past the end a read gives the blank, and a write changes nothing.
 use Prim.Native.Nat.{ℕ}
 use mathlib.Core.Bool.{true, cond}
+use mathlib.Core.List.{List}
 use lib.Dec.{ltb}
 use lib.ListN.{getD, set}
 use lib.IntN.{ℤ, pos}
@@ -15,15 +16,24 @@ use Rattle.kernel.specs.Records.{blank}
 abbrev pub usedRows : ℕ → ℕ
 usedRows n = cond (ltb n 16) n 16
 
+abbrev pub rowIn : List Thread → ℕ → Thread
+rowIn threads i = getD threads i blank
+
 abbrev pub threadAt : Kernel → ℕ → Thread
-threadAt k i = getD (k .threads) i blank
+threadAt k i = rowIn (k .threads) i
+
+abbrev pub counterIn : List ℤ → ℕ → ℤ
+counterIn counters p = getD counters p (pos 0)
 
 abbrev pub counterAt : Kernel → ℕ → ℤ
-counterAt k p = getD (k .counters) p (pos 0)
+counterAt k p = counterIn (k .counters) p
 
 -- whom a reference holds
+abbrev pub holderIn : List ℕ → ℕ → ℕ
+holderIn references r = getD references r nobody
+
 abbrev pub holderAt : Kernel → ℕ → ℕ
-holderAt k r = getD (k .references) r nobody
+holderAt k r = holderIn (k .references) r
 
 abbrev pub withThread : Kernel → ℕ → Thread → Kernel
 withThread k i t =

@@ -33,7 +33,8 @@ fn is_met(t: Thread) -> bool
 pub fn take_flags(k: Kernel, i: u8, mask: u32) -> Kernel
     ensures { λ r. ⌜ r ≡ tookFlags k i mask ⌝ }
 {
-    let mut t = thread_at(k, i);
+    let threads = k.threads;
+    let mut t = thread_at(threads, i);
     let found = t.pending & mask;
     t.pending = t.pending - found;
     finish(set_thread(k, i, t), i, OK, found)
@@ -44,7 +45,8 @@ pub fn take_flags(k: Kernel, i: u8, mask: u32) -> Kernel
 pub fn signal_events(k: Kernel, i: u8, mask: u32) -> Kernel
     ensures { λ r. ⌜ r ≡ eventSignalled k i mask ⌝ }
 {
-    let t = flag(thread_at(k, i), mask);
+    let threads = k.threads;
+    let t = flag(thread_at(threads, i), mask);
     let f = set_thread(k, i, t);
     if is_met(t) { wake(f, i, OK) } else { f }
 }
@@ -53,7 +55,8 @@ pub fn signal_events(k: Kernel, i: u8, mask: u32) -> Kernel
 pub fn wait_events(k: Kernel, i: u8, call: Call) -> Kernel
     ensures { λ r. ⌜ r ≡ eventWaited k i call ⌝ }
 {
-    let t = thread_at(k, i);
+    let threads = k.threads;
+    let t = thread_at(threads, i);
     let mask = call.operand;
     if t.pending & mask != 0 {
         take_flags(k, i, mask)

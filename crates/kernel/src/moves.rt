@@ -11,7 +11,6 @@ use crate::numbers::NOWHERE;
 use crate::numbers::QUEUED;
 use crate::numbers::READY;
 use crate::numbers::SUSPENDED;
-use crate::numbers::THREADS;
 use crate::numbers::TIMED_OUT;
 use crate::records::Answer;
 use crate::records::Call;
@@ -19,17 +18,10 @@ use crate::records::Kernel;
 use crate::records::Thread;
 use crate::records::no_answer;
 use crate::records::no_call;
-use crate::tables::counter_at;
-use crate::tables::mark_finished;
-use crate::tables::set_answer;
-use crate::tables::set_counter;
-use crate::tables::set_holder;
-use crate::tables::set_thread;
-use crate::tables::thread_at;
 use crate::words::note_asleep;
 use crate::words::note_ready;
 ghost use mathlib.Core.Path.{_≡_};
-ghost use Rattle.kernel.specs.Moves.{readied, ticksOf, awaitedBy, asleep, answered, takenOff, putOn, woken, slept, finished, blocked};
+ghost use Rattle.kernel.specs.Moves.{readied, ticksOf, awaitedBy, asleep, answered, woken, slept, finished, blocked};
 
 // The row of a thread that is made ready with message m.
 fn ready_row(t: Thread, m: i32) -> Thread
@@ -88,65 +80,59 @@ fn answered_row(t: Thread, answer: Answer) -> Thread
     r
 }
 
-// A thread leaves what it waits on: its queue, whose counter rises, or its reference, which is emptied.
-fn take_off(k: Kernel, state: u16, place: u16) -> Kernel
-    ensures { λ r. ⌜ r ≡ takenOff k state place ⌝ }
-{
-    if state == QUEUED {
-        set_counter(k, place, count_up(counter_at(k, place)))
-    } else if state == SUSPENDED {
-        set_holder(k, place, NOBODY)
-    } else {
-        k
-    }
-}
-
-// Thread i joins what it will wait on: a queue, whose counter falls, or a reference, which then holds it.
-fn put_on(k: Kernel, i: u8, state: u16, place: u16) -> Kernel
-    ensures { λ r. ⌜ r ≡ putOn k i state place ⌝ }
-{
-    if state == QUEUED {
-        set_counter(k, place, count_down(counter_at(k, place)))
-    } else if state == SUSPENDED {
-        set_holder(k, place, i)
-    } else {
-        k
-    }
-}
-
-// Thread i is made ready with message m; nothing changes where there is no thread i.
+// Thread i is made ready with message m, and leaves what it waits on: its queue, whose counter rises, or its reference, which is
+// emptied. Nothing changes where there is no thread i.
 pub fn wake(k: Kernel, i: u8, m: i32) -> Kernel
     ensures { λ r. ⌜ r ≡ woken k i m ⌝ }
 {
-    let t = thread_at(k, i);
-    let words = k.words;
-    let noted = note_ready(words, i, t.state, t.place);
-    let mut r = take_off(k, t.state, t.place);
+    let mut r = k;
     let at = i as usize;
     if at < 16 {
+        let t = r.threads[at];
+        let words = r.words;
+        let place = t.place as usize;
+        if t.state == QUEUED {
+            if place < 36 {
+                let c = r.counters[place];
+                r.counters[place] = count_up(c);
+            }
+        } else if t.state == SUSPENDED {
+            if place < 8 {
+                r.references[place] = NOBODY;
+            }
+        }
+        r.words = note_ready(words, i, t.state, t.place);
         r.threads[at] = ready_row(t, m);
         r.woken[at] = true;
-        r.words = noted;
     }
     r
 }
 
-// Thread i goes to sleep in a call; nothing changes where there is no thread i.
+// Thread i goes to sleep in a call, and joins what it will wait on: a queue, whose counter falls, or a reference, which then holds
+// it. Nothing changes where there is no thread i.
 pub fn sleep(k: Kernel, i: u8, state: u16, place: u16, call: Call) -> Kernel
     ensures { λ r. ⌜ r ≡ slept k i state place call ⌝ }
 {
-    if i < THREADS {
-        let at = i as usize;
-        let t = k.threads[at];
-        let words = k.words;
-        let noted = note_asleep(words, i, state, place);
-        let mut r = put_on(k, i, state, place);
+    let mut r = k;
+    let at = i as usize;
+    if at < 16 {
+        let t = r.threads[at];
+        let words = r.words;
+        let p = place as usize;
+        if state == QUEUED {
+            if p < 36 {
+                let c = r.counters[p];
+                r.counters[p] = count_down(c);
+            }
+        } else if state == SUSPENDED {
+            if p < 8 {
+                r.references[p] = i;
+            }
+        }
+        r.words = note_asleep(words, i, state, place);
         r.threads[at] = sleeping_row(t, state, place, call);
-        r.words = noted;
-        r
-    } else {
-        k
     }
+    r
 }
 
 // The call of thread i is finished with an answer; NOBODY stands for an interrupt, whose answer is kept beside the tables.
@@ -157,12 +143,16 @@ pub fn finish(k: Kernel, i: u8, message: i32, datum: u32) -> Kernel
         message: message,
         datum: datum,
     };
+    let mut r = k;
+    let at = i as usize;
     if i == NOBODY {
-        set_answer(k, answer)
-    } else {
-        let t = thread_at(k, i);
-        mark_finished(set_thread(k, i, answered_row(t, answer)), i)
+        r.answer = answer;
+    } else if at < 16 {
+        let t = r.threads[at];
+        r.threads[at] = answered_row(t, answer);
+        r.finished[at] = true;
     }
+    r
 }
 
 // What cannot be had at once: a timeout of 0 answers -1 and changes nothing else, any other goes to sleep.

@@ -2,11 +2,12 @@
 use crate::moves::block;
 use crate::moves::wake;
 use crate::numbers::QUEUED;
+use crate::numbers::THREADS;
 use crate::records::Call;
 use crate::records::Kernel;
-use crate::tables::used_rows;
 use crate::waiters::first_waiter;
-use crate::waiters::is_queued_at;
+use crate::words::has_bit;
+use crate::words::waiting_at;
 ghost use mathlib.Core.Path.{_≡_};
 ghost use Rattle.kernel.specs.Queue.{enqueued, releasedFirst, releasedAll};
 
@@ -17,23 +18,23 @@ pub fn enqueue(k: Kernel, i: u8, place: u16, call: Call) -> Kernel
     block(k, i, QUEUED, place, call)
 }
 
-// The first of n threads that waits at the place is made ready with m; with nobody there nothing changes: chThdDequeueNextI.
-pub fn release_first(k: Kernel, n: u16, place: u16, m: i32) -> Kernel
-    ensures { λ r. ⌜ r ≡ releasedFirst k n place m ⌝ }
+// The first thread that waits at the place is made ready with m; with nobody there nothing changes: chThdDequeueNextI.
+pub fn release_first(k: Kernel, place: u16, m: i32) -> Kernel
+    ensures { λ r. ⌜ r ≡ releasedFirst k place m ⌝ }
 {
-    wake(k, first_waiter(k, n, place), m)
+    wake(k, first_waiter(k, place), m)
 }
 
-// All of n threads that wait at the place are made ready with m, in index order: chThdDequeueAllI.
-pub fn release_all(k: Kernel, n: u16, place: u16, m: i32) -> Kernel
-    ensures { λ r. ⌜ r ≡ releasedAll k n place m ⌝ }
+// All threads that wait at the place are made ready with m, in index order: chThdDequeueAllI.
+pub fn release_all(k: Kernel, place: u16, m: i32) -> Kernel
+    ensures { λ r. ⌜ r ≡ releasedAll k place m ⌝ }
 {
-    let end = used_rows(n);
+    let words = k.words;
+    let word = waiting_at(words, place as u32);
     let mut r = k;
     let mut i: u8 = 0;
-    while i < end {
-        let t = r.threads[i as usize];
-        if is_queued_at(t, place) {
+    while i < THREADS {
+        if has_bit(word, i) {
             r = wake(r, i, m);
         }
         i += 1;

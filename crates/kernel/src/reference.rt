@@ -19,5 +19,6 @@ pub fn suspend(k: Kernel, i: u8, reference: u16, call: Call) -> Kernel
 pub fn resume(k: Kernel, reference: u16, m: i32) -> Kernel
     ensures { λ r. ⌜ r ≡ resumed k reference m ⌝ }
 {
-    wake(k, holder_at(k, reference), m)
+    let references = k.references;
+    wake(k, holder_at(references, reference), m)
 }

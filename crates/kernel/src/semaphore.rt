@@ -18,14 +18,16 @@ ghost use Rattle.kernel.specs.Semaphore.{taken, waited, signalled, reset
 pub fn take(k: Kernel, place: u16) -> Kernel
     ensures { λ r. ⌜ r ≡ taken k place ⌝ }
 {
-    set_counter(k, place, count_down(counter_at(k, place)))
+    let counters = k.counters;
+    set_counter(k, place, count_down(counter_at(counters, place)))
 }
 
 // Thread i waits for the semaphore: chSemWaitTimeoutS.
 pub fn wait(k: Kernel, i: u8, place: u16, call: Call) -> Kernel
     ensures { λ r. ⌜ r ≡ waited k i place call ⌝ }
 {
-    if 0 < counter_at(k, place) {
+    let counters = k.counters;
+    if 0 < counter_at(counters, place) {
         finish(take(k, place), i, OK, 0)
     } else {
         enqueue(k, i, place, call)
@@ -34,20 +36,21 @@ pub fn wait(k: Kernel, i: u8, place: u16, call: Call) -> Kernel
 
 // Below 0 the highest waiter is made ready with 0, which raises the counter; else the counter is raised: chSemSignalI.
 // At 2147483647 the counter stays: a step refuses that signal before it gets here.
-pub fn signal(k: Kernel, n: u16, place: u16) -> Kernel
-    ensures { λ r. ⌜ r ≡ signalled k n place ⌝ }
+pub fn signal(k: Kernel, place: u16) -> Kernel
+    ensures { λ r. ⌜ r ≡ signalled k place ⌝ }
 {
-    let c = counter_at(k, place);
+    let counters = k.counters;
+    let c = counter_at(counters, place);
     if c < 0 {
-        release_first(k, n, place, OK)
+        release_first(k, place, OK)
     } else {
         set_counter(k, place, count_up(c))
     }
 }
 
 // All waiters are made ready with -2, and the counter becomes c: chSemResetI.
-pub fn reset(k: Kernel, n: u16, place: u16, c: i32) -> Kernel
-    ensures { λ r. ⌜ r ≡ resetTo k n place c ⌝ }
+pub fn reset(k: Kernel, place: u16, c: i32) -> Kernel
+    ensures { λ r. ⌜ r ≡ resetTo k place c ⌝ }
 {
-    set_counter(release_all(k, n, place, WAS_RESET), place, c)
+    set_counter(release_all(k, place, WAS_RESET), place, c)
 }

@@ -1,14 +1,12 @@
-// One accessor pair for each table. Past a table's end a read gives the blank, and a write changes nothing;
-// so no caller ever meets a length. Outside this file only loops over rows and the two moves index a table.
+// A reader of each table, which is handed that table alone, and writers. Past a table's end a read gives the blank, and a write changes
+// nothing; so no caller ever meets a length. Outside this file only loops over rows and the moves index a table.
 use crate::numbers::NOBODY;
 use crate::numbers::THREADS;
-use crate::records::Answer;
 use crate::records::Kernel;
 use crate::records::Thread;
 use crate::records::blank_thread;
 ghost use mathlib.Core.Path.{_≡_};
-ghost use mathlib.Core.Bool.{true};
-ghost use Rattle.kernel.specs.Tables.{usedRows, threadAt, counterAt, holderAt, withThread, withCounter, withHolder, withFinished, withAnswer};
+ghost use Rattle.kernel.specs.Tables.{usedRows, rowIn, counterIn, holderIn, withThread, withCounter};
 
 // How many of n threads have a row.
 pub fn used_rows(n: u16) -> u8
@@ -17,15 +15,11 @@ pub fn used_rows(n: u16) -> u8
     if n < 16 { n as u8 } else { THREADS }
 }
 
-pub fn thread_at(k: Kernel, i: u8) -> Thread
-    ensures { λ r. ⌜ r ≡ threadAt k i ⌝ }
+pub fn thread_at(threads: [Thread; 16], i: u8) -> Thread
+    ensures { λ r. ⌜ r ≡ rowIn threads i ⌝ }
 {
     let at = i as usize;
-    if at < 16 {
-        k.threads[at]
-    } else {
-        blank_thread()
-    }
+    if at < 16 { threads[at] } else { blank_thread() }
 }
 
 pub fn set_thread(k: Kernel, i: u8, t: Thread) -> Kernel
@@ -39,11 +33,11 @@ pub fn set_thread(k: Kernel, i: u8, t: Thread) -> Kernel
     r
 }
 
-pub fn counter_at(k: Kernel, place: u16) -> i32
-    ensures { λ r. ⌜ r ≡ counterAt k place ⌝ }
+pub fn counter_at(counters: [i32; 36], place: u16) -> i32
+    ensures { λ r. ⌜ r ≡ counterIn counters place ⌝ }
 {
     let at = place as usize;
-    if at < 36 { k.counters[at] } else { 0 }
+    if at < 36 { counters[at] } else { 0 }
 }
 
 pub fn set_counter(k: Kernel, place: u16, c: i32) -> Kernel
@@ -58,41 +52,9 @@ pub fn set_counter(k: Kernel, place: u16, c: i32) -> Kernel
 }
 
 // Whom a reference holds.
-pub fn holder_at(k: Kernel, reference: u16) -> u8
-    ensures { λ r. ⌜ r ≡ holderAt k reference ⌝ }
+pub fn holder_at(references: [u8; 8], reference: u16) -> u8
+    ensures { λ r. ⌜ r ≡ holderIn references reference ⌝ }
 {
     let at = reference as usize;
-    if at < 8 { k.references[at] } else { NOBODY }
-}
-
-pub fn set_holder(k: Kernel, reference: u16, i: u8) -> Kernel
-    ensures { λ r. ⌜ r ≡ withHolder k reference i ⌝ }
-{
-    let at = reference as usize;
-    let mut r = k;
-    if at < 8 {
-        r.references[at] = i;
-    }
-    r
-}
-
-// Thread i's call finished in this step.
-pub fn mark_finished(k: Kernel, i: u8) -> Kernel
-    ensures { λ r. ⌜ r ≡ withFinished k i ⌝ }
-{
-    let at = i as usize;
-    let mut r = k;
-    if at < 16 {
-        r.finished[at] = true;
-    }
-    r
-}
-
-// What an interrupt's own call answers.
-pub fn set_answer(k: Kernel, a: Answer) -> Kernel
-    ensures { λ r. ⌜ r ≡ withAnswer k a ⌝ }
-{
-    let mut r = k;
-    r.answer = a;
-    r
+    if at < 8 { references[at] } else { NOBODY }
 }

@@ -1,12 +1,13 @@
 // Who is first: the running thread among the ready ones, the highest waiter of a place. Index 0 is highest in priority.
-use crate::numbers::NOBODY;
-use crate::numbers::QUEUED;
+// The words say it, and no record is read.
+use crate::kinds::KEPT_NONE;
 use crate::numbers::READY;
 use crate::records::Kernel;
 use crate::records::Thread;
-use crate::tables::used_rows;
+use crate::words::first_in;
+use crate::words::waiting_at;
 ghost use mathlib.Core.Path.{_≡_};
-ghost use Rattle.kernel.specs.Waiters.{isReady, queuedAt, firstReady, firstWaiter};
+ghost use Rattle.kernel.specs.Waiters.{isReady, firstReady, callFree, runningFree, firstWaiter};
 
 pub fn is_ready(t: Thread) -> bool
     ensures { λ r. ⌜ r ≡ isReady t ⌝ }
@@ -14,40 +15,41 @@ pub fn is_ready(t: Thread) -> bool
     t.state == READY
 }
 
-pub fn is_queued_at(t: Thread, place: u16) -> bool
-    ensures { λ r. ⌜ r ≡ queuedAt place t ⌝ }
+// The running thread: the first that is ready, or NOBODY for idle.
+pub fn first_ready(k: Kernel) -> u8
+    ensures { λ r. ⌜ r ≡ firstReady k ⌝ }
 {
-    t.state == QUEUED && t.place == place
+    let words = k.words;
+    first_in(words.ready)
 }
 
-// The running one of n threads: the first that is ready, or NOBODY for idle.
-pub fn first_ready(k: Kernel, n: u16) -> u8
-    ensures { λ r. ⌜ r ≡ firstReady k n ⌝ }
+// Whether thread i has no unfinished call; NOBODY has none.
+pub fn is_free(threads: [Thread; 16], i: u8) -> bool
+    ensures { λ r. ⌜ r ≡ callFree threads i ⌝ }
 {
-    let end = used_rows(n);
-    let mut i: u8 = 0;
-    while i < end {
-        let t = k.threads[i as usize];
-        if is_ready(t) {
-            return i;
-        }
-        i += 1;
+    let at = i as usize;
+    if at < 16 {
+        let t = threads[at];
+        let call = t.call;
+        call.kind == KEPT_NONE
+    } else {
+        true
     }
-    NOBODY
 }
 
-// The first of n threads that is queued at a place, or NOBODY.
-pub fn first_waiter(k: Kernel, n: u16, place: u16) -> u8
-    ensures { λ r. ⌜ r ≡ firstWaiter k n place ⌝ }
+// Whether the running thread has no unfinished call.
+pub fn running_free(k: Kernel) -> bool
+    ensures { λ r. ⌜ r ≡ runningFree k ⌝ }
 {
-    let end = used_rows(n);
-    let mut i: u8 = 0;
-    while i < end {
-        let t = k.threads[i as usize];
-        if is_queued_at(t, place) {
-            return i;
-        }
-        i += 1;
-    }
-    NOBODY
+    let i = first_ready(k);
+    let threads = k.threads;
+    is_free(threads, i)
+}
+
+// The first thread that is queued at a place, or NOBODY.
+pub fn first_waiter(k: Kernel, place: u16) -> u8
+    ensures { λ r. ⌜ r ≡ firstWaiter k place ⌝ }
+{
+    let words = k.words;
+    first_in(waiting_at(words, place as u32))
 }

@@ -6,7 +6,7 @@ use crate::numbers::THREADS;
 use crate::records::Words;
 use crate::tables::used_rows;
 ghost use mathlib.Core.Path.{_≡_};
-ghost use Rattle.kernel.specs.Words.{onesOf, firstOf, bitValue, withBit, withoutBit, allReady, freshWords, waitingAt, withWaiting, notedReady, notedAsleep};
+ghost use Rattle.kernel.specs.Words.{hasBit, onesOf, firstOf, bitValue, withBit, withoutBit, allReady, freshWords, waitingAt, withWaiting, notedReady, notedAsleep};
 
 // What bit i counts; a word has no bit from 16 on.
 pub fn bit_value(i: u8) -> u16
@@ -27,19 +27,30 @@ fn without_bit(w: u16, i: u8) -> u16
     w ^ (w & bit_value(i))
 }
 
+// Whether a word names thread i.
+pub fn has_bit(w: u16, i: u8) -> bool
+    ensures { λ r. ⌜ r ≡ hasBit w i ⌝ }
+{
+    if i < THREADS {
+        (w >> i) % 2 == 1
+    } else {
+        false
+    }
+}
+
 // How many threads a word names.
-pub fn count_in(w: u16) -> u32
+pub fn count_in(w: u16) -> u8
     ensures { λ r. ⌜ r ≡ onesOf w ⌝ }
 {
-    u16::count_ones(w)
+    u16::count_ones(w) as u8
 }
 
 // The first thread that a word names, or NOBODY.
-pub fn first_in(w: u16) -> u32
+pub fn first_in(w: u16) -> u8
     ensures { λ r. ⌜ r ≡ firstOf w ⌝ }
 {
     let zeros = u16::trailing_zeros(w);
-    if zeros < 16 { zeros } else { NOBODY as u32 }
+    if zeros < 16 { zeros as u8 } else { NOBODY }
 }
 
 // The ready word of n threads that are all ready.

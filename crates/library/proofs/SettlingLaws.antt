@@ -1,12 +1,10 @@
--- Settling, turn by turn, in the form in which code meets it: i is the running thread that a callee gave, t its row.
+-- Settling, turn by turn, in the form in which code meets it: i is the running thread that a callee gave.
 use Prim.Native.Nat.{ℕ, zero, suc, _+_, _-_, _≤_}
 use native.Mathlib.Omega.{arith}
 use native.Mathlib.Numerals.{sub-one}
 use mathlib.Core.Path.{_≡_, refl, sym, ap, _∙_}
-use mathlib.Core.Bool.{true}
-use borrow.Author.Tests.{eq-eqb, ne-eqb}
-use Rattle.kernel.specs.declared.records.Thread.{Thread}
-use Rattle.kernel.specs.Tables.{threadAt}
+use mathlib.Core.Bool.{Bool, true, false}
+use Rattle.kernel.specs.Waiters.{firstReady, runningFree}
 use Rattle.kernel.proofs.Cases.{split}
 use Rattle.library.specs.declared.tables.Plant.{Plant}
 use Rattle.library.specs.Settling.{continued, runningIn, isSettled, settled}
@@ -16,35 +14,22 @@ pub settled-none : (n : ℕ) (p : Plant) → n ≡ 0 → p ≡ settled n p
 unfolding settled
 settled-none n p e = rw e
 
-module _ (p : Plant) (i : ℕ) (t : Thread) (at : i ≡ runningIn p) (is : t ≡ threadAt (p .kernel) i) where
-  row : t .call .kind ≡ threadAt (p .kernel) (runningIn p) .call .kind
-  row =
-      ap (λ (u : Thread). u .call .kind) is ∙ ap (λ (j : ℕ). threadAt (p .kernel) j .call .kind) at
-
-  -- the running thread has no unfinished call: settling ends
-  pub settled-quiet : (n : ℕ) → t .call .kind ≡ 0 → p ≡ settled n p
-  unfolding settled
-  settled-quiet zero e = refl
-  settled-quiet (suc n) e =
-      rw (eq-eqb (threadAt (p .kernel) (runningIn p) .call .kind) 0 (sym row ∙ e), settled)
-
-  -- it has one: its call is continued, and settling goes on with one less
-  pub settled-on : (n : ℕ) → (t .call .kind ≡ 0 → ⊥) → (n ≡ 0 → ⊥) → settled (n - 1) (continued p i) ≡ settled n p
-  unfolding settled
-  settled-on zero f g = absurd (g refl)
-  settled-on (suc n) f g =
-      rw (
-        ne-eqb (threadAt (p .kernel) (runningIn p) .call .kind) 0 (λ e. f (row ∙ e)),
-        settled,
-        sub-one (suc n),
-        at,
-      )
-
 -- what is settled stays as it is, whatever the budget
 settled-stays : (n : ℕ) (p : Plant) → isSettled p ≡ true → settled n p ≡ p
 unfolding settled
 settled-stays zero p e = refl
 settled-stays (suc n) p e = rw (e, settled)
+
+-- b is what a callee found: the running thread of x has no unfinished call, and settling ends
+pub settled-quiet : (n : ℕ) (p x : Plant) (b : Bool) → x ≡ p → b ≡ runningFree (x .kernel) → b ≡ true → x ≡ settled n p
+settled-quiet n p x b e f t = e ∙ sym (settled-stays n p (rw e at (sym f ∙ t)))
+
+-- or it has one: its call is continued, and settling goes on with one less
+pub settled-on : (n : ℕ) (p : Plant) (b : Bool) (i : ℕ) → b ≡ runningFree (p .kernel) → b ≡ false → i ≡ firstReady (p .kernel)
+    → (n ≡ 0 → ⊥) → settled (n - 1) (continued p i) ≡ settled n p
+unfolding settled
+settled-on zero p b i f t at g = absurd (g refl)
+settled-on (suc n) p b i f t at g = rw (sym f ∙ t, settled, sub-one (suc n), at)
 
 -- a budget spent in two parts: after the first m continuations settling goes on with the other n
 pub settled-more : (m n : ℕ) (p : Plant) → settled (m + n) p ≡ settled n (settled m p)

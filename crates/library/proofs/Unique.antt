@@ -3,8 +3,10 @@
 use Rattle.kernel.proofs.Unique.{coincide, Fixes}
 use Rattle.library.proofs.acting.is_kernel_wait.Reads as acting-is-kernel-wait
 use Rattle.library.proofs.acting.is_kernel_wait.Kinds as acting-is-kernel-wait-kinds
-use Rattle.library.proofs.acting.act.Reads as acting-act
-use Rattle.library.proofs.acting.act.Kinds as acting-act-kinds
+use Rattle.library.proofs.acting.act_on_kernel.Reads as acting-act-on-kernel
+use Rattle.library.proofs.acting.act_on_kernel.Kinds as acting-act-on-kernel-kinds
+use Rattle.library.proofs.acting.act_on_box.Reads as acting-act-on-box
+use Rattle.library.proofs.acting.act_on_box.Kinds as acting-act-on-box-kinds
 use Rattle.library.proofs.binary.binary_signal.Reads as binary-binary-signal
 use Rattle.library.proofs.binary.binary_signal.Kinds as binary-binary-signal-kinds
 use Rattle.library.proofs.calls.as_signed.Reads as calls-as-signed
@@ -89,8 +91,11 @@ use Rattle.library.proofs.tables.set_pool.Kinds as tables-set-pool-kind
 pub acting-is-kernel-wait-one : Fixes 0 acting-is-kernel-wait-kinds.ps acting-is-kernel-wait-kinds.r acting-is-kernel-wait.Post
 acting-is-kernel-wait-one κs a e x y = coincide
 
-pub acting-act-one : Fixes 0 acting-act-kinds.ps acting-act-kinds.r acting-act.Post
-acting-act-one κs a e x y = coincide
+pub acting-act-on-kernel-one : Fixes 0 acting-act-on-kernel-kinds.ps acting-act-on-kernel-kinds.r acting-act-on-kernel.Post
+acting-act-on-kernel-one κs a e x y = coincide
+
+pub acting-act-on-box-one : Fixes 0 acting-act-on-box-kinds.ps acting-act-on-box-kinds.r acting-act-on-box.Post
+acting-act-on-box-one κs a e x y = coincide
 
 pub binary-binary-signal-one : Fixes 0 binary-binary-signal-kinds.ps binary-binary-signal-kinds.r binary-binary-signal.Post
 binary-binary-signal-one κs a e x y = coincide

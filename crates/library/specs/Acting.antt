@@ -41,11 +41,11 @@ waitBegun k now s =
 unfoldable pub effected : Kernel → ℕ → Step → Kernel
 effected k n s =
     cond (eqb (s .kind) 1) (ticked k n)
-    (cond (eqb (s .kind) 3) (signalled k n (semaphorePlace (s .object)))
-    (cond (eqb (s .kind) 4) (resetTo k n (semaphorePlace (s .object)) (messageOf s))
-    (cond (eqb (s .kind) 5) (binarySignalled k n (semaphorePlace (s .object)))
-    (cond (eqb (s .kind) 7) (releasedFirst k n (queuePlace (s .object)) (messageOf s))
-    (cond (eqb (s .kind) 8) (releasedAll k n (queuePlace (s .object)) (messageOf s))
+    (cond (eqb (s .kind) 3) (signalled k (semaphorePlace (s .object)))
+    (cond (eqb (s .kind) 4) (resetTo k (semaphorePlace (s .object)) (messageOf s))
+    (cond (eqb (s .kind) 5) (binarySignalled k (semaphorePlace (s .object)))
+    (cond (eqb (s .kind) 7) (releasedFirst k (queuePlace (s .object)) (messageOf s))
+    (cond (eqb (s .kind) 8) (releasedAll k (queuePlace (s .object)) (messageOf s))
     (cond (eqb (s .kind) 10) (resumed k (s .object) (messageOf s)) (eventSignalled k (s .object) (s .a))))))))
 
 abbrev pub kernelWaits : ℕ → Bool

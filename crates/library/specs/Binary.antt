@@ -7,5 +7,5 @@ use Rattle.kernel.specs.declared.records.Kernel.{Kernel}
 use Rattle.kernel.specs.Tables.{counterAt}
 use Rattle.kernel.specs.Semaphore.{signalled}
 
-unfoldable pub binarySignalled : Kernel → ℕ → ℕ → Kernel
-binarySignalled k n p = cond (ltZ (counterAt k p) (pos 1)) (signalled k n p) k
+unfoldable pub binarySignalled : Kernel → ℕ → Kernel
+binarySignalled k p = cond (ltZ (counterAt k p) (pos 1)) (signalled k p) k

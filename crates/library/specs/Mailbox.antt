@@ -39,7 +39,7 @@ unfoldable pub postDone : Plant → ℕ → Call → Placed → Plant
 postDone p i call placed =
     withMailbox
     (withKernel p
-    (finished (releasedFirst (p .kernel) (p .sizes .threads) (readersPlace (call .object)) ok) i ok 0))
+    (finished (releasedFirst (p .kernel) (readersPlace (call .object)) ok) i ok 0))
     (call .object)
     (withMessage (withPositions (mailboxAt p (call .object)) (placed .positions)) (placed .slot) (call .operand))
 
@@ -58,7 +58,7 @@ unfoldable pub fetchDone : Plant → ℕ → Call → Placed → Plant
 fetchDone p i call placed =
     withMailbox
     (withKernel p
-    (finished (releasedFirst (p .kernel) (p .sizes .threads) (writersPlace (call .object)) ok) i ok
+    (finished (releasedFirst (p .kernel) (writersPlace (call .object)) ok) i ok
     (messageAt (mailboxAt p (call .object)) (placed .slot))))
     (call .object)
     (withPositions (mailboxAt p (call .object)) (placed .positions))
@@ -73,13 +73,13 @@ fetchTried p i call =
     (withKernel p (finished (p .kernel) i wasReset 0))
 
 -- ".. releases both queues with -2"
-unfoldable pub bothReleased : Kernel → ℕ → ℕ → Kernel
-bothReleased k n b = releasedAll (releasedAll k n (writersPlace b) wasReset) n (readersPlace b) wasReset
+unfoldable pub bothReleased : Kernel → ℕ → Kernel
+bothReleased k b = releasedAll (releasedAll k (writersPlace b) wasReset) (readersPlace b) wasReset
 
 -- "Reset empties, returns both places to 0, sets reset state and releases both queues with -2"
 unfoldable pub mailboxReset : Plant → ℕ → Plant
 mailboxReset p b =
-    withMailbox (withKernel p (bothReleased (p .kernel) (p .sizes .threads) b)) b
+    withMailbox (withKernel p (bothReleased (p .kernel) b)) b
     (withReset (withPositions (mailboxAt p b) (emptied (mailboxAt p b .positions) .positions)) 1)
 
 -- "resume clears the state"

@@ -70,4 +70,4 @@ allocTried p i call =
 -- "Free and add put the object on top and signal"
 unfoldable pub putBack : Plant → ℕ → ℕ → Plant
 putBack p n o =
-    withPool (withKernel p (signalled (p .kernel) (p .sizes .threads) (poolPlace n))) n (pushed (poolAt p n) o)
+    withPool (withKernel p (signalled (p .kernel) (poolPlace n))) n (pushed (poolAt p n) o)

@@ -7,7 +7,7 @@ use Rattle.kernel.specs.declared.records.Thread.{Thread}
 use Rattle.kernel.specs.Tables.{threadAt}
 use Rattle.kernel.specs.Moves.{finished}
 use Rattle.kernel.specs.Event.{tookFlags}
-use Rattle.kernel.specs.Waiters.{firstReady}
+use Rattle.kernel.specs.Waiters.{firstReady, runningFree}
 use Rattle.library.specs.declared.tables.Plant.{Plant}
 use Rattle.library.specs.Signs.{same}
 use Rattle.library.specs.Mailbox.{postTried, fetchTried}
@@ -40,11 +40,11 @@ continued p i =
 
 -- "the running thread is the first ready one, or idle"
 abbrev pub runningIn : Plant → ℕ
-runningIn p = firstReady (p .kernel) (p .sizes .threads)
+runningIn p = firstReady (p .kernel)
 
 -- "Settling ends when the running thread has no unfinished call"
 abbrev pub isSettled : Plant → Bool
-isSettled p = eqb (threadAt (p .kernel) (runningIn p) .call .kind) 0
+isSettled p = runningFree (p .kernel)
 
 -- with a budget of continuations
 unfoldable pub settled : ℕ → Plant → Plant

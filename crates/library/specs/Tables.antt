@@ -1,5 +1,6 @@
 -- The whole tables, between two steps and at work on one, read and written at an index.
 use Prim.Native.Nat.{ℕ}
+use mathlib.Core.List.{List}
 use lib.ListN.{getD, set, replicate}
 use Rattle.kernel.specs.declared.records.Kernel.{Kernel}
 use Rattle.kernel.specs.Records.{begun, ended}
@@ -37,11 +38,17 @@ closed p =
       sizes = p .sizes;
     }
 
+abbrev pub mailboxIn : List Mailbox → ℕ → Mailbox
+mailboxIn mailboxes i = getD mailboxes i blankMailbox
+
 abbrev pub mailboxAt : Plant → ℕ → Mailbox
-mailboxAt p i = getD (p .mailboxes) i blankMailbox
+mailboxAt p i = mailboxIn (p .mailboxes) i
+
+abbrev pub poolIn : List Pool → ℕ → Pool
+poolIn pools i = getD pools i blankPool
 
 abbrev pub poolAt : Plant → ℕ → Pool
-poolAt p i = getD (p .pools) i blankPool
+poolAt p i = poolIn (p .pools) i
 
 abbrev pub withKernel : Plant → Kernel → Plant
 withKernel p k = record { kernel = k; mailboxes = p .mailboxes; pools = p .pools; sizes = p .sizes }

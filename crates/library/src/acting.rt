@@ -52,7 +52,7 @@ use kernel::ticking::tick;
 use kernel::time::Interval;
 use kernel::time::SystemTime;
 ghost use mathlib.Core.Path.{_≡_};
-ghost use Rattle.library.specs.Acting.{waitBegun, effected, kernelWaits, actedOnKernel, boxEffected, actedOnBox, acted};
+ghost use Rattle.library.specs.Acting.{waitBegun, effected, kernelWaits, actedOnKernel, boxEffected, actedOnBox};
 
 // The kernel part's calls that may sleep: 2, 6, 9, 11, 12 and 14.
 fn begin_wait(k: Kernel, now: SystemTime, s: Step) -> Kernel
@@ -79,11 +79,11 @@ fn effect(k: Kernel, n: u16, s: Step) -> Kernel
     let object = s.object as u16;
     match kind {
         TICK => tick(k, n),
-        SIGNAL => signal(k, n, semaphore_place(object)),
-        SEMAPHORE_RESET => reset(k, n, semaphore_place(object), as_signed(s.a)),
-        BINARY_SIGNAL => binary_signal(k, n, semaphore_place(object)),
-        RELEASE_FIRST => release_first(k, n, queue_place(object), as_signed(s.a)),
-        RELEASE_ALL => release_all(k, n, queue_place(object), as_signed(s.a)),
+        SIGNAL => signal(k, semaphore_place(object)),
+        SEMAPHORE_RESET => reset(k, semaphore_place(object), as_signed(s.a)),
+        BINARY_SIGNAL => binary_signal(k, semaphore_place(object)),
+        RELEASE_FIRST => release_first(k, queue_place(object), as_signed(s.a)),
+        RELEASE_ALL => release_all(k, queue_place(object), as_signed(s.a)),
         RESUME => resume(k, object, as_signed(s.a)),
         _ => signal_events(k, s.object, s.a),
     }
@@ -103,8 +103,8 @@ pub fn is_kernel_wait(kind: u8) -> bool
     )
 }
 
-// Kinds 1 to 14.
-fn act_on_kernel(k: Kernel, n: u16, now: SystemTime, s: Step) -> Kernel
+// An accepted step of kinds 1 to 14 acts. `now` is the time before the step.
+pub fn act_on_kernel(k: Kernel, n: u16, now: SystemTime, s: Step) -> Kernel
     ensures { λ r. ⌜ r ≡ actedOnKernel k n now s ⌝ }
 {
     if is_kernel_wait(s.kind) {
@@ -127,8 +127,8 @@ fn effect_on_box(p: Plant, s: Step) -> Plant
     }
 }
 
-// Kinds 15 to 22.
-fn act_on_box(p: Plant, s: Step) -> Plant
+// An accepted step of kinds 15 to 22 acts.
+pub fn act_on_box(p: Plant, s: Step) -> Plant
     ensures { λ r. ⌜ r ≡ actedOnBox p s ⌝ }
 {
     let kind = s.kind;
@@ -142,16 +142,5 @@ fn act_on_box(p: Plant, s: Step) -> Plant
             let done = effect_on_box(p, s);
             set_kernel(done, finish(done.kernel, s.caller, OK, 0))
         }
-    }
-}
-
-// An accepted step acts. `now` is the time before the step.
-pub fn act(p: Plant, now: SystemTime, s: Step) -> Plant
-    ensures { λ r. ⌜ r ≡ acted p now s ⌝ }
-{
-    if s.kind <= EVENT_WAIT {
-        set_kernel(p, act_on_kernel(p.kernel, p.sizes.threads, now, s))
-    } else {
-        act_on_box(p, s)
     }
 }

@@ -6,11 +6,12 @@ ghost use mathlib.Core.Path.{_≡_};
 ghost use Rattle.library.specs.Binary.{binarySignalled};
 
 // As signal if the counter is below 1, else nothing: chBSemSignalI.
-pub fn binary_signal(k: Kernel, n: u16, place: u16) -> Kernel
-    ensures { λ r. ⌜ r ≡ binarySignalled k n place ⌝ }
+pub fn binary_signal(k: Kernel, place: u16) -> Kernel
+    ensures { λ r. ⌜ r ≡ binarySignalled k place ⌝ }
 {
-    if counter_at(k, place) < 1 {
-        signal(k, n, place)
+    let counters = k.counters;
+    if counter_at(counters, place) < 1 {
+        signal(k, place)
     } else {
         k
     }

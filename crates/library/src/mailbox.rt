@@ -87,13 +87,14 @@ fn place_for(b: Mailbox, kind: u16, slots: u16) -> Placed
 fn end_post(p: Plant, i: u8, call: Call, placed: Placed) -> Plant
     ensures { λ r. ⌜ r ≡ postDone p i call placed ⌝ }
 {
-    let b = mailbox_at(p, call.object);
+    let mailboxes = p.mailboxes;
+    let b = mailbox_at(mailboxes, call.object);
     let next = set_message(
         set_positions(b, placed.positions),
         placed.slot,
         call.operand,
     );
-    let released = release_first(p.kernel, p.sizes.threads, readers_place(call.object), OK);
+    let released = release_first(p.kernel, readers_place(call.object), OK);
     set_mailbox(set_kernel(p, finish(released, i, OK, 0)), call.object, next)
 }
 
@@ -101,7 +102,8 @@ fn end_post(p: Plant, i: u8, call: Call, placed: Placed) -> Plant
 pub fn try_post(p: Plant, i: u8, call: Call) -> Plant
     ensures { λ r. ⌜ r ≡ postTried p i call ⌝ }
 {
-    let b = mailbox_at(p, call.object);
+    let mailboxes = p.mailboxes;
+    let b = mailbox_at(mailboxes, call.object);
     if b.reset != 0 {
         return set_kernel(p, finish(p.kernel, i, WAS_RESET, 0));
     }
@@ -116,9 +118,10 @@ pub fn try_post(p: Plant, i: u8, call: Call) -> Plant
 fn end_fetch(p: Plant, i: u8, call: Call, placed: Placed) -> Plant
     ensures { λ r. ⌜ r ≡ fetchDone p i call placed ⌝ }
 {
-    let b = mailbox_at(p, call.object);
+    let mailboxes = p.mailboxes;
+    let b = mailbox_at(mailboxes, call.object);
     let next = set_positions(b, placed.positions);
-    let released = release_first(p.kernel, p.sizes.threads, writers_place(call.object), OK);
+    let released = release_first(p.kernel, writers_place(call.object), OK);
     let done = finish(released, i, OK, message_at(b, placed.slot));
     set_mailbox(set_kernel(p, done), call.object, next)
 }
@@ -127,7 +130,8 @@ fn end_fetch(p: Plant, i: u8, call: Call, placed: Placed) -> Plant
 pub fn try_fetch(p: Plant, i: u8, call: Call) -> Plant
     ensures { λ r. ⌜ r ≡ fetchTried p i call ⌝ }
 {
-    let b = mailbox_at(p, call.object);
+    let mailboxes = p.mailboxes;
+    let b = mailbox_at(mailboxes, call.object);
     if b.reset != 0 {
         return set_kernel(p, finish(p.kernel, i, WAS_RESET, 0));
     }
@@ -140,22 +144,23 @@ pub fn try_fetch(p: Plant, i: u8, call: Call) -> Plant
 }
 
 // Both queues of a mailbox are released with -2, writers first.
-fn release_both(k: Kernel, n: u16, number: u16) -> Kernel
-    ensures { λ r. ⌜ r ≡ bothReleased k n number ⌝ }
+fn release_both(k: Kernel, number: u16) -> Kernel
+    ensures { λ r. ⌜ r ≡ bothReleased k number ⌝ }
 {
-    let writers = release_all(k, n, writers_place(number), WAS_RESET);
-    release_all(writers, n, readers_place(number), WAS_RESET)
+    let writers = release_all(k, writers_place(number), WAS_RESET);
+    release_all(writers, readers_place(number), WAS_RESET)
 }
 
 // A mailbox is emptied and goes into reset state; all who wait on it are made ready with -2: chMBResetI.
 pub fn reset_mailbox(p: Plant, number: u16) -> Plant
     ensures { λ r. ⌜ r ≡ mailboxReset p number ⌝ }
 {
-    let b = mailbox_at(p, number);
+    let mailboxes = p.mailboxes;
+    let b = mailbox_at(mailboxes, number);
     let q = b.positions;
     let empty = q.reset();
     let next = set_reset(set_positions(b, empty.positions), 1);
-    let released = release_both(p.kernel, p.sizes.threads, number);
+    let released = release_both(p.kernel, number);
     set_mailbox(set_kernel(p, released), number, next)
 }
 
@@ -163,5 +168,6 @@ pub fn reset_mailbox(p: Plant, number: u16) -> Plant
 pub fn resume_mailbox(p: Plant, number: u16) -> Plant
     ensures { λ r. ⌜ r ≡ mailboxResumed p number ⌝ }
 {
-    set_mailbox(p, number, set_reset(mailbox_at(p, number), 0))
+    let mailboxes = p.mailboxes;
+    set_mailbox(p, number, set_reset(mailbox_at(mailboxes, number), 0))
 }

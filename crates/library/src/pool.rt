@@ -105,7 +105,8 @@ fn push(x: Pool, o: u8) -> Pool
 pub fn hand_over(p: Plant, i: u8, number: u16) -> Plant
     ensures { λ r. ⌜ r ≡ handedOver p i number ⌝ }
 {
-    let x = pool_at(p, number);
+    let pools = p.pools;
+    let x = pool_at(pools, number);
     let done = finish(p.kernel, i, OK, top_of(x) as u32);
     set_pool(set_kernel(p, done), number, pop(x))
 }
@@ -116,7 +117,8 @@ pub fn try_alloc(p: Plant, i: u8, call: Call) -> Plant
 {
     let k = p.kernel;
     let place = pool_place(call.object);
-    if 0 < counter_at(k, place) {
+    let counters = k.counters;
+    if 0 < counter_at(counters, place) {
         hand_over(set_kernel(p, take(k, place)), i, call.object)
     } else {
         set_kernel(p, enqueue(k, i, place, call))
@@ -127,7 +129,8 @@ pub fn try_alloc(p: Plant, i: u8, call: Call) -> Plant
 pub fn put_back(p: Plant, number: u16, o: u8) -> Plant
     ensures { λ r. ⌜ r ≡ putBack p number o ⌝ }
 {
-    let x = pool_at(p, number);
-    let signalled = signal(p.kernel, p.sizes.threads, pool_place(number));
+    let pools = p.pools;
+    let x = pool_at(pools, number);
+    let signalled = signal(p.kernel, pool_place(number));
     set_pool(set_kernel(p, signalled), number, push(x, o))
 }

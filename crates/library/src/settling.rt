@@ -13,7 +13,6 @@ use kernel::event::take_flags;
 use kernel::kinds::KEPT_ALLOC;
 use kernel::kinds::KEPT_EVENT_WAIT;
 use kernel::kinds::KEPT_FETCH;
-use kernel::kinds::KEPT_NONE;
 use kernel::kinds::KEPT_POST;
 use kernel::kinds::KEPT_POST_AHEAD;
 use kernel::moves::finish;
@@ -21,6 +20,7 @@ use kernel::records::Kernel;
 use kernel::records::Thread;
 use kernel::tables::thread_at;
 use kernel::waiters::first_ready;
+use kernel::waiters::running_free;
 ghost use mathlib.Core.Path.{_≡_};
 ghost use Rattle.kernel.specs.Moves.{finished};
 ghost use Rattle.library.specs.Settling.{isBoxCall, doesMore, answeredOnly, continued, settled};
@@ -68,7 +68,8 @@ fn go_on(p: Plant, i: u8) -> Plant
     ensures { λ r. ⌜ r ≡ continued p i ⌝ }
 {
     let k = p.kernel;
-    let t = thread_at(k, i);
+    let threads = k.threads;
+    let t = thread_at(threads, i);
     let call = t.call;
     let kind = call.kind;
     if is_answered_only(t) {
@@ -89,21 +90,22 @@ pub fn settle(p: Plant, budget: u16) -> Plant
     if budget == 0 {
         return p;
     }
-    let k = p.kernel;
-    let i = first_ready(k, p.sizes.threads);
-    let t = thread_at(k, i);
-    if t.call.kind == KEPT_NONE {
+    if running_free(p.kernel) {
         return p;
     }
-    continue_call(p, i, budget - 1)
+    continue_call(p, first_ready(p.kernel), budget - 1)
 }
 
-// Thread i's call is continued, and settling goes on: with half of the budget, then with the rest.
+// Thread i's call is continued, and settling goes on: with half of the budget, then with the rest. Where nothing is left to settle,
+// which is most often so, whole tables need not change hands for it.
 pub fn continue_call(p: Plant, i: u8, budget: u16) -> Plant
     ensures { λ r. ⌜ r ≡ settled budget (continued p i) ⌝ }
 {
     let half = budget / 2;
     let mut r = go_on(p, i);
+    if running_free(r.kernel) {
+        return r;
+    }
     r = settle(r, half);
     r = settle(r, budget - half);
     r

@@ -1,11 +1,11 @@
-// The whole tables, as a host keeps them between two steps and as a step works on them, with one accessor pair a table.
+// The whole tables, as a host keeps them between two steps and as a step works on them, with a reader of each table and writers.
 // Past a table's end a read gives the blank, and a write changes nothing.
 use crate::ring::Positions;
 use crate::sizes::Sizes;
 use kernel::records::Kernel;
 use kernel::records::Records;
 ghost use mathlib.Core.Path.{_≡_};
-ghost use Rattle.library.specs.Tables.{blankMailbox, blankPool, opened, closed, mailboxAt, poolAt, withKernel, withMailbox, withPool};
+ghost use Rattle.library.specs.Tables.{blankMailbox, blankPool, opened, closed, mailboxIn, poolIn, withKernel, withMailbox, withPool};
 
 // A mailbox: where it reads and writes, its reset state (any value but 0), and its messages' bits.
 #[repr(C)]
@@ -110,12 +110,12 @@ pub fn set_kernel(p: Plant, k: Kernel) -> Plant
     r
 }
 
-pub fn mailbox_at(p: Plant, i: u16) -> Mailbox
-    ensures { λ r. ⌜ r ≡ mailboxAt p i ⌝ }
+pub fn mailbox_at(mailboxes: [Mailbox; 4], i: u16) -> Mailbox
+    ensures { λ r. ⌜ r ≡ mailboxIn mailboxes i ⌝ }
 {
     let at = i as usize;
     if at < 4 {
-        p.mailboxes[at]
+        mailboxes[at]
     } else {
         blank_mailbox()
     }
@@ -132,11 +132,11 @@ pub fn set_mailbox(p: Plant, i: u16, b: Mailbox) -> Plant
     r
 }
 
-pub fn pool_at(p: Plant, i: u16) -> Pool
-    ensures { λ r. ⌜ r ≡ poolAt p i ⌝ }
+pub fn pool_at(pools: [Pool; 4], i: u16) -> Pool
+    ensures { λ r. ⌜ r ≡ poolIn pools i ⌝ }
 {
     let at = i as usize;
-    if at < 4 { p.pools[at] } else { blank_pool() }
+    if at < 4 { pools[at] } else { blank_pool() }
 }
 
 pub fn set_pool(p: Plant, i: u16, x: Pool) -> Plant

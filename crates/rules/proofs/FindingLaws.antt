@@ -1,63 +1,93 @@
--- Which rule is broken first: the search for it as code meets it, and that none is found exactly where the tables hang together.
-use Prim.Native.Nat.{ℕ, zero, suc, _+_, _-_, _≤_, _<_}
+-- Which rule is broken first: what code has found of the rules so far, and that none is found exactly where the tables hang together.
+use Prim.Native.Nat.{ℕ, zero, suc, _+_, _≤_}
 use native.Mathlib.Omega.{arith}
 use mathlib.Core.Path.{_≡_, refl, sym, ap, _∙_}
-use mathlib.Core.Bool.{Bool, true, false, not, _&&_}
+use mathlib.Core.Bool.{Bool, true, false, cond, not, _&&_, and-false}
 use lib.Dec.{eqb}
 use lib.ListN.{length}
-use borrow.Author.Tests.{eq-eqb, ne-eqb}
+use borrow.Author.Tests.{ne-eqb, eqb-true}
 use Rattle.kernel.specs.declared.clock.Clock.{Clock}
 use Rattle.kernel.specs.declared.records.Thread.{Thread}
 use Rattle.kernel.specs.Numbers.{nobody}
 use Rattle.kernel.specs.Records.{blank}
 use Rattle.kernel.specs.Tables.{usedRows, threadAt}
 use Rattle.kernel.specs.Units.{frequencyFits}
-use Rattle.kernel.specs.Waiters.{firstReady}
+use Rattle.kernel.specs.Waiters.{firstReady, callFree, runningFree}
+use Rattle.kernel.specs.Words.{firstOf}
 use Rattle.kernel.specs.Walk.{firstFrom, allFrom}
-use Rattle.kernel.proofs.Cases.{split, both-means, contrary}
+use Rattle.kernel.proofs.Cases.{split, both-means, contrary, same-tests}
 use Rattle.kernel.proofs.Lengths.{read-past}
-use Rattle.kernel.proofs.Loops.{first-here, first-next, first-none, used-le}
+use Rattle.kernel.proofs.Loops.{used-le}
 use Rattle.library.specs.declared.tables.Plant.{Plant}
+use Rattle.rules.specs.declared.finding.Broken.{Broken}
 use Rattle.library.specs.Sizes.{sizesFit}
 use Rattle.rules.specs.RowRules.{callFits, waitFits, ticksFit, awaitedFit, nonePending, flagsFit, rowFits, rowsFit}
 use Rattle.rules.specs.PlaceRules.{placeAgrees, countersFit}
 use Rattle.rules.specs.ReferenceRules.{holderFits, referencesFit}
 use Rattle.rules.specs.MailboxRules.{mailboxFits, mailboxesFit}
 use Rattle.rules.specs.PoolRules.{poolAgrees, poolsFit}
-use Rattle.rules.specs.WordRules.{readyFits, wordAgrees, waitingFits, wordsFit}
-use Rattle.rules.specs.Hanging.{runningFree, hangsTogether}
-use Rattle.rules.specs.Finding.{wholly, rowKeeps, badRow, badRunning, badAt, isKept, broken}
+use Rattle.rules.specs.WordRules.{readyWord, readyFits, wordAgrees, waitingFits, wordsFit}
+use Rattle.rules.specs.Hanging.{hangsTogether}
+use Rattle.rules.specs.Finding.{wholly, rowKeeps, badRow, badRunning, badAt, isKept, brokenAs, broken, orElse, orRow}
 use Rattle.rules.proofs.HangingLaws.{none-fails, none-bad, used-of-le}
 
 -- whether a rule is broken
 abbrev pub breaks : Plant → Clock → ℕ → Bool
 breaks p clock rule = not (isKept p clock rule)
 
--- a search that has come to a rule; row is what the code found of it
-module _ (p : Plant) (clock : Clock) (rule row : ℕ) (within : rule < 15) (meant : row ≡ badAt p clock rule)
-    (so-far : firstFrom (breaks p clock) 1 14 ≡ firstFrom (breaks p clock) rule (15 - rule)) where
-  pub breaks-here : (row ≡ nobody → ⊥) → record { rule = rule; row = row } ≡ broken p clock
-  unfolding broken
-  breaks-here some =
-      let is : breaks p clock rule ≡ true = rw (ne-eqb (badAt p clock rule) nobody (λ e. some (meant ∙ e))) in
-      rw (so-far ∙ first-here (breaks p clock) rule 15 within is, ne-eqb rule nobody (λ e. omega arith), meant)
+-- nothing found
+abbrev pub nothing : Broken
+nothing = record { rule = 0; row = 0 }
 
-  pub breaks-later : row ≡ nobody → firstFrom (breaks p clock) 1 14 ≡ firstFrom (breaks p clock) (rule + 1) (15 - (rule + 1))
-  breaks-later none =
-      let is : breaks p clock rule ≡ false = rw (eq-eqb (badAt p clock rule) nobody (sym meant ∙ none)) in
-      so-far ∙ first-next (breaks p clock) rule 15 within is
+-- what has been found of the rules 1 to n
+unfoldable pub foundTo : Plant → Clock → ℕ → Broken
+foundTo p clock zero = nothing
+foundTo p clock (suc n) = orElse (foundTo p clock n) (suc n) (badAt p clock (suc n))
 
--- .. and that has come past them all
-pub breaks-nowhere : (p : Plant) (clock : Clock) (rule : ℕ) → 15 ≤ rule
-    → firstFrom (breaks p clock) 1 14 ≡ firstFrom (breaks p clock) rule (15 - rule) → record { rule = 0; row = 0 } ≡ broken p clock
+-- one rule more: found is what the code had, row what it found of the rule
+pub found-none : (p : Plant) (clock : Clock) → nothing ≡ foundTo p clock 0
+unfolding foundTo
+found-none p clock = refl
+
+pub found-next : (p : Plant) (clock : Clock) (n : ℕ) (found : Broken) (row : ℕ) → found ≡ foundTo p clock n → row ≡ badAt p clock (suc n)
+    → orElse found (suc n) row ≡ foundTo p clock (suc n)
+unfolding foundTo
+found-next p clock n found row e f = rw (e, f)
+
+-- a search finds nothing before the place where it begins
+at-least : (f : ℕ → Bool) (i n : ℕ) → i ≤ 255 → i + n ≤ 255 → i ≤ firstFrom f i n
+unfolding firstFrom
+at-least f i zero h l = h
+at-least f i (suc n) h l =
+    split (f i) (λ e. rw e (omega arith))
+    (λ e. rw e (let later = at-least f (suc i) n (omega arith) (omega arith) in omega arith))
+
+-- a search that goes one index further
+first-last : (f : ℕ → Bool) (i n : ℕ) → i + n ≤ 255
+    → firstFrom f i (suc n) ≡ cond (eqb (firstFrom f i n) nobody) (cond (f (i + n)) (i + n) nobody) (firstFrom f i n)
+unfolding firstFrom
+first-last f i zero h = let same : i + 0 ≡ i = omega arith in rw same
+first-last f i (suc n) h =
+    let next : i + suc n ≡ suc i + n = omega arith in
+    split (f i) (λ e. rw (e, ne-eqb i nobody (λ q. omega arith))) (λ e. rw (e, next) (first-last f (suc i) n (omega arith)))
+
+-- so what has been found is the first that is broken
+found-first : (p : Plant) (clock : Clock) (n : ℕ) → n ≤ 14 → foundTo p clock n ≡ brokenAs p clock (firstFrom (breaks p clock) 1 n)
+unfolding foundTo orElse firstFrom
+found-first p clock zero h = refl
+found-first p clock (suc n) h =
+    let first = firstFrom (breaks p clock) 1 n in
+    let here : 1 + n ≡ suc n = omega arith in
+    let least : 1 ≤ first = at-least (breaks p clock) 1 n (omega arith) (omega arith) in
+    rw (found-first p clock n (omega arith), first-last (breaks p clock) 1 n (omega arith), here)
+    (split (eqb first nobody)
+    (λ e. rw e
+    (split (eqb (badAt p clock (suc n)) nobody) (λ t. rw t) (λ t. rw (t, ne-eqb (suc n) nobody (λ q. omega arith)))))
+    (λ e. rw (e, ne-eqb first 0 (λ q. omega (arith, least))) (rw e)))
+
+pub found-all : (p : Plant) (clock : Clock) → foundTo p clock 14 ≡ broken p clock
 unfolding broken
-breaks-nowhere p clock rule past so-far = rw (so-far ∙ first-none (breaks p clock) rule 15 past)
-
--- two tests with the same consequences are the same
-same-tests : (a b : Bool) → (a ≡ true → b ≡ true) → (b ≡ true → a ≡ true) → a ≡ b
-same-tests true b f g = sym (f refl)
-same-tests false true f g = g refl
-same-tests false false f g = refl
+found-all p clock = found-first p clock 14 (omega arith)
 
 -- all pass two tests exactly if all pass each
 all-both : (f g : ℕ → Bool) (i n : ℕ) → allFrom (λ j. f j && g j) i n ≡ allFrom f i n && allFrom g i n
@@ -70,14 +100,6 @@ all-both f g i (suc n) = rw (all-both f g (suc i) n) (swap (f i) (g i) (allFrom 
     swap true false true d = refl
     swap true false false d = refl
     swap false b c d = refl
-
--- a search finds nothing before the place where it begins
-at-least : (f : ℕ → Bool) (i n : ℕ) → i ≤ 255 → i + n ≤ 255 → i ≤ firstFrom f i n
-unfolding firstFrom
-at-least f i zero h l = h
-at-least f i (suc n) h l =
-    split (f i) (λ e. rw e (omega arith))
-    (λ e. rw e (let later = at-least f (suc i) n (omega arith) (omega arith) in omega arith))
 
 -- no rule is found broken exactly if each is kept
 none-broken : (p : Plant) (clock : Clock) → eqb (broken p clock .rule) 0 ≡ allFrom (isKept p clock) 1 14
@@ -106,21 +128,34 @@ module _ (p : Plant) (clock : Clock) where
   all-keep : ℕ → Bool
   all-keep rule = allFrom (λ i. rowKeeps (p .sizes) rule (threadAt (p .kernel) i)) 0 (usedRows (p .sizes .threads))
 
-  rows-kept : (rule : ℕ) → eqb (badRow (p .kernel) (p .sizes) rule) nobody ≡ all-keep rule
+  rows-kept : (rule : ℕ) → eqb (badRow (p .kernel .threads) (p .sizes) rule) nobody ≡ all-keep rule
   unfolding all-keep
   rows-kept rule =
       let few = used-le _ (p .sizes .threads) refl in
       none-bad (λ i. rowKeeps (p .sizes) rule (threadAt (p .kernel) i)) _ _ (omega arith) refl
 
-  -- the running thread is some thread where it has a call: past all threads there is none
+  -- the running thread as the walk finds it
+  abbrev walk-free : Bool
+  walk-free = callFree (p .kernel .threads) (firstOf (readyWord (p .kernel) (p .sizes .threads)))
+
+  -- it is some thread where it has a call: past all threads there is none
   running-kept : length (p .kernel .threads) ≡ 16
-      → eqb (badRunning (p .kernel) (p .sizes .threads)) nobody ≡ runningFree (p .kernel) (p .sizes .threads)
-  unfolding runningFree
+      → eqb (badRunning (p .kernel .threads) (readyWord (p .kernel) (p .sizes .threads))) nobody ≡ walk-free
   running-kept sized =
-      let i = firstReady (p .kernel) (p .sizes .threads) in
+      let i = firstOf (readyWord (p .kernel) (p .sizes .threads)) in
       let past : threadAt (p .kernel) nobody ≡ blank = sym (read-past (p .kernel .threads) 16 nobody sized (omega arith) blank) in
       split (eqb (threadAt (p .kernel) i .call .kind) 0) (λ e. rw e)
       (λ e. rw e (ne-eqb i nobody (λ q. contrary (rw (q, past) refl) e)))
+
+  -- where the ready word fits, it is the word's
+  running-same : (v : Bool) → walk-free && (readyFits (p .kernel) (p .sizes .threads) && v)
+      ≡ runningFree (p .kernel) && (readyFits (p .kernel) (p .sizes .threads) && v)
+  unfolding readyFits firstReady
+  running-same v =
+      split (eqb (p .kernel .words .ready) (readyWord (p .kernel) (p .sizes .threads)))
+      (λ e. ap (λ (w : ℕ). callFree (p .kernel .threads) (firstOf w) && (readyFits (p .kernel) (p .sizes .threads) && v))
+      (sym (eqb-true (p .kernel .words .ready) (readyWord (p .kernel) (p .sizes .threads)) e)))
+      (λ e. rw (e, and-false walk-free, and-false (runningFree (p .kernel))))
 
 each : {a b c d : Bool} → a ≡ b → c ≡ d → a && c ≡ b && d
 each e f = rw (e, f)
@@ -200,7 +235,8 @@ module _ (p : Plant) (clock : Clock) (sized : length (p .kernel .threads) ≡ 16
 
   mailboxes-kept : isKept p clock 5 ≡ mailboxesFit p
   unfolding badAt mailboxesFit
-  mailboxes-kept = let few = used-of-le _ 4 (p .sizes .mailboxes) refl in none-bad (mailboxFits p) _ _ (omega arith) refl
+  mailboxes-kept =
+      let few = used-of-le _ 4 (p .sizes .mailboxes) refl in none-bad (mailboxFits (p .mailboxes) (p .sizes)) _ _ (omega arith) refl
 
   pools-kept : isKept p clock 6 ≡ poolsFit p
   unfolding badAt poolsFit
@@ -243,7 +279,7 @@ module _ (p : Plant) (clock : Clock) (sized : length (p .kernel .threads) ≡ 16
       && (all-keep p clock 9
       && (all-keep p clock 10
       && (all-keep p clock 11
-      && (runningFree (p .kernel) (p .sizes .threads)
+      && (walk-free p clock
       && (readyFits (p .kernel) (p .sizes .threads) && (waitingFits (p .kernel) (p .sizes) && true)))))))))))))
   unfolding allFrom badAt
   all-kept =
@@ -263,10 +299,43 @@ module _ (p : Plant) (clock : Clock) (sized : length (p .kernel .threads) ≡ 16
   pub rule-none : eqb (broken p clock .rule) 0 ≡ hangsTogether p clock
   unfolding hangsTogether wordsFit
   rule-none =
-      rw records-kept
+      let running = runningFree (p .kernel) in
+      let ready = readyFits (p .kernel) (p .sizes .threads) in
+      let waiting = waitingFits (p .kernel) (p .sizes) in
+      rw (records-kept, ← running-same p clock waiting)
       (none-broken p clock
       ∙ all-kept
       ∙ reordered (sizesFit (p .sizes)) (frequencyFits (clock .frequency)) (countersFit (p .kernel) (p .sizes))
       (referencesFit (p .kernel) (p .sizes)) (mailboxesFit p) (poolsFit p) (all-keep p clock 7) (all-keep p clock 8)
-      (all-keep p clock 9) (all-keep p clock 10) (all-keep p clock 11) (runningFree (p .kernel) (p .sizes .threads))
-      (readyFits (p .kernel) (p .sizes .threads)) (waitingFits (p .kernel) (p .sizes)))
+      (all-keep p clock 9) (all-keep p clock 10) (all-keep p clock 11) (walk-free p clock) ready waiting)
+
+-- ---- the rules of a record
+
+module _ (p : Plant) (clock : Clock) where
+  -- a rule that no record breaks finds nothing
+  kept-finds : (rule : ℕ) (found : Broken) → all-keep p clock rule ≡ true → orElse found rule (badRow (p .kernel .threads) (p .sizes) rule) ≡ found
+  unfolding orElse
+  kept-finds rule found e = rw (rows-kept p clock rule ∙ e, and-false (eqb (found .rule) 0))
+
+  -- the five of them at once: none is broken where all records fit
+  pub found-rows : length (p .kernel .threads) ≡ 16 → (found : Broken) (fit : Bool) → found ≡ foundTo p clock 6 → fit ≡ rowsFit (p .kernel) (p .sizes)
+      → orRow found fit (p .kernel .threads) (p .sizes) ≡ foundTo p clock 11
+  unfolding orRow foundTo badAt
+  found-rows sized found fit e f =
+      rw e
+      (split fit
+      (λ t.
+      let all = sym (records-kept p clock sized) ∙ (sym f ∙ t) in
+      let call = both-means (all-keep p clock 8) _ all in
+      let wait = both-means (all-keep p clock 9) _ (call .1) in
+      let ticks = both-means (all-keep p clock 7) _ (wait .1) in
+      let flags = both-means (all-keep p clock 10) (all-keep p clock 11) (ticks .1) in
+      rw (
+        t,
+        kept-finds 7 (foundTo p clock 6) (ticks .0),
+        kept-finds 8 (foundTo p clock 6) (call .0),
+        kept-finds 9 (foundTo p clock 6) (wait .0),
+        kept-finds 10 (foundTo p clock 6) (flags .0),
+        kept-finds 11 (foundTo p clock 6) (flags .1),
+      ))
+      (λ t. rw t))

@@ -13,16 +13,12 @@ use lib.Seq.{getD-set-same, getD-set-other}
 use borrow.Author.Tests.{ltb-true, eqb-true, eqb-false, ne-eqb, not-true, not-false}
 use Rattle.kernel.specs.Numbers.{nobody}
 use Rattle.kernel.specs.Walk.{firstFrom, allFrom, countOf}
-use Rattle.kernel.specs.declared.records.Words.{Words}
-use Rattle.kernel.specs.declared.records.Kernel.{Kernel}
-use Rattle.kernel.specs.Words.{wordOf, waitingAt}
+use Rattle.kernel.specs.Words.{wordOf}
 use Rattle.kernel.proofs.Cases.{split}
 use Rattle.kernel.proofs.WalkLaws.{search-agree, count-le, count-none}
 use Rattle.kernel.proofs.WordsLaws.{word-more, word-lt}
 use Rattle.kernel.proofs.Loops.{first-here, first-next, all-fails, all-next, count-more}
-use Rattle.library.specs.declared.sizes.Sizes.{Sizes}
 use Rattle.rules.specs.Limits.{usedOf, firstBad}
-use Rattle.rules.specs.WordRules.{Walked, wordFits, otherWord, wordAgrees, badWord}
 
 -- no more rows are in use than there are; e is what a callee gave
 pub used-of-le : (e rows n : ℕ) → e ≡ usedOf rows n → e ≤ rows
@@ -76,7 +72,7 @@ pub none-bad : (f : ℕ → Bool) (n r : ℕ) → n ≤ 255 → r ≡ firstBad f
 none-bad f n r h e = rw e (none-fails f 0 n (omega arith))
 
 -- tests that agree below n fail first at the same index
-bad-agree : (f g : ℕ → Bool) (n : ℕ) → ((j : ℕ) → j < n → f j ≡ g j) → firstBad f n ≡ firstBad g n
+pub bad-agree : (f g : ℕ → Bool) (n : ℕ) → ((j : ℕ) → j < n → f j ≡ g j) → firstBad f n ≡ firstBad g n
 bad-agree f g n h = search-agree (λ j. not (f j)) (λ j. not (g j)) 0 n (λ j a b. ap not (h j (omega arith)))
 
 -- a key that is past all n keys where the test fails: it is p exactly if the test holds and x is p; a is what a callee gave
@@ -165,9 +161,3 @@ tally-le test n l i at so-far within = rw (so-far .entry at within) (count-le (t
 pub word-room : (test : ℕ → ℕ → Bool) (n : ℕ) (l : List ℕ) (i at : ℕ) → Tallied wordOf test n l i → at < n → i < 16
     → getD l at 0 + 2 ^ i < 65536
 word-room test n l i at so-far within few = rw (so-far .entry at within) (room (test at) i few)
-
--- beside the walk's words, the first that is another is the first that does not say who waits; w is what a callee gave
-pub other-bad : (k : Kernel) (z : Sizes) (w : Words) → Walked k (z .threads) w → otherWord z (k .words) w ≡ badWord k z
-other-bad k z w walked =
-    bad-agree (λ p. wordFits z p (waitingAt (k .words) p) (waitingAt w p)) (wordAgrees k z) 36
-    (λ p h. ap (wordFits z p (waitingAt (k .words) p)) (walked .1 p h))

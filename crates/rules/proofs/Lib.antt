@@ -1,4 +1,5 @@
 -- What the proofs share.
 pub mod HangingLaws
+pub mod WalkingLaws
 pub mod FindingLaws
 pub mod Unique

@@ -1,12 +1,8 @@
 -- Whether tables hang together: document 01's section of that name, in its parts, and the words of document 02.
-use Prim.Native.Nat.{ℕ}
 use mathlib.Core.Bool.{Bool, _&&_}
-use lib.Dec.{eqb}
-use Rattle.kernel.specs.declared.records.Kernel.{Kernel}
 use Rattle.kernel.specs.declared.clock.Clock.{Clock}
-use Rattle.kernel.specs.Tables.{threadAt}
 use Rattle.kernel.specs.Units.{frequencyFits}
-use Rattle.kernel.specs.Waiters.{firstReady}
+use Rattle.kernel.specs.Waiters.{runningFree}
 use Rattle.library.specs.declared.tables.Plant.{Plant}
 use Rattle.library.specs.Sizes.{sizesFit}
 use Rattle.rules.specs.RowRules.{rowsFit}
@@ -15,10 +11,6 @@ use Rattle.rules.specs.ReferenceRules.{referencesFit}
 use Rattle.rules.specs.MailboxRules.{mailboxesFit}
 use Rattle.rules.specs.PoolRules.{poolsFit}
 use Rattle.rules.specs.WordRules.{wordsFit}
-
--- "The running thread has no unfinished call"
-unfoldable pub runningFree : Kernel → ℕ → Bool
-runningFree k n = eqb (threadAt k (firstReady k n) .call .kind) 0
 
 -- "Tables that hang together"
 unfoldable pub hangsTogether : Plant → Clock → Bool
@@ -29,4 +21,4 @@ hangsTogether p clock =
     && (countersFit (p .kernel) (p .sizes)
     && (referencesFit (p .kernel) (p .sizes)
     && (mailboxesFit p
-    && (poolsFit p && (runningFree (p .kernel) (p .sizes .threads) && wordsFit (p .kernel) (p .sizes))))))))
+    && (poolsFit p && (runningFree (p .kernel) && wordsFit (p .kernel) (p .sizes))))))))

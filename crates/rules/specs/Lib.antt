@@ -6,5 +6,6 @@ pub mod ReferenceRules
 pub mod MailboxRules
 pub mod PoolRules
 pub mod WordRules
+pub mod Walking
 pub mod Hanging
 pub mod Finding

@@ -1,15 +1,18 @@
 -- Whether each counter agrees with the threads that are queued at its place.
 use Prim.Native.Nat.{ℕ, _-_}
 use mathlib.Core.Bool.{Bool, true, cond, not, _&&_}
+use mathlib.Core.List.{List}
 use lib.Dec.{eqb, ltb}
 use lib.IntN.{ℤ, pos}
+use lib.ListN.{getD}
 use lib.Signed.{ltZ}
 use Rattle.kernel.specs.declared.records.Thread.{Thread}
 use Rattle.kernel.specs.declared.records.Kernel.{Kernel}
 use Rattle.kernel.specs.Numbers.{queued}
-use Rattle.kernel.specs.Tables.{usedRows, threadAt, counterAt}
+use Rattle.kernel.specs.Tables.{usedRows, threadAt, counterIn, counterAt}
 use Rattle.kernel.specs.Waiters.{queuedAt}
 use Rattle.kernel.specs.Walk.{allFrom, countOf}
+use Rattle.kernel.specs.Words.{onesOf}
 use Rattle.library.specs.declared.sizes.Sizes.{Sizes}
 use Rattle.library.specs.Signs.{same, minus}
 use Rattle.rules.specs.Limits.{firstBad}
@@ -49,6 +52,10 @@ placeAgrees k z p = placeFits z p (counterAt k p) (queuedCount k (z .threads) p)
 -- the first place whose counter does not
 abbrev pub badPlace : Kernel → Sizes → ℕ
 badPlace k z = firstBad (placeAgrees k z) 36
+
+-- the same by the words of a walk: as many are queued at a place as its word has ones
+abbrev pub badCounter : List ℤ → List ℕ → Sizes → ℕ
+badCounter counters waiting z = firstBad (λ p. placeFits z p (counterIn counters p) (onesOf (getD waiting p 0))) 36
 
 -- each counter does so
 unfoldable pub countersFit : Kernel → Sizes → Bool

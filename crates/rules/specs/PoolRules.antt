@@ -1,21 +1,25 @@
 -- Whether each pool's free list agrees with its marks, its counter and its promises.
 use Prim.Native.Nat.{ℕ}
 use mathlib.Core.Bool.{Bool, cond, _&&_}
+use mathlib.Core.List.{List}
 use lib.Dec.{eqb, ltb, leb}
 use lib.IntN.{ℤ, pos, _-ℤ_}
+use lib.ListN.{getD}
 use lib.Signed.{ltZ}
 use Rattle.kernel.specs.declared.records.Thread.{Thread}
 use Rattle.kernel.specs.declared.records.Kernel.{Kernel}
 use Rattle.kernel.specs.Numbers.{ok}
 use Rattle.kernel.specs.Places.{poolPlace}
-use Rattle.kernel.specs.Tables.{usedRows, threadAt, counterAt}
+use Rattle.kernel.specs.Tables.{usedRows, threadAt, counterIn, counterAt}
 use Rattle.kernel.specs.Waiters.{isReady}
 use Rattle.kernel.specs.Walk.{allFrom, countOf}
+use Rattle.kernel.specs.Words.{onesOf}
+use Rattle.library.specs.declared.sizes.Sizes.{Sizes}
 use Rattle.library.specs.declared.tables.Pool.{Pool}
 use Rattle.library.specs.declared.tables.Plant.{Plant}
 use Rattle.rules.specs.Limits.{usedOf, firstBad}
 use Rattle.library.specs.Signs.{same}
-use Rattle.library.specs.Tables.{poolAt}
+use Rattle.library.specs.Tables.{poolIn, poolAt}
 use Rattle.library.specs.Pool.{free, out, listedAt, markAt}
 
 -- "ready threads whose unfinished alloc was woken with 0"
@@ -78,6 +82,11 @@ poolAgrees p q =
 -- the first pool that does not
 abbrev pub badPool : Plant → ℕ
 badPool p = firstBad (poolAgrees p) (usedOf 4 (p .sizes .pools))
+
+-- the same by the words of a walk: as many objects are promised by a pool as its word has ones
+abbrev pub badStock : List Pool → List ℤ → List ℕ → Sizes → ℕ
+badStock pools counters promised z =
+    firstBad (λ q. poolFits (poolIn pools q) (counterIn counters (poolPlace q)) (onesOf (getD promised q 0))) (usedOf 4 (z .pools))
 
 -- each pool does so
 unfoldable pub poolsFit : Plant → Bool

@@ -1,9 +1,9 @@
 -- Whether each word says what a walk over the records would give. "Words that disagree don't hang together"
-use Prim.Native.Nat.{ℕ, _<_}
-use mathlib.Core.Path.{_≡_}
+use Prim.Native.Nat.{ℕ}
 use mathlib.Core.Bool.{Bool, true, cond, _&&_}
+use mathlib.Core.List.{List}
 use lib.Dec.{eqb}
-use Rattle.kernel.specs.declared.records.Words.{Words}
+use lib.ListN.{getD}
 use Rattle.kernel.specs.declared.records.Kernel.{Kernel}
 use Rattle.kernel.specs.Tables.{usedRows, threadAt}
 use Rattle.kernel.specs.Waiters.{isReady, queuedAt}
@@ -21,10 +21,6 @@ readyWord k n = wordOf (λ i. isReady (threadAt k i)) (usedRows n)
 unfoldable pub waitingWord : Kernel → ℕ → ℕ → ℕ
 waitingWord k n p = wordOf (λ i. queuedAt p (threadAt k i)) (usedRows n)
 
--- words that the walk gives
-abbrev pub Walked : Kernel → ℕ → Words → Type 0
-Walked k n w = (w .ready ≡ readyWord k n) × ((p : ℕ) → p < 36 → waitingAt w p ≡ waitingWord k n p)
-
 -- the ready word says who is ready
 unfoldable pub readyFits : Kernel → ℕ → Bool
 readyFits k n = eqb (k .words .ready) (readyWord k n)
@@ -34,8 +30,8 @@ abbrev pub wordFits : Sizes → ℕ → ℕ → ℕ → Bool
 wordFits z p word walked = cond (inUse z p) (eqb word walked) true
 
 -- the first place whose word is another than the walk's
-abbrev pub otherWord : Sizes → Words → Words → ℕ
-otherWord z w walked = firstBad (λ p. wordFits z p (waitingAt w p) (waitingAt walked p)) 36
+abbrev pub otherWord : List ℕ → List ℕ → Sizes → ℕ
+otherWord waiting walked z = firstBad (λ p. wordFits z p (getD waiting p 0) (getD walked p 0)) 36
 
 -- the word of the place p says who waits there
 abbrev pub wordAgrees : Kernel → Sizes → ℕ → Bool

@@ -8,4 +8,5 @@ pub mod place_rules;
 pub mod pool_rules;
 pub mod reference_rules;
 pub mod row_rules;
+pub mod walking;
 pub mod word_rules;

@@ -2,10 +2,11 @@
 use crate::limits::NO_ROW;
 use crate::limits::used_of;
 use library::ring::Positions;
+use library::sizes::Sizes;
 use library::sizes::slots_at;
-use library::tables::Plant;
+use library::tables::Mailbox;
 ghost use mathlib.Core.Path.{_≡_};
-ghost use Rattle.rules.specs.MailboxRules.{inRing, follows, positionsFit, badMailbox, mailboxesFit};
+ghost use Rattle.rules.specs.MailboxRules.{inRing, follows, positionsFit, badMailbox};
 
 // Whether the count and both places are in range for a ring of `slots`.
 fn in_ring(q: Positions, slots: u16) -> bool
@@ -28,25 +29,17 @@ fn positions_fit(q: Positions, slots: u16) -> bool
 }
 
 // The first mailbox whose positions do not hang together, or NO_ROW.
-pub fn first_bad_mailbox(p: Plant) -> u16
-    ensures { λ r. ⌜ r ≡ badMailbox p ⌝ }
+pub fn first_bad_mailbox(mailboxes: [Mailbox; 4], z: Sizes) -> u16
+    ensures { λ r. ⌜ r ≡ badMailbox mailboxes z ⌝ }
 {
-    let z = p.sizes;
     let end = used_of(4, z.mailboxes);
     let mut m: u16 = 0;
     while m < end {
-        let b = p.mailboxes[m as usize];
+        let b = mailboxes[m as usize];
         if !positions_fit(b.positions, slots_at(z, m)) {
             return m;
         }
         m += 1;
     }
     NO_ROW
-}
-
-// Whether each mailbox's positions hang together.
-pub fn mailboxes_fit(p: Plant) -> bool
-    ensures { λ r. ⌜ r ≡ mailboxesFit p ⌝ }
-{
-    first_bad_mailbox(p) == NO_ROW
 }

@@ -1,17 +1,13 @@
 // Whether each counter agrees with the threads that are queued at its place.
-// One pass over the threads counts for all places at once.
 use crate::limits::NO_ROW;
 use kernel::numbers::QUEUED;
-use kernel::records::Kernel;
 use kernel::records::Thread;
-use kernel::tables::used_rows;
+use kernel::words::count_in;
 use library::signs::is_same;
 use library::signs::negative;
 use library::sizes::Sizes;
-ghost use Prim.Native.Nat.{ℕ, _<_};
 ghost use mathlib.Core.Path.{_≡_};
-ghost use lib.ListN.{getD};
-ghost use Rattle.rules.specs.PlaceRules.{inUse, queueOf, queuedCount, isIdle, counterFits, placeFits, badPlace, countersFit};
+ghost use Rattle.rules.specs.PlaceRules.{inUse, queueOf, isIdle, counterFits, placeFits, badCounter};
 
 // Whether the sizes put a place to use.
 pub fn in_use(z: Sizes, p: u16) -> bool
@@ -35,24 +31,6 @@ pub fn queue_of(t: Thread) -> u16
     ensures { λ r. ⌜ r ≡ queueOf t ⌝ }
 {
     if t.state == QUEUED { t.place } else { 36 }
-}
-
-// How many of n threads are queued at each place.
-fn count_queued(k: Kernel, n: u16) -> [u16; 36]
-    ensures { λ r. ⌜ ((p : ℕ) → p < 36 → getD r p 0 ≡ queuedCount k n p) ⌝ }
-{
-    let end = used_rows(n);
-    let mut counts = [0; 36];
-    let mut i: u8 = 0;
-    while i < end {
-        let t = k.threads[i as usize];
-        let at = queue_of(t) as usize;
-        if at < 36 {
-            counts[at] = counts[at] + 1;
-        }
-        i += 1;
-    }
-    counts
 }
 
 // A semaphore, or a pool's, at which nobody is queued.
@@ -83,26 +61,18 @@ fn place_fits(z: Sizes, p: u16, c: i32, n: u16) -> bool
     }
 }
 
-// The first place whose counter does not agree with the threads queued there, or NO_ROW.
-pub fn first_bad_place(k: Kernel, z: Sizes) -> u16
-    ensures { λ r. ⌜ r ≡ badPlace k z ⌝ }
+// The first place whose counter does not agree with the threads queued there, or NO_ROW; they are as many as its word has ones.
+pub fn first_bad_place(counters: [i32; 36], waiting: [u16; 36], z: Sizes) -> u16
+    ensures { λ r. ⌜ r ≡ badCounter counters waiting z ⌝ }
 {
-    let counts = count_queued(k, z.threads);
     let mut p: u16 = 0;
     while p < 36 {
-        let c = k.counters[p as usize];
-        let n = counts[p as usize];
-        if !place_fits(z, p, c, n) {
+        let c = counters[p as usize];
+        let word = waiting[p as usize];
+        if !place_fits(z, p, c, count_in(word) as u16) {
             return p;
         }
         p += 1;
     }
     NO_ROW
-}
-
-// Whether each counter in use agrees with the threads queued at its place.
-pub fn counters_fit(k: Kernel, z: Sizes) -> bool
-    ensures { λ r. ⌜ r ≡ countersFit k z ⌝ }
-{
-    first_bad_place(k, z) == NO_ROW
 }

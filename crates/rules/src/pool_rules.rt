@@ -1,19 +1,18 @@
 // Whether each pool's free list agrees with its marks, its counter and the objects promised to woken threads.
-// One pass over the threads counts the promises of all pools, and one over a list the occurrences of all objects.
+// One pass over a list counts the occurrences of all objects.
 use crate::limits::NO_ROW;
 use crate::limits::used_of;
 use kernel::kinds::KEPT_ALLOC;
 use kernel::numbers::OK;
 use kernel::numbers::READY;
 use kernel::places::pool_place;
-use kernel::records::Kernel;
 use kernel::records::Thread;
-use kernel::tables::used_rows;
+use kernel::words::count_in;
 use library::numbers::FREE_MARK;
 use library::numbers::OUT;
 use library::signs::is_same;
 use library::signs::less;
-use library::tables::Plant;
+use library::sizes::Sizes;
 use library::tables::Pool;
 ghost use Prim.Native.Nat.{ℕ, _<_};
 ghost use mathlib.Core.Path.{_≡_};
@@ -21,7 +20,6 @@ ghost use lib.ListN.{getD};
 ghost use Rattle.rules.specs.PoolRules.{
   isPromised,
   poolOf,
-  promisedCount,
   occurrences,
   objectFits,
   entriesFit,
@@ -29,8 +27,7 @@ ghost use Rattle.rules.specs.PoolRules.{
   larger,
   lengthFits,
   poolFits,
-  badPool,
-  poolsFit,
+  badStock,
 };
 
 // Whether a thread is ready with an unfinished alloc that was woken with 0: an object is promised to it.
@@ -42,29 +39,11 @@ fn is_promised(t: Thread) -> bool
 }
 
 // The pool that has promised a thread an object; past all pools where none has.
-fn pool_of(t: Thread) -> u16
+pub fn pool_of(t: Thread) -> u16
     ensures { λ r. ⌜ r ≡ poolOf t ⌝ }
 {
     let call = t.call;
     if is_promised(t) { call.object } else { 4 }
-}
-
-// How many objects each pool has promised to n threads.
-fn count_promised(k: Kernel, n: u16) -> [u16; 4]
-    ensures { λ r. ⌜ ((q : ℕ) → q < 4 → getD r q 0 ≡ promisedCount k n q) ⌝ }
-{
-    let end = used_rows(n);
-    let mut counts = [0; 4];
-    let mut i: u8 = 0;
-    while i < end {
-        let t = k.threads[i as usize];
-        let at = pool_of(t) as usize;
-        if at < 4 {
-            counts[at] = counts[at] + 1;
-        }
-        i += 1;
-    }
-    counts
 }
 
 // How often each object is listed.
@@ -149,30 +128,20 @@ fn pool_fits(x: Pool, c: i32, promised: u16) -> bool
     x.length <= 32 && (length_fits(x.length, c, promised) && (entries_fit(x) && objects_fit(x)))
 }
 
-// The first pool that does not hang together, or NO_ROW.
-pub fn first_bad_pool(p: Plant) -> u16
-    ensures { λ r. ⌜ r ≡ badPool p ⌝ }
+// The first pool that does not hang together, or NO_ROW; as many objects are promised as its word has ones.
+pub fn first_bad_pool(pools: [Pool; 4], counters: [i32; 36], promised: [u16; 4], z: Sizes) -> u16
+    ensures { λ r. ⌜ r ≡ badStock pools counters promised z ⌝ }
 {
-    let k = p.kernel;
-    let z = p.sizes;
-    let promised = count_promised(k, z.threads);
     let end = used_of(4, z.pools);
     let mut q: u16 = 0;
     while q < end {
-        let x = p.pools[q as usize];
-        let c = k.counters[pool_place(q) as usize];
-        let n = promised[q as usize];
-        if !pool_fits(x, c, n) {
+        let x = pools[q as usize];
+        let c = counters[pool_place(q) as usize];
+        let word = promised[q as usize];
+        if !pool_fits(x, c, count_in(word) as u16) {
             return q;
         }
         q += 1;
     }
     NO_ROW
-}
-
-// Whether each pool hangs together.
-pub fn pools_fit(p: Plant) -> bool
-    ensures { λ r. ⌜ r ≡ poolsFit p ⌝ }
-{
-    first_bad_pool(p) == NO_ROW
 }

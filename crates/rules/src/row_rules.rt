@@ -23,9 +23,7 @@ use kernel::places::readers_place;
 use kernel::places::semaphore_place;
 use kernel::places::writers_place;
 use kernel::records::Call;
-use kernel::records::Kernel;
 use kernel::records::Thread;
-use kernel::tables::used_rows;
 use library::calls::keeps_operand;
 use library::sizes::Sizes;
 ghost use mathlib.Core.Path.{_≡_};
@@ -47,7 +45,6 @@ ghost use Rattle.rules.specs.RowRules.{
   nonePending,
   flagsFit,
   rowFits,
-  rowsFit,
 };
 
 // A sleep, for an interval or until a time.
@@ -223,24 +220,9 @@ fn flags_fit(t: Thread) -> bool
     awaited_fit(t) && none_pending(t)
 }
 
-fn row_fits(t: Thread, z: Sizes) -> bool
+// Whether a thread's record hangs together by itself.
+pub fn row_fits(t: Thread, z: Sizes) -> bool
     ensures { λ r. ⌜ r ≡ rowFits t z ⌝ }
 {
     call_fits(t, z) && (wait_fits(t) && (ticks_fit(t) && flags_fit(t)))
-}
-
-// Whether each thread's record hangs together by itself.
-pub fn rows_fit(k: Kernel, z: Sizes) -> bool
-    ensures { λ r. ⌜ r ≡ rowsFit k z ⌝ }
-{
-    let end = used_rows(z.threads);
-    let mut i: u8 = 0;
-    while i < end {
-        let t = k.threads[i as usize];
-        if !row_fits(t, z) {
-            return false;
-        }
-        i += 1;
-    }
-    true
 }

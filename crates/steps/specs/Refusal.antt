@@ -1,24 +1,24 @@
 -- The refusals, in document 01's order.
 use Prim.Native.Nat.{ℕ, _%_}
 use mathlib.Core.Bool.{Bool, true, false, cond, not, _&&_, _||_}
+use mathlib.Core.List.{List}
 use lib.Dec.{eqb, leb, ltb}
-use lib.IntN.{pos}
+use lib.IntN.{ℤ, pos}
 use lib.Signed.{ltZ}
 use Rattle.kernel.specs.declared.time.SystemTime.{SystemTime}
-use Rattle.kernel.specs.declared.records.Kernel.{Kernel}
 use Rattle.kernel.specs.declared.clock.Clock.{Clock}
 use Rattle.kernel.specs.Numbers.{nobody, immediate, infinite}
 use Rattle.kernel.specs.Time.{differed}
 use Rattle.kernel.specs.Places.{semaphorePlace}
-use Rattle.kernel.specs.Tables.{counterAt, holderAt}
-use Rattle.kernel.specs.Waiters.{firstReady}
+use Rattle.kernel.specs.Tables.{counterIn, holderIn}
 use Rattle.library.specs.declared.calls.Step.{Step}
 use Rattle.library.specs.declared.sizes.Sizes.{Sizes}
 use Rattle.library.specs.declared.tables.Plant.{Plant}
-use Rattle.library.specs.Tables.{poolAt}
+use Rattle.library.specs.declared.tables.Pool.{Pool}
+use Rattle.library.specs.Tables.{poolIn}
 use Rattle.library.specs.Pool.{absent, out, markAt}
 use Rattle.library.specs.Acting.{kernelWaits}
-use Rattle.library.specs.Settling.{isBoxCall}
+use Rattle.library.specs.Settling.{isBoxCall, runningIn}
 use Rattle.rules.specs.Hanging.{hangsTogether}
 
 -- 2: "kind not 1 to 22"
@@ -26,8 +26,8 @@ abbrev pub kindFits : ℕ → Bool
 kindFits kind = leb 1 kind && leb kind 22
 
 -- 3: "caller is neither 255 nor the running thread"
-abbrev pub callerFits : Kernel → ℕ → ℕ → Bool
-callerFits k n caller = eqb caller nobody || eqb caller (firstReady k n)
+abbrev pub callerFits : ℕ → ℕ → Bool
+callerFits running caller = eqb caller nobody || eqb caller running
 
 -- 4: "tick from a thread; 2, 6, 9, 11, 12, 14 from an interrupt; 15, 16, 17, 20 from an interrupt with timeout not 0"
 abbrev pub contextFits : Step → Bool
@@ -61,23 +61,21 @@ valueFits now s =
     (cond (eqb (s .kind) 21) (leb (s .a) 31) (cond (eqb (s .kind) 22) (leb (s .a) 31) true)))))
 
 -- 7: "3 at counter 2147483647; suspend on a held reference; free of an object not out; add of one not absent"
-abbrev pub stateFits : Plant → Step → Bool
-stateFits p s =
-    cond (eqb (s .kind) 3) (ltZ (counterAt (p .kernel) (semaphorePlace (s .object))) (pos 2147483647))
-    (cond (eqb (s .kind) 9) (eqb (holderAt (p .kernel) (s .object)) nobody)
-    (cond (eqb (s .kind) 21) (eqb (markAt (poolAt p (s .object)) (s .a % 256)) out)
-    (cond (eqb (s .kind) 22) (eqb (markAt (poolAt p (s .object)) (s .a % 256)) absent) true)))
+abbrev pub stateFits : List ℤ → List ℕ → List Pool → Step → Bool
+stateFits counters references pools s =
+    cond (eqb (s .kind) 3) (ltZ (counterIn counters (semaphorePlace (s .object))) (pos 2147483647))
+    (cond (eqb (s .kind) 9) (eqb (holderIn references (s .object)) nobody)
+    (cond (eqb (s .kind) 21) (eqb (markAt (poolIn pools (s .object)) (s .a % 256)) out)
+    (cond (eqb (s .kind) 22) (eqb (markAt (poolIn pools (s .object)) (s .a % 256)) absent) true)))
 
--- "Refusal numbers, in the order of checking"; 0 is an accepted step
+-- "Refusal numbers, in the order of checking": that of the first test that fails, of the fifth where it holds; 0 is an accepted step
+abbrev pub firstFailing : Bool → Bool → Bool → Bool → Bool → Bool → Bool → ℕ
+firstFailing hangs kind caller context outside value state =
+    cond hangs (cond kind (cond caller (cond context (cond outside 5 (cond value (cond state 0 7) 6)) 4) 3) 2) 1
+
+-- the number of a step's refusal, all seven tests made
 unfoldable pub refusalOf : Plant → Clock → Step → ℕ
 refusalOf p c s =
-    cond (hangsTogether p c)
-    (cond (kindFits (s .kind))
-    (cond (callerFits (p .kernel) (p .sizes .threads) (s .caller))
-    (cond (contextFits s)
-    (cond (leb (objectLimit (p .sizes) (s .kind)) (s .object)) 5
-    (cond (valueFits (c .time) s) (cond (stateFits p s) 0 7) 6))
-    4)
-    3)
-    2)
-    1
+    firstFailing (hangsTogether p c) (kindFits (s .kind)) (callerFits (runningIn p) (s .caller)) (contextFits s)
+    (leb (objectLimit (p .sizes) (s .kind)) (s .object)) (valueFits (c .time) s)
+    (stateFits (p .kernel .counters) (p .kernel .references) (p .pools) s)

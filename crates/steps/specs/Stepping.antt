@@ -32,11 +32,11 @@ abbrev pub answerOf : Kernel → ℕ → Answer
 answerOf k caller = cond (eqb caller nobody) (k .answer) (threadAt k caller .answer)
 
 -- "A step's result: code, running thread, masks of threads woken and of threads whose calls finished, and message and datum"
-unfoldable pub outcomeOf : Kernel → ℕ → ℕ → Outcome
-outcomeOf k n caller =
+unfoldable pub outcomeOf : Kernel → ℕ → Outcome
+outcomeOf k caller =
     record {
       code = 0;
-      running = firstReady k n;
+      running = firstReady k;
       woken = maskOf (k .woken);
       finished = maskOf (k .finished);
       message = answerOf k caller .message;
@@ -62,21 +62,25 @@ doneWith p c s =
     record {
       tables = closed p;
       clock = clockAfter c (s .kind);
-      outcome = outcomeOf (p .kernel) (p .sizes .threads) (s .caller);
+      outcome = outcomeOf (p .kernel) (s .caller);
     }
 
+-- a step of n threads that has acted: "After every accepted step", settling
+abbrev pub settledWith : ℕ → Plant → Clock → Step → Stepped
+settledWith n p c s = doneWith (settled (budgetOf n) p) c s
+
 -- "the running thread as it stands (255 for 1)"
-abbrev pub runningAtRefusal : Plant → ℕ → ℕ
-runningAtRefusal p code = cond (eqb code 1) nobody (runningIn p)
+abbrev pub runningAtRefusal : ℕ → ℕ → ℕ
+runningAtRefusal running code = cond (eqb code 1) nobody running
 
 -- a refused step: "All tables keep their bytes"
 unfoldable pub refusedWith : Tables → Clock → Plant → ℕ → Stepped
 refusedWith t c p code =
-    record { tables = t; clock = c; outcome = refusedOutcome code (runningAtRefusal p code) }
+    record { tables = t; clock = c; outcome = refusedOutcome code (runningAtRefusal (runningIn p) code) }
 
--- one step: "After every accepted step", settling
+-- one step
 unfoldable pub stepped : Tables → Clock → Step → Stepped
 stepped t c s =
     cond (eqb (refusalOf (opened t) c s) 0)
-    (doneWith (settled (budgetOf (t .sizes .threads)) (acted (opened t) (c .time) s)) c s)
+    (settledWith (t .sizes .threads) (acted (opened t) (c .time) s) c s)
     (refusedWith t c (opened t) (refusalOf (opened t) c s))

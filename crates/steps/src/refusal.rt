@@ -18,12 +18,11 @@ use kernel::numbers::IMMEDIATE;
 use kernel::numbers::INFINITE;
 use kernel::numbers::NOBODY;
 use kernel::places::semaphore_place;
-use kernel::records::Kernel;
 use kernel::tables::counter_at;
 use kernel::tables::holder_at;
 use kernel::time::SystemTime;
 use kernel::time::difference;
-use kernel::waiters::first_ready;
+use kernel::words::first_in;
 use library::acting::is_kernel_wait;
 use library::calls::Step;
 use library::logic::both;
@@ -33,11 +32,13 @@ use library::numbers::OUT;
 use library::pool::mark_at;
 use library::settling::is_box_call;
 use library::sizes::Sizes;
-use library::tables::Plant;
+use library::tables::Pool;
+use library::tables::Tables;
 use library::tables::pool_at;
 use rules::hanging::hangs_together;
 ghost use mathlib.Core.Path.{_≡_};
-ghost use Rattle.steps.specs.Refusal.{kindFits, callerFits, contextFits, objectLimit, isSpan, valueFits, stateFits, refusalOf};
+ghost use Rattle.library.specs.Tables.{opened};
+ghost use Rattle.steps.specs.Refusal.{kindFits, callerFits, contextFits, objectLimit, isSpan, valueFits, stateFits, firstFailing, refusalOf};
 
 // 2: kind not 1 to 22.
 fn kind_fits(kind: u8) -> bool
@@ -47,10 +48,9 @@ fn kind_fits(kind: u8) -> bool
 }
 
 // 3: the caller is neither 255 nor the running thread.
-fn caller_fits(k: Kernel, n: u16, caller: u8) -> bool
-    ensures { λ r. ⌜ r ≡ callerFits k n caller ⌝ }
+fn caller_fits(running: u8, caller: u8) -> bool
+    ensures { λ r. ⌜ r ≡ callerFits running caller ⌝ }
 {
-    let running = first_ready(k, n);
     either(caller == NOBODY, caller == running)
 }
 
@@ -121,44 +121,65 @@ fn value_fits(now: SystemTime, s: Step) -> bool
 }
 
 // 7: the object is in the state that the step needs.
-fn state_fits(p: Plant, s: Step) -> bool
-    ensures { λ r. ⌜ r ≡ stateFits p s ⌝ }
+fn state_fits(counters: [i32; 36], references: [u8; 8], pools: [Pool; 4], s: Step) -> bool
+    ensures { λ r. ⌜ r ≡ stateFits counters references pools s ⌝ }
 {
     let kind = s.kind;
     let object = s.object as u16;
     match kind {
-        SIGNAL => counter_at(p.kernel, semaphore_place(object)) < 2147483647,
-        SUSPEND => holder_at(p.kernel, object) == NOBODY,
-        FREE => mark_at(pool_at(p, object), (s.a % 256) as u8) == OUT,
-        ADD => mark_at(pool_at(p, object), (s.a % 256) as u8) == ABSENT,
+        SIGNAL => counter_at(counters, semaphore_place(object)) < 2147483647,
+        SUSPEND => holder_at(references, object) == NOBODY,
+        FREE => mark_at(pool_at(pools, object), (s.a % 256) as u8) == OUT,
+        ADD => mark_at(pool_at(pools, object), (s.a % 256) as u8) == ABSENT,
         _ => true,
     }
 }
 
-// The refusal number of a step, or 0.
-pub fn refuse(p: Plant, clock: Clock, s: Step) -> u8
-    ensures { λ r. ⌜ r ≡ refusalOf p clock s ⌝ }
+// The number of the first test that fails, or 0; `outside` says that the object is not in the configuration.
+fn first_failing(
+    hangs: bool,
+    kind: bool,
+    caller: bool,
+    context: bool,
+    outside: bool,
+    value: bool,
+    state: bool,
+) -> u8
+    ensures { λ r. ⌜ r ≡ firstFailing hangs kind caller context outside value state ⌝ }
 {
-    if !hangs_together(p, clock) {
-        return 1;
+    if !hangs {
+        1
+    } else if !kind {
+        2
+    } else if !caller {
+        3
+    } else if !context {
+        4
+    } else if outside {
+        5
+    } else if !value {
+        6
+    } else if !state {
+        7
+    } else {
+        0
     }
-    if !kind_fits(s.kind) {
-        return 2;
-    }
-    if !caller_fits(p.kernel, p.sizes.threads, s.caller) {
-        return 3;
-    }
-    if !context_fits(s) {
-        return 4;
-    }
-    if object_limit(p.sizes, s.kind) <= s.object as u16 {
-        return 5;
-    }
-    if !value_fits(clock.time, s) {
-        return 6;
-    }
-    if !state_fits(p, s) {
-        return 7;
-    }
-    0
+}
+
+// The refusal number of a step, or 0. All tests are made, whatever the others say: each reads within its table.
+pub fn refuse(t: Tables, clock: Clock, s: Step) -> u8
+    ensures { λ r. ⌜ r ≡ refusalOf (opened t) clock s ⌝ }
+{
+    let words = t.kernel.words;
+    let counters = t.kernel.counters;
+    let references = t.kernel.references;
+    let pools = t.pools;
+    let hangs = hangs_together(t, clock);
+    let kind = kind_fits(s.kind);
+    let caller = caller_fits(first_in(words.ready), s.caller);
+    let context = context_fits(s);
+    let outside = object_limit(t.sizes, s.kind) <= s.object as u16;
+    let value = value_fits(clock.time, s);
+    let state = state_fits(counters, references, pools, s);
+    first_failing(hangs, kind, caller, context, outside, value, state)
 }

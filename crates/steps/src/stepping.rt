@@ -2,23 +2,33 @@
 use crate::refusal::refuse;
 use kernel::clock::Clock;
 use kernel::clock::advance;
+use kernel::kinds::EVENT_WAIT;
 use kernel::kinds::TICK;
 use kernel::numbers::NOBODY;
 use kernel::records::Answer;
 use kernel::records::Kernel;
+use kernel::records::begin;
+use kernel::records::end;
 use kernel::tables::thread_at;
 use kernel::tables::used_rows;
 use kernel::waiters::first_ready;
-use library::acting::act;
+use kernel::waiters::running_free;
+use kernel::words::first_in;
+use library::acting::act_on_box;
+use library::acting::act_on_kernel;
 use library::calls::Step;
 use library::settling::settle;
 use library::tables::Plant;
 use library::tables::Tables;
 use library::tables::close;
 use library::tables::open;
+use library::tables::set_kernel;
 ghost use mathlib.Core.Path.{_≡_};
+ghost use Rattle.kernel.specs.Records.{begun};
 ghost use Rattle.kernel.specs.Walk.{bit};
-ghost use Rattle.steps.specs.Stepping.{maskOf, answerOf, outcomeOf, refusedOutcome, clockAfter, budgetOf, doneWith, runningAtRefusal, refusedWith, stepped};
+ghost use Rattle.library.specs.Acting.{actedOnBox, actedOnKernel};
+ghost use Rattle.library.specs.Tables.{opened, withKernel};
+ghost use Rattle.steps.specs.Stepping.{maskOf, answerOf, outcomeOf, refusedOutcome, clockAfter, budgetOf, doneWith, settledWith, runningAtRefusal, refusedWith, stepped};
 
 // A step's result. The masks have bit i for thread i.
 #[repr(C)]
@@ -63,17 +73,18 @@ fn answer_of(k: Kernel, caller: u8) -> Answer
     if caller == NOBODY {
         k.answer
     } else {
-        let t = thread_at(k, caller);
+        let threads = k.threads;
+        let t = thread_at(threads, caller);
         t.answer
     }
 }
 
 // The result of an accepted step, once it has settled.
-fn outcome_of(k: Kernel, n: u16, caller: u8) -> Outcome
-    ensures { λ r. ⌜ r ≡ outcomeOf k n caller ⌝ }
+fn outcome_of(k: Kernel, caller: u8) -> Outcome
+    ensures { λ r. ⌜ r ≡ outcomeOf k caller ⌝ }
 {
     let a = answer_of(k, caller);
-    let running = first_ready(k, n);
+    let running = first_ready(k);
     let woken_flags = k.woken;
     let finished_flags = k.finished;
     let woken = mask_of(woken_flags);
@@ -127,7 +138,7 @@ fn budget_of(n: u16) -> u16
 fn end_step(p: Plant, clock: Clock, s: Step) -> Stepped
     ensures { λ r. ⌜ r ≡ doneWith p clock s ⌝ }
 {
-    let outcome = outcome_of(p.kernel, p.sizes.threads, s.caller);
+    let outcome = outcome_of(p.kernel, s.caller);
     let tables = close(p);
     let after = clock_after(clock, s.kind);
     Stepped {
@@ -137,22 +148,61 @@ fn end_step(p: Plant, clock: Clock, s: Step) -> Stepped
     }
 }
 
-// The running thread as it stands; tables that do not hang together have none.
-fn running_at_refusal(p: Plant, code: u8) -> u8
-    ensures { λ r. ⌜ r ≡ runningAtRefusal p code ⌝ }
+// A step of n threads that has acted settles, and ends.
+fn settle_step(p: Plant, n: u16, clock: Clock, s: Step) -> Stepped
+    ensures { λ r. ⌜ r ≡ settledWith n p clock s ⌝ }
 {
-    if code == 1 {
-        NOBODY
+    let settled = settle(p, budget_of(n));
+    end_step(settled, clock, s)
+}
+
+// An accepted step of kinds 1 to 14. The kernel part's records go through it alone; the whole tables only where a call is continued.
+fn step_kernel(tables: Tables, clock: Clock, s: Step) -> Stepped
+    ensures { λ r. ⌜ r ≡ settledWith (tables .sizes .threads) (withKernel (opened tables) (actedOnKernel (begun (tables .kernel)) (tables .sizes .threads) (clock .time) s)) clock s ⌝ }
+{
+    let n = tables.sizes.threads;
+    let k = act_on_kernel(begin(tables.kernel), n, clock.time, s);
+    if running_free(k) {
+        let outcome = outcome_of(k, s.caller);
+        let after = clock_after(clock, s.kind);
+        let mut left = tables;
+        left.kernel = end(k);
+        Stepped {
+            tables: left,
+            clock: after,
+            outcome: outcome,
+        }
     } else {
-        first_ready(p.kernel, p.sizes.threads)
+        settle_step(set_kernel(open(tables), k), n, clock, s)
     }
 }
 
-// A refused step: the very tables and clock that came in.
-fn refuse_step(tables: Tables, clock: Clock, p: Plant, code: u8) -> Stepped
-    ensures { λ r. ⌜ r ≡ refusedWith tables clock p code ⌝ }
+// An accepted step of kinds 15 to 22.
+fn step_box(tables: Tables, clock: Clock, s: Step) -> Stepped
+    ensures { λ r. ⌜ r ≡ settledWith (tables .sizes .threads) (actedOnBox (opened tables) s) clock s ⌝ }
 {
-    let running = running_at_refusal(p, code);
+    let n = tables.sizes.threads;
+    let p = act_on_box(open(tables), s);
+    if running_free(p.kernel) {
+        end_step(p, clock, s)
+    } else {
+        settle_step(p, n, clock, s)
+    }
+}
+
+// The running thread as it stands; tables that do not hang together have none.
+fn running_at_refusal(running: u8, code: u8) -> u8
+    ensures { λ r. ⌜ r ≡ runningAtRefusal running code ⌝ }
+{
+    if code == 1 { NOBODY } else { running }
+}
+
+// A refused step: the very tables and clock that came in.
+fn refuse_step(tables: Tables, clock: Clock, code: u8) -> Stepped
+    ensures { λ r. ⌜ r ≡ refusedWith tables clock (opened tables) code ⌝ }
+{
+    let words = tables.kernel.words;
+    let running = running_at_refusal(first_in(words.ready), code);
     let outcome = refused_outcome(code, running);
     Stepped {
         tables: tables,
@@ -165,13 +215,14 @@ fn refuse_step(tables: Tables, clock: Clock, p: Plant, code: u8) -> Stepped
 pub fn step(tables: Tables, clock: Clock, s: Step) -> Stepped
     ensures { λ r. ⌜ r ≡ stepped tables clock s ⌝ }
 {
-    let p = open(tables);
-    let code = refuse(p, clock, s);
+    let code = refuse(tables, clock, s);
     if code == 0 {
-        let acted = act(p, clock.time, s);
-        let settled = settle(acted, budget_of(p.sizes.threads));
-        end_step(settled, clock, s)
+        if s.kind <= EVENT_WAIT {
+            step_kernel(tables, clock, s)
+        } else {
+            step_box(tables, clock, s)
+        }
     } else {
-        refuse_step(tables, clock, p, code)
+        refuse_step(tables, clock, code)
     }
 }

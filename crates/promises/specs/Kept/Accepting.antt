@@ -12,6 +12,7 @@ use Rattle.kernel.proofs.Cases.{contrary}
 use Rattle.library.specs.declared.calls.Step.{Step}
 use Rattle.library.specs.declared.tables.Plant.{Plant}
 use Rattle.library.specs.Acting.{kernelWaits}
+use Rattle.library.specs.Settling.{runningIn}
 use Rattle.rules.specs.Hanging.{hangsTogether}
 use Rattle.steps.specs.Refusal.{kindFits, callerFits, contextFits, objectLimit, valueFits, stateFits, refusalOf}
 
@@ -22,7 +23,7 @@ pub record Accepted (p : Plant) (c : Clock) (s : Step) : Type 0 where
   -- 2: "kind not 1 to 22"
   pub kind : kindFits (s .kind) ≡ true
   -- 3: "caller is neither 255 nor the running thread"
-  pub caller : callerFits (p .kernel) (p .sizes .threads) (s .caller) ≡ true
+  pub caller : callerFits (runningIn p) (s .caller) ≡ true
   -- 4: the step is not for its caller
   pub context : contextFits s ≡ true
   -- 5: "object not in the configuration"
@@ -30,7 +31,7 @@ pub record Accepted (p : Plant) (c : Clock) (s : Step) : Type 0 where
   -- 6: a value out of its range
   pub value : valueFits (c .time) s ≡ true
   -- 7: a state in which the step cannot be done
-  pub state : stateFits p s ≡ true
+  pub state : stateFits (p .kernel .counters) (p .kernel .references) (p .pools) s ≡ true
 
 -- a choice that comes to 0 was made by its test, where the other side is not 0
 passed : (b : Bool) (x y : ℕ) → y ≢ 0 → cond b x y ≡ 0 → (b ≡ true) × (x ≡ 0)
@@ -49,11 +50,11 @@ module _ (p : Plant) (c : Clock) (s : Step) where
   refusal-none e =
       let a = passed (hangsTogether p c) _ 1 (λ z. omega arith) e in
       let b = passed (kindFits (s .kind)) _ 2 (λ z. omega arith) (a .1) in
-      let d = passed (callerFits (p .kernel) (p .sizes .threads) (s .caller)) _ 3 (λ z. omega arith) (b .1) in
+      let d = passed (callerFits (runningIn p) (s .caller)) _ 3 (λ z. omega arith) (b .1) in
       let f = passed (contextFits s) _ 4 (λ z. omega arith) (d .1) in
       let g = not-failed (leb (objectLimit (p .sizes) (s .kind)) (s .object)) 5 _ (λ z. omega arith) (f .1) in
       let h = passed (valueFits (c .time) s) _ 6 (λ z. omega arith) (g .1) in
-      let i = passed (stateFits p s) 0 7 (λ z. omega arith) (h .1) in
+      let i = passed (stateFits (p .kernel .counters) (p .kernel .references) (p .pools) s) 0 7 (λ z. omega arith) (h .1) in
       record {
         hangs = a .0;
         kind = b .0;

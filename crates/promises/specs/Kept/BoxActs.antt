@@ -22,7 +22,7 @@ use Rattle.kernel.specs.Semaphore.{taken}
 use Rattle.kernel.proofs.Cases.{split, same-or, chosen}
 use Rattle.kernel.proofs.WalkLaws.{count-some}
 use Rattle.kernel.proofs.TablesLaws.{used-all}
-use Rattle.kernel.proofs.WaitersLaws.{first-waiter-cases}
+use Rattle.kernel.proofs.WaitersLaws.{TellsAt, first-waiter-cases}
 use Rattle.kernel.proofs.QueueLaws.{release-first-others}
 use Rattle.library.specs.declared.sizes.Sizes.{Sizes}
 use Rattle.library.specs.declared.tables.Plant.{Plant}
@@ -52,7 +52,9 @@ use Rattle.promises.specs.Kept.PoolKept.{
   put-back-pushed,
 }
 use Rattle.promises.specs.Kept.Rows.{CallSound}
+use Rattle.promises.specs.Kept.WordRule.{pool-told, writers-told, readers-told}
 use Rattle.promises.specs.Kept.Chain.{
+  chain-sound,
   Sleeper,
   Note,
   sleepOf,
@@ -130,26 +132,26 @@ module _ (z : Sizes) (g : GoodSizes z) (k : Kernel) (s : Sound z k) where
           }
 
   -- a release of others leaves a ready thread as it was
-  pub released-row : (i p : ℕ) (m : ℤ) → i < n → threadAt k i .state ≡ ready → threadAt (releasedFirst k n p m) i ≡ threadAt k i
-  released-row i p m l r = release-first-others k n p m i other
+  pub released-row : (i p : ℕ) → TellsAt n k p → (m : ℤ) → i < n → threadAt k i .state ≡ ready → threadAt (releasedFirst k p m) i ≡ threadAt k i
+  released-row i p told m l r = release-first-others k p m i other
     where
-      other : i ≢ firstWaiter k n p
+      other : i ≢ firstWaiter k p
       other e =
-          elim (first-waiter-cases k n p) [
-            | inl w ↦ queued-unready p (threadAt k (firstWaiter k n p)) (w .passes) (rw (sym e) r)
+          elim (first-waiter-cases k n (g .threads .1) p told) [
+            | inl w ↦ queued-unready p (threadAt k (firstWaiter k p)) (w .passes) (rw (sym e) r)
             | inr w ↦ absurd (omega (arith, l, g .threads .1, e, w .0))
           ]
 
-  released-caller : (i p : ℕ) (m : ℤ) → Caller z k i → Caller z (releasedFirst k n p m) i
-  released-caller i p m (inl e) = inl e
-  released-caller i p m (inr f) = inr (f .0, rw (released-row i p m (f .0) (f .1 .is-ready)) (f .1))
+  released-caller : (i p : ℕ) → TellsAt n k p → (m : ℤ) → Caller z k i → Caller z (releasedFirst k p m) i
+  released-caller i p told m (inl e) = inl e
+  released-caller i p told m (inr f) = inr (f .0, rw (released-row i p told m (f .0) (f .1 .is-ready)) (f .1))
 
   -- the first of the other side's waiters is released, and the call finishes
-  release-quiet : (i p : ℕ) (d : ℕ) → 20 ≤ p → Caller z k i → Quiet z k (finished (releasedFirst k n p ok) i ok d)
-  release-quiet i p d l c =
+  release-quiet : (i p : ℕ) → TellsAt n k p → (d : ℕ) → 20 ≤ p → Caller z k i → Quiet z k (finished (releasedFirst k p ok) i ok d)
+  release-quiet i p told d l c =
       silent _
-      (after (release-first-chained z g k (s .rules .sized) p ok (λ h. absurd (omega arith)))
-      (finish-chained z g (releasedFirst k n p ok) i ok d (released-caller i p ok c)))
+      (after (release-first-chained z g k (s .rules .sized) p told ok (λ h. absurd (omega arith)))
+      (finish-chained z g (releasedFirst k p ok) i ok d (released-caller i p told ok c)))
 
   -- a mailbox's queues are in use, and never above 0
   module _ (o : ℕ) (there : o < z .mailboxes) where
@@ -200,7 +202,8 @@ module _ (p : Plant) (w : Whole (p .sizes) p) where
         (λ a. chosen (λ (h : Plant). Quiet z k (h .kernel))
         (eqb (placedFor (mailboxAt p (c .object)) (c .kind) (slotsAt z (c .object)) .slot) noSlot)
         (λ b. enqueue-quiet z g k (w .kernel) i (writersPlace (c .object)) c t e f (writers-level z g k (w .kernel) (c .object) there))
-        (λ b. release-quiet z g k (w .kernel) i (readersPlace (c .object)) 0 (omega arith) (t .asks)))
+        (λ b. release-quiet z g k (w .kernel) i (readersPlace (c .object)) (readers-told k z g (w .kernel .rules .words) (c .object) there) 0 (omega arith)
+        (t .asks)))
         (λ a. silent z g k (w .kernel) _ (finish-chained z g k i wasReset 0 (t .asks)))
 
     pub post-tries : queued ≡ waitState (c .kind) → writersPlace (c .object) ≡ waitPlace (c .kind) (c .object)
@@ -215,7 +218,8 @@ module _ (p : Plant) (w : Whole (p .sizes) p) where
         (λ a. chosen (λ (h : Plant). Quiet z k (h .kernel))
         (eqb (fetched (mailboxAt p (c .object) .positions) (slotsAt z (c .object)) .slot) noSlot)
         (λ b. enqueue-quiet z g k (w .kernel) i (readersPlace (c .object)) c t e f (readers-level z g k (w .kernel) (c .object) there))
-        (λ b. release-quiet z g k (w .kernel) i (writersPlace (c .object)) _ (omega arith) (t .asks)))
+        (λ b. release-quiet z g k (w .kernel) i (writersPlace (c .object)) (writers-told k z g (w .kernel .rules .words) (c .object) there) _ (omega arith)
+        (t .asks)))
         (λ a. silent z g k (w .kernel) _ (finish-chained z g k i wasReset 0 (t .asks)))
 
     pub fetch-tries : queued ≡ waitState (c .kind) → readersPlace (c .object) ≡ waitPlace (c .kind) (c .object)
@@ -227,9 +231,16 @@ module _ (p : Plant) (w : Whole (p .sizes) p) where
   unfolding mailboxReset bothReleased countIn
   reset-acts o l =
       boxes-done (mailboxReset p o) [] (reset-kept p (w .mailboxes) o l)
-      (after (release-all-chained z g k (writersPlace o) wasReset (λ h. refl))
-      (release-all-chained z g (releasedAll k (z .threads) (writersPlace o) wasReset) (readersPlace o) wasReset (λ h. refl)))
+      (after first
+      (release-all-chained z g v (readersPlace o)
+      (readers-told v z g (chain-sound z g first (w .kernel) .rules .words) o l) wasReset (λ h. refl)))
       (λ q. refl) (λ q. refl)
+    where
+      v : Kernel
+      v = releasedAll k (writersPlace o) wasReset
+
+      first : Chained z k v []
+      first = release-all-chained z g k (writersPlace o) (writers-told k z g (w .kernel .rules .words) o l) wasReset (λ h. refl)
 
   -- "resume clears the state"
   pub resume-acts : (o : ℕ) → o < z .mailboxes → Done z p (mailboxResumed p o) []
@@ -322,7 +333,7 @@ module _ (p : Plant) (w : Whole (p .sizes) p) where
 
         chain : Chained z k (putBack p o x .kernel) (signalAt (poolPlace o) ∷ [])
         chain =
-            signal-chained z g k (poolPlace o) place-low tally
+            signal-chained z g k (poolPlace o) place-low (pool-told k z g (w .kernel .rules .words) o there) tally
             (stock-below (counterAt k (poolPlace o)) (omega (arith, w .lengths o there, w .pools .listed o there .length)))
 
   -- "Alloc waits on the counter, then takes the top as its datum"

@@ -28,8 +28,7 @@ use Rattle.kernel.specs.Event.{eventSignalled, eventWaited}
 use Rattle.kernel.specs.Reference.{suspendedOn, resumed}
 use Rattle.kernel.specs.Delay.{sleptFor, sleptUntil}
 use Rattle.kernel.proofs.Cases.{split, chosen, contrary, both-means}
-use Rattle.kernel.proofs.TablesLaws.{used-le-given}
-use Rattle.kernel.proofs.WaitersLaws.{first-ready-cases}
+use Rattle.kernel.proofs.WaitersLaws.{TellsAt, first-ready-cases}
 use Rattle.library.specs.declared.calls.Step.{Step}
 use Rattle.library.specs.declared.sizes.Sizes.{Sizes}
 use Rattle.library.specs.declared.tables.Plant.{Plant}
@@ -45,6 +44,7 @@ use Rattle.promises.specs.Together.Good.{CallKind, GoodSizes}
 use Rattle.promises.specs.Together.Hanging.{test-hangs}
 use Rattle.promises.specs.Kept.Tallies.{Tallies}
 use Rattle.promises.specs.Kept.CounterRule.{semaphore-place, queue-place}
+use Rattle.promises.specs.Kept.WordRule.{semaphore-told, queue-told}
 use Rattle.promises.specs.Kept.Accepting.{Accepted, waits-thread}
 use Rattle.promises.specs.Kept.Rows.{Idle, CallSound}
 use Rattle.promises.specs.Kept.Chain.{Sleeper, Note, sleepOf, signalAt, takeAt, Chained, after, nil-right, countIn, isSlept}
@@ -137,14 +137,14 @@ module _ (p : Plant) (c : Clock) (s : Step) (a : Accepted p c s) (w : Whole (p .
   -- the caller is an interrupt, or the running thread, which has no unfinished call
   pub stepper : Stepper z k (s .caller)
   stepper =
-      elim (either-means (eqb (s .caller) nobody) (eqb (s .caller) (firstReady k n)) (a .caller)) [
+      elim (either-means (eqb (s .caller) nobody) (eqb (s .caller) (firstReady k)) (a .caller)) [
         | inl e ↦ inl (eqb-true (s .caller) nobody e)
-        | inr e ↦ rw (eqb-true (s .caller) (firstReady k n) e)
-            (elim (first-ready-cases k n) [
+        | inr e ↦ rw (eqb-true (s .caller) (firstReady k) e)
+            (elim (first-ready-cases k n (g .threads .1) (w .kernel .rules .words .ready)) [
               | inl f ↦ inr (
-                omega (arith, f .below, used-le-given n),
+                f .below,
                 record {
-                  is-ready = eqb-true (threadAt k (firstReady k n) .state) ready (f .passes);
+                  is-ready = eqb-true (threadAt k (firstReady k) .state) ready (f .passes);
                   no-call = test-hangs p c (a .hangs) .running;
                 },
               )
@@ -192,31 +192,37 @@ module _ (p : Plant) (c : Clock) (s : Step) (a : Accepted p c s) (w : Whole (p .
     low : s .object < 16
     low = semaphore-place k z g (s .object) in-range .0
 
+    told : TellsAt n k (s .object)
+    told = semaphore-told k z g (w .kernel .rules .words) (s .object) in-range
+
     tally : Tallies n (s .object) k
     tally = w .kernel .rules .places (s .object) (omega (arith, low)) (semaphore-place k z g (s .object) in-range .1)
 
   -- 3: "3 at counter 2147483647" is refused
-  signal-acts : s .kind ≡ 3 → Effects z p s (signalled k n (s .object))
+  signal-acts : s .kind ≡ 3 → Effects z p s (signalled k (s .object))
   signal-acts e =
       let l = object-of 3 e in
-      signalling (signalled k n (s .object)) (low l)
-      (signal-chained z g k (s .object) (omega (arith, low l)) (tally l) (rw e at (a .state)))
+      signalling (signalled k (s .object)) (low l)
+      (signal-chained z g k (s .object) (omega (arith, low l)) (told l) (tally l) (rw e at (a .state)))
 
   -- 5
-  binary-acts : s .kind ≡ 5 → Effects z p s (binarySignalled k n (s .object))
+  binary-acts : s .kind ≡ 5 → Effects z p s (binarySignalled k (s .object))
   binary-acts e =
       let l = object-of 5 e in
-      let x = binary-chained z g k (s .object) (omega (arith, low l)) (tally l) in
+      let x = binary-chained z g k (s .object) (omega (arith, low l)) (told l) (tally l) in
       split (ltZ (counterAt k (s .object)) (pos 1))
-      (λ b. signalling (binarySignalled k n (s .object)) (low l) (rw b at x))
-      (λ b. plainly (binarySignalled k n (s .object)) (rw b at x))
+      (λ b. signalling (binarySignalled k (s .object)) (low l) (rw b at x))
+      (λ b. plainly (binarySignalled k (s .object)) (rw b at x))
 
   -- 4: "reset above 2147483647" is refused
-  reset-acts : s .kind ≡ 4 → Effects z p s (resetTo k n (s .object) (messageOf s))
+  reset-acts : s .kind ≡ 4 → Effects z p s (resetTo k (s .object) (messageOf s))
   reset-acts e =
-      plainly (resetTo k n (s .object) (messageOf s))
-      (reset-chained z g k (s .object) (messageOf s) (low (object-of 4 e))
+      plainly (resetTo k (s .object) (messageOf s))
+      (reset-chained z g k (s .object) (told (object-of 4 e)) (messageOf s) (low (object-of 4 e))
       (not-negative (s .a) (leb-true (s .a) 2147483647 (rw e at (a .value)))))
+
+  queue : s .object < z .queues → TellsAt n k (queuePlace (s .object))
+  queue = queue-told k z g (w .kernel .rules .words) (s .object)
 
   far : (o : ℕ) → queuePlace o < 20 → ⊥
   far o h = omega arith
@@ -242,11 +248,13 @@ module _ (p : Plant) (c : Clock) (s : Step) (a : Accepted p c s) (w : Whole (p .
       (λ e3. chosen (Effects z p s) (eqb (s .kind) 4) (λ e. reset-acts (eqb-true (s .kind) 4 e))
       (λ e4. chosen (Effects z p s) (eqb (s .kind) 5) (λ e. binary-acts (eqb-true (s .kind) 5 e))
       (λ e5. chosen (Effects z p s) (eqb (s .kind) 7)
-      (λ e. plainly (releasedFirst k n (queuePlace (s .object)) (messageOf s))
-      (release-first-chained z g k (w .kernel .rules .sized) (queuePlace (s .object)) (messageOf s) (λ l. absurd (far (s .object) l))))
+      (λ e. plainly (releasedFirst k (queuePlace (s .object)) (messageOf s))
+      (release-first-chained z g k (w .kernel .rules .sized) (queuePlace (s .object)) (queue (object-of 7 (eqb-true (s .kind) 7 e))) (messageOf s)
+      (λ l. absurd (far (s .object) l))))
       (λ e7. chosen (Effects z p s) (eqb (s .kind) 8)
-      (λ e. plainly (releasedAll k n (queuePlace (s .object)) (messageOf s))
-      (release-all-chained z g k (queuePlace (s .object)) (messageOf s) (λ l. absurd (far (s .object) l))))
+      (λ e. plainly (releasedAll k (queuePlace (s .object)) (messageOf s))
+      (release-all-chained z g k (queuePlace (s .object)) (queue (object-of 8 (eqb-true (s .kind) 8 e))) (messageOf s)
+      (λ l. absurd (far (s .object) l))))
       (λ e8. chosen (Effects z p s) (eqb (s .kind) 10) (λ e. resume-acts (eqb-true (s .kind) 10 e))
       (λ e10.
       let is =

@@ -29,9 +29,9 @@ use Rattle.kernel.specs.Event.{withPending, flagged, tookFlags, isMet, eventSig
 use Rattle.kernel.specs.Ticking.{ticked}
 use Rattle.kernel.proofs.Cases.{split, same-or, contrary, both-means, both-true}
 use Rattle.kernel.proofs.CountersLaws.{debt-some}
-use Rattle.kernel.proofs.TablesLaws.{Sized, thread-same, used-all, used-le-given}
+use Rattle.kernel.proofs.TablesLaws.{Sized, thread-same}
 use Rattle.kernel.proofs.MovesLaws.{wake-row, wake-past, finish-interrupt}
-use Rattle.kernel.proofs.WaitersLaws.{queued-place, first-waiter-cases, first-waiter-counted}
+use Rattle.kernel.proofs.WaitersLaws.{queued-place, TellsAt, first-waiter-cases, first-waiter-counted}
 use Rattle.kernel.proofs.QueueLaws.{release-all-keeps, release-all-empties}
 use Rattle.library.specs.declared.sizes.Sizes.{Sizes}
 use Rattle.library.specs.Binary.{binarySignalled}
@@ -97,49 +97,48 @@ module _ (z : Sizes) (g : GoodSizes z) where
           cause = λ q h f. c (rw (eqb-true p q (sym (queued-place p q (threadAt k i) e) ∙ f)) h);
         }
 
-    pub release-first-chained : Sized k → (p : ℕ) (m : ℤ) → (p < 20 → m ≡ wasReset) → Chained z k (releasedFirst k n p m) []
+    pub release-first-chained : Sized k → (p : ℕ) → TellsAt n k p → (m : ℤ) → (p < 20 → m ≡ wasReset) → Chained z k (releasedFirst k p m) []
     unfolding releasedFirst
-    release-first-chained s p m c =
-        elim (first-waiter-cases k n p) [
-          | inl f ↦ wake-chained (firstWaiter k n p) m
-              (waiter-waken p (firstWaiter k n p) m (omega (arith, f .below, used-le-given n)) (f .passes) c)
+    release-first-chained s p told m c =
+        elim (first-waiter-cases k n (g .threads .1) p told) [
+          | inl f ↦ wake-chained (firstWaiter k p) m (waiter-waken p (firstWaiter k p) m (f .below) (f .passes) c)
           | inr f ↦ rw (f .0, wake-past k nobody m (omega (arith, s .threads)) (omega (arith, s .woken)) (omega arith)) rested
         ]
 
-  pub release-all-chained : (k : Kernel) (p : ℕ) (m : ℤ) → (p < 20 → m ≡ wasReset) → Chained z k (releasedAll k n p m) []
-  release-all-chained k p m c =
-      release-all-keeps k n p m (λ h. Chained z k h [])
+  pub release-all-chained : (k : Kernel) (p : ℕ) → TellsAt n k p → (m : ℤ) → (p < 20 → m ≡ wasReset) → Chained z k (releasedAll k p m) []
+  release-all-chained k p told m c =
+      release-all-keeps k p m n (g .threads .1) told (λ h. Chained z k h [])
       (λ i l h e a. after a (wake-chained h i m (waiter-waken h p i m l e c))) rested
 
   -- ---- semaphores
 
-  module _ (k : Kernel) (p : ℕ) (semaphore : p < 20) where
-    pub signal-chained : Tallies n p k → ltZ (counterAt k p) (pos 2147483647) ≡ true → Chained z k (signalled k n p) (signalAt p ∷ [])
+  module _ (k : Kernel) (p : ℕ) (semaphore : p < 20) (told : TellsAt n k p) where
+    pub signal-chained : Tallies n p k → ltZ (counterAt k p) (pos 2147483647) ≡ true → Chained z k (signalled k p) (signalAt p ∷ [])
     unfolding signalled releasedFirst
     signal-chained t b =
         split (ltZ (counterAt k p) (pos 0))
         (λ e. rw e
-        (let f = first-waiter-counted k n p (g .threads .1) (omega (arith, t .tally, debt-some (counterAt k p) e)) in
-        one (Move.passes p (firstWaiter k n p) semaphore f)))
+        (let f = first-waiter-counted k n (g .threads .1) p told (omega (arith, t .tally, debt-some (counterAt k p) e)) in
+        one (Move.passes p (firstWaiter k p) semaphore f)))
         (λ e. rw e (one (Move.raises p semaphore e b)))
 
     -- "as 3 if the counter is below 1, else nothing"
-    pub binary-chained : Tallies n p k → Chained z k (binarySignalled k n p) (cond (ltZ (counterAt k p) (pos 1)) (signalAt p ∷ []) [])
+    pub binary-chained : Tallies n p k → Chained z k (binarySignalled k p) (cond (ltZ (counterAt k p) (pos 1)) (signalAt p ∷ []) [])
     unfolding binarySignalled
     binary-chained t =
         split (ltZ (counterAt k p) (pos 1)) (λ e. rw e (signal-chained t (below-top (counterAt k p) e))) (λ e. rw e rested)
 
-    -- one unit taken
-    pub take-chained : ltZ (pos 0) (counterAt k p) ≡ true → Chained z k (taken k p) (takeAt p ∷ [])
-    take-chained e = one (Move.takes p semaphore e)
+  -- one unit taken
+  pub take-chained : (k : Kernel) (p : ℕ) → p < 20 → ltZ (pos 0) (counterAt k p) ≡ true → Chained z k (taken k p) (takeAt p ∷ [])
+  take-chained k p l e = one (Move.takes p l e)
 
-  pub reset-chained : (k : Kernel) (p : ℕ) (c : ℤ) → p < 16 → ltZ c (pos 0) ≡ false → Chained z k (resetTo k n p c) []
+  pub reset-chained : (k : Kernel) (p : ℕ) → TellsAt n k p → (c : ℤ) → p < 16 → ltZ c (pos 0) ≡ false → Chained z k (resetTo k p c) []
   unfolding resetTo
-  reset-chained k p c l e =
-      after (release-all-chained k p wasReset (λ h. refl))
+  reset-chained k p told c l e =
+      after (release-all-chained k p told wasReset (λ h. refl))
       (one (Move.sets p c (record {
         semaphore = l;
-        none = λ i h. release-all-empties k n p wasReset i (rw (used-all n (g .threads .1)) h);
+        none = release-all-empties k p wasReset n (g .threads .1) told;
         value = e;
       })))
 

@@ -3,7 +3,7 @@
 use Prim.Native.Nat.{ℕ, zero, suc, _+_, _-_, _*_, _≤_, _<_}
 use native.Mathlib.Omega.{arith}
 use mathlib.Core.Path.{_≡_, refl, sym, ap, subst}
-use mathlib.Core.Logic.{_≢_, inl, inr}
+use mathlib.Core.Logic.{_≢_, _⊎_, inl, inr}
 use mathlib.Core.Bool.{Bool, true, false, not, _&&_, and-false}
 use mathlib.Core.List.{[], _++_}
 use lib.Dec.{eqb}
@@ -22,11 +22,11 @@ use Rattle.kernel.specs.Moves.{woken, slept, finished}
 use Rattle.kernel.specs.Waiters.{isReady, firstWaiter}
 use Rattle.kernel.specs.Queue.{enqueued, releasedFirst}
 use Rattle.kernel.specs.Event.{withPending, tookFlags}
-use Rattle.kernel.proofs.Cases.{split, chosen, contrary, both-means}
+use Rattle.kernel.proofs.Cases.{split, same-or, chosen, contrary, both-means}
 use Rattle.kernel.proofs.WalkLaws.{bit-le, count-le, count-agree, count-change}
 use Rattle.kernel.proofs.QueueLaws.{release-first-sizes}
-use Rattle.kernel.proofs.TablesLaws.{Sized, sized-kept, thread-sizes, thread-same, thread-kept, used-all, used-le-given, thread-blank}
-use Rattle.kernel.proofs.WaitersLaws.{first-ready-cases, first-waiter-cases}
+use Rattle.kernel.proofs.TablesLaws.{Sized, sized-kept, thread-sizes, thread-same, thread-kept, used-all, thread-blank}
+use Rattle.kernel.proofs.WaitersLaws.{TellsAt, first-ready-cases, first-waiter-cases}
 use Rattle.kernel.proofs.MovesLaws.{wake-row, wake-others, wake-past, sleep-row, sleep-others, finish-row, finish-others, block-cases}
 use Rattle.library.specs.declared.sizes.Sizes.{Sizes}
 use Rattle.library.specs.declared.tables.Plant.{Plant}
@@ -41,6 +41,7 @@ use Rattle.rules.specs.PoolRules.{isPromised}
 use Rattle.steps.specs.Stepping.{budgetOf}
 use Rattle.promises.specs.Together.Good.{GoodThread}
 use Rattle.promises.specs.Kept.Rows.{CallSound}
+use Rattle.promises.specs.Kept.WordRule.{Said, writers-told, readers-told}
 use Rattle.promises.specs.Kept.Chain.{Move, one, rested, after, countIn}
 use Rattle.promises.specs.Kept.Moving.{Free, take-flags-chained}
 use Rattle.promises.specs.Kept.Whole.{Whole, kernel-done}
@@ -127,29 +128,35 @@ module _ (p : Plant) (w : Whole (p .sizes) p) (i : ℕ) (d : Due (p .sizes) (p .
     tryer n =
         record { asks = inr (d .within, free n); sleeps = λ x. (d .within, (free n, fits)) }
 
+    -- the two kinds of post are left
+    is-post : t .call .kind ≢ 17 → t .call .kind ≢ 20 → (t .call .kind ≡ 15) ⊎ (t .call .kind ≡ 16)
+    is-post a b =
+        split (eqb (t .call .kind) 15) (λ f. inl (eqb-true (t .call .kind) 15 f))
+        (λ f. inr (eqb-true (t .call .kind) 16
+        (split (eqb (t .call .kind) 16) (λ g. g)
+        (λ g. contrary box (rw (f, g, ne-eqb (t .call .kind) 17 a, ne-eqb (t .call .kind) 20 b))))))
+
+    -- its mailbox is in the configuration
+    mailbox-there : t .call .kind ≢ 20 → t .call .object < z .mailboxes
+    mailbox-there b =
+        same-or (t .call .kind) 17 (λ f. rw f at (fits .object))
+        (λ a. elim (is-post a b) [ inl f ↦ rw f at (fits .object) | inr f ↦ rw f at (fits .object) ])
+
     fetch-again : t .call .kind ≡ 17 → Tries z p (fetchTried p i (t .call))
     fetch-again f =
-        fetch-tries p w i (t .call) (tryer (λ x. absurd (omega (arith, f, x)))) (rw f at (fits .object)) (rw f) (rw f)
+        let other : t .call .kind ≢ 20 = λ x. absurd (omega (arith, f, x)) in
+        fetch-tries p w i (t .call) (tryer other) (mailbox-there other) (rw f) (rw f)
 
     hand-over : t .call .kind ≡ 20 → Tries z p (handedOver p i (t .call .object))
     hand-over f =
         hand-tries p w (t .call .object) (rw f at (fits .object)) i (d .within) (rw (d .is-ready, f, woken-ok)) refl
 
-    -- the two kinds of post are left
     post-again : t .call .kind ≢ 17 → t .call .kind ≢ 20 → Tries z p (postTried p i (t .call))
     post-again a b =
-        split (eqb (t .call .kind) 15)
-        (λ f.
-        let is = eqb-true (t .call .kind) 15 f in
-        post-tries p w i (t .call) (tryer b) (rw is at (fits .object)) (rw is) (rw is))
-        (λ f.
-        let is = eqb-true (t .call .kind) 16 (only f) in
-        post-tries p w i (t .call) (tryer b) (rw is at (fits .object)) (rw is) (rw is))
-      where
-        only : eqb (t .call .kind) 15 ≡ false → eqb (t .call .kind) 16 ≡ true
-        only f =
-            split (eqb (t .call .kind) 16) (λ g. g)
-            (λ g. contrary box (rw (f, g, ne-eqb (t .call .kind) 17 a, ne-eqb (t .call .kind) 20 b)))
+        elim (is-post a b) [
+          | inl f ↦ post-tries p w i (t .call) (tryer b) (mailbox-there b) (rw f) (rw f)
+          | inr f ↦ post-tries p w i (t .call) (tryer b) (mailbox-there b) (rw f) (rw f)
+        ]
 
   -- "If it has an unfinished call, that call is continued"
   pub continue-tries : Tries z p (continued p i)
@@ -241,11 +248,11 @@ module _ (n : ℕ) (few : n ≤ 16) (k : Kernel) (sized : Sized k) (i : ℕ) (wi
         (λ e. omega (arith, sleep-weight p c))
 
 -- a release weighs at most one more
-release-weight : (n : ℕ) → n ≤ 16 → (k : Kernel) → Sized k → (p : ℕ) (m : ℤ) → weight n (releasedFirst k n p m) ≤ weight n k + 1
+release-weight : (n : ℕ) → n ≤ 16 → (k : Kernel) → Sized k → (p : ℕ) → TellsAt n k p → (m : ℤ) → weight n (releasedFirst k p m) ≤ weight n k + 1
 unfolding releasedFirst
-release-weight n few k s p m =
-    elim (first-waiter-cases k n p) [
-      | inl f ↦ wake-weight n few k s (firstWaiter k n p) (omega (arith, f .below, used-le-given n)) m
+release-weight n few k s p told m =
+    elim (first-waiter-cases k n few p told) [
+      | inl f ↦ wake-weight n few k s (firstWaiter k p) (f .below) m
       | inr f ↦ rw (f .0, wake-past k nobody m (omega (arith, s .threads)) (omega (arith, s .woken)) (omega arith)) (omega arith)
     ]
 
@@ -263,13 +270,13 @@ module _ (p : Plant) (w : Whole (p .sizes) p) (i : ℕ) (d : Due (p .sizes) (p .
   sized = w .kernel .rules .sized
 
   -- a release, and the call finishes
-  finish-released : (q : ℕ) (x : ℕ) → weight n (finished (releasedFirst k' n q ok) i ok x) < weight n k'
-  finish-released q x =
-      let row = released-row (p .sizes) (w .sizes) k' (w .kernel) i q ok (d .within) (d .is-ready) in
+  finish-released : (q : ℕ) → TellsAt n k' q → (x : ℕ) → weight n (finished (releasedFirst k' q ok) i ok x) < weight n k'
+  finish-released q told x =
+      let row = released-row (p .sizes) (w .sizes) k' (w .kernel) i q told ok (d .within) (d .is-ready) in
       omega (
         arith,
-        release-weight n few k' sized q ok,
-        finish-weight n few (releasedFirst k' n q ok) (sized-kept (release-first-sizes k' n q ok) sized) i (d .within)
+        release-weight n few k' sized q told ok,
+        finish-weight n few (releasedFirst k' q ok) (sized-kept (release-first-sizes k' q ok) sized) i (d .within)
             (rw row (d .is-ready)) (rw row (d .unfinished)) ok x,
       )
 
@@ -296,21 +303,25 @@ module _ (p : Plant) (w : Whole (p .sizes) p) (i : ℕ) (d : Due (p .sizes) (p .
   abbrev Lighter : Plant → Type 0
   Lighter h = weight n (h .kernel) < weight n k'
 
-  post-lighter : (c : Call) → Lighter (postTried p i c)
+  -- who waits at a mailbox is told
+  told : Said (p .sizes) k'
+  told = w .kernel .rules .words
+
+  post-lighter : (c : Call) → c .object < p .sizes .mailboxes → Lighter (postTried p i c)
   unfolding postTried postDone
-  post-lighter c =
+  post-lighter c there =
       chosen Lighter (eqb (mailboxAt p (c .object) .reset) 0)
       (λ a. chosen Lighter (eqb (placedFor (mailboxAt p (c .object)) (c .kind) (slotsAt (p .sizes) (c .object)) .slot) noSlot)
-      (λ b. enqueue-lighter (writersPlace (c .object)) c) (λ b. finish-released (readersPlace (c .object)) 0))
+      (λ b. enqueue-lighter (writersPlace (c .object)) c) (λ b. finish-released (readersPlace (c .object)) (readers-told k' (p .sizes) (w .sizes) told (c .object) there) 0))
       (λ a. finish-lighter wasReset 0)
 
-  fetch-lighter : (c : Call) → Lighter (fetchTried p i c)
+  fetch-lighter : (c : Call) → c .object < p .sizes .mailboxes → Lighter (fetchTried p i c)
   unfolding fetchTried fetchDone
-  fetch-lighter c =
+  fetch-lighter c there =
       chosen Lighter (eqb (mailboxAt p (c .object) .reset) 0)
       (λ a. chosen Lighter (eqb (fetched (mailboxAt p (c .object) .positions) (slotsAt (p .sizes) (c .object)) .slot) noSlot)
       (λ b. enqueue-lighter (readersPlace (c .object)) c)
-      (λ b. finish-released (writersPlace (c .object))
+      (λ b. finish-released (writersPlace (c .object)) (writers-told k' (p .sizes) (w .sizes) told (c .object) there)
       (messageAt (mailboxAt p (c .object)) (fetched (mailboxAt p (c .object) .positions) (slotsAt (p .sizes) (c .object)) .slot))))
       (λ a. finish-lighter wasReset 0)
 
@@ -324,18 +335,21 @@ module _ (p : Plant) (w : Whole (p .sizes) p) (i : ℕ) (d : Due (p .sizes) (p .
   continue-lighter =
       chosen Lighter (answeredOnly (threadAt k' i)) (λ e. finish-lighter (threadAt k' i .message) 0)
       (λ e. chosen Lighter (eqb (threadAt k' i .call .kind) 14) (λ n. flags-lighter (threadAt k' i .call .operand))
-      (λ n. chosen Lighter (eqb (threadAt k' i .call .kind) 17) (λ f. fetch-lighter (threadAt k' i .call))
+      (λ n. chosen Lighter (eqb (threadAt k' i .call .kind) 17)
+      (λ f. fetch-lighter (threadAt k' i .call)
+      (mailbox-there p w i d e n (λ x. absurd (omega (arith, eqb-true (threadAt k' i .call .kind) 17 f, x)))))
       (λ f. chosen Lighter (eqb (threadAt k' i .call .kind) 20) (λ g. hand-lighter (threadAt k' i .call .object))
-      (λ g. post-lighter (threadAt k' i .call)))))
+      (λ g. post-lighter (threadAt k' i .call) (mailbox-there p w i d e n (eqb-false (threadAt k' i .call .kind) 20 g))))))
 
 -- ---- settling
 
 -- tables that have not settled have a running thread whose call is to be continued
 unsettled-due : (z : Sizes) (p : Plant) → Whole z p → isSettled p ≡ false → Due (p .sizes) (p .kernel) (runningIn p)
 unsettled-due z p w e =
-    elim (first-ready-cases (p .kernel) (p .sizes .threads)) [
+    let v = subst (λ (y : Sizes). Whole y p) (sym (w .same)) w in
+    elim (first-ready-cases (p .kernel) (p .sizes .threads) (v .sizes .threads .1) (v .kernel .rules .words .ready)) [
       | inl f ↦ record {
-        within = omega (arith, f .below, used-le-given (p .sizes .threads));
+        within = f .below;
         is-ready = eqb-true (threadAt (p .kernel) (runningIn p) .state) ready (f .passes);
         unfinished = eqb-false (threadAt (p .kernel) (runningIn p) .call .kind) 0 e;
       }

@@ -21,7 +21,7 @@ use Rattle.kernel.proofs.Cases.{split, same-or, in-or-out, first-fails}
 use Rattle.kernel.proofs.WalkLaws.{count-le, count-agree, count-change, count-some}
 use Rattle.kernel.proofs.TablesLaws.{thread-blank, thread-kept, counter-zero}
 use Rattle.kernel.proofs.CountersLaws.{debt, debt-below, up-not-above}
-use Rattle.kernel.proofs.WaitersLaws.{waits, waiters}
+use Rattle.kernel.proofs.WaitersLaws.{waits, waiters, TellsAt}
 use Rattle.kernel.proofs.MovesLaws.{
   wake-counter,
   wake-counter-others,
@@ -127,5 +127,6 @@ tick-tallies k n q =
     tick-keeps k n (Tallies n q) (λ i l h. wake-tallies h i timedOut n q l)
     (λ i h. row-tallies h n q i (countedOff (threadAt h i)) (λ p. refl))
 
-pub release-all-tallies : (k : Kernel) (n p : ℕ) (m : ℤ) (q : ℕ) → Tallies n q k → Tallies n q (releasedAll k n p m)
-release-all-tallies k n p m q = release-all-keeps k n p m (Tallies n q) (λ i l h e. wake-tallies h i m n q l)
+pub release-all-tallies : (k : Kernel) (p : ℕ) (m : ℤ) (n : ℕ) → n ≤ 16 → TellsAt n k p → (q : ℕ) → Tallies n q k
+    → Tallies n q (releasedAll k p m)
+release-all-tallies k p m n few told q = release-all-keeps k p m n few told (Tallies n q) (λ i l h e. wake-tallies h i m n q l)

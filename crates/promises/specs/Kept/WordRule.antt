@@ -5,7 +5,7 @@ use native.Mathlib.Omega.{arith}
 use mathlib.Core.Path.{_≡_, refl, sym, ap, _∙_}
 use mathlib.Core.Logic.{_≢_}
 use mathlib.Core.Bool.{Bool, true, false, _&&_}
-use lib.Dec.{eqb, ltb}
+use lib.Dec.{eqb}
 use lib.ListN.{length}
 use lib.IntN.{ℤ}
 use borrow.Author.Tests.{eqb-true, lt-ltb}
@@ -13,12 +13,12 @@ use Rattle.kernel.specs.declared.records.Call.{Call}
 use Rattle.kernel.specs.declared.records.Thread.{Thread}
 use Rattle.kernel.specs.declared.records.Kernel.{Kernel}
 use Rattle.kernel.specs.Numbers.{ready, queued, timedOut}
+use Rattle.kernel.specs.Places.{semaphorePlace, poolPlace, queuePlace, writersPlace, readersPlace}
 use Rattle.kernel.specs.Tables.{usedRows, threadAt, withThread}
 use Rattle.kernel.specs.Moves.{woken, slept, finished}
 use Rattle.kernel.specs.Ticking.{countedOff, ticked}
 use Rattle.kernel.specs.Waiters.{isReady, queuedAt}
-use Rattle.kernel.specs.Walk.{bit}
-use Rattle.kernel.specs.Words.{digit, wordOf, withBit, withoutBit, waitingAt}
+use Rattle.kernel.specs.Words.{wordOf, withBit, withoutBit, waitingAt}
 use Rattle.kernel.proofs.Cases.{split, same-or, contrary, first-fails}
 use Rattle.kernel.proofs.TablesLaws.{Sized, sized-kept, thread-sizes, thread-kept, used-all}
 use Rattle.kernel.proofs.MovesLaws.{
@@ -33,6 +33,7 @@ use Rattle.kernel.proofs.MovesLaws.{
   finish-words,
 }
 use Rattle.kernel.proofs.TickingLaws.{tick-keeps}
+use Rattle.kernel.proofs.WaitersLaws.{Tells, TellsAt}
 use Rattle.kernel.proofs.WordsLaws.{
   word-digit,
   same-digits,
@@ -49,10 +50,7 @@ use Rattle.library.specs.declared.sizes.Sizes.{Sizes}
 use Rattle.rules.specs.PlaceRules.{inUse}
 use Rattle.rules.specs.WordRules.{readyWord, waitingWord}
 use Rattle.promises.specs.Together.Good.{GoodSizes, GoodWords}
-
--- the word w has a bit for each of n threads that passes, and no other
-abbrev pub Tells : ℕ → (Thread → Bool) → Kernel → ℕ → Type 0
-Tells n test k w = (j : ℕ) → digit w j ≡ bit (ltb j n && test (threadAt k j))
+use Rattle.promises.specs.Kept.CounterRule.{semaphore-place, pool-place, queue-place, writers-place, readers-place}
 
 -- the rule stays where nobody's test changes
 same-tells : (n : ℕ) (test : Thread → Bool) (k h : Kernel) (w : ℕ) → ((j : ℕ) → test (threadAt h j) ≡ test (threadAt k j))
@@ -82,7 +80,7 @@ module _ (k : Kernel) (i : ℕ) (m : ℤ) (n : ℕ) (few : n ≤ 16) (within : i
       rw (wake-words k i m)
       (with-tells n isReady k (woken k i m) (k .words .ready) i low within (rw (wake-row k i m here)) (wake-others k i m) g)
 
-  wake-tells-at : (q : ℕ) → q < length (k .words .waiting) → Tells n (queuedAt q) k (waitingAt (k .words) q)
+  wake-tells-at : (q : ℕ) → q < length (k .words .waiting) → TellsAt n k q
       → Tells n (queuedAt q) (woken k i m) (waitingAt (woken k i m .words) q)
   wake-tells-at q h g =
       rw (wake-words k i m, ready-waiting (k .words) i (threadAt k i .state) (threadAt k i .place) q h)
@@ -106,7 +104,7 @@ module _ (k : Kernel) (i s p : ℕ) (c : Call) (n : ℕ) (few : n ≤ 16) (withi
       (without-tells n isReady k (slept k i s p c) (k .words .ready) i down-low within (rw (sleep-row k i s p c down-low here) e)
       (sleep-others k i s p c) g)
 
-  sleep-tells-at : (q : ℕ) → q < length (k .words .waiting) → Tells n (queuedAt q) k (waitingAt (k .words) q)
+  sleep-tells-at : (q : ℕ) → q < length (k .words .waiting) → TellsAt n k q
       → Tells n (queuedAt q) (slept k i s p c) (waitingAt (slept k i s p c .words) q)
   sleep-tells-at q h g =
       rw (sleep-words k i s p c down-low, asleep-waiting (k .words) i s p q h)
@@ -124,7 +122,7 @@ module _ (k : Kernel) (i s p : ℕ) (c : Call) (n : ℕ) (few : n ≤ 16) (withi
 -- the ready word, and the word of each place in use
 pub record Said (z : Sizes) (k : Kernel) : Type 0 where
   pub ready : Tells (z .threads) isReady k (k .words .ready)
-  pub waiting : (q : ℕ) → q < 36 → inUse z q ≡ true → Tells (z .threads) (queuedAt q) k (waitingAt (k .words) q)
+  pub waiting : (q : ℕ) → q < 36 → inUse z q ≡ true → TellsAt (z .threads) k q
 
 -- they stay where no word and nobody's wait changes
 pub same-said : (z : Sizes) (k h : Kernel) → h .words ≡ k .words → ((j : ℕ) → threadAt h j .state ≡ threadAt k j .state)
@@ -262,3 +260,21 @@ module _ (k : Kernel) (z : Sizes) (s : GoodSizes z) where
         ready = tells-walk isReady (k .words .ready) (g .ready);
         waiting = λ q h u. tells-walk (queuedAt q) (waitingAt (k .words) q) (g .waiting q h u);
       }
+
+-- ---- the word of an object's place tells who waits there
+
+module _ (k : Kernel) (z : Sizes) (g : GoodSizes z) (s : Said z k) (o : ℕ) where
+  pub semaphore-told : o < z .semaphores → TellsAt (z .threads) k (semaphorePlace o)
+  semaphore-told l = let x = semaphore-place k z g o l in s .waiting o (omega (arith, x .0)) (x .1)
+
+  pub pool-told : o < z .pools → TellsAt (z .threads) k (poolPlace o)
+  pool-told l = let x = pool-place k z g o l (poolPlace o) refl in s .waiting (poolPlace o) (omega (arith, x .1 .0)) (x .1 .1)
+
+  pub queue-told : o < z .queues → TellsAt (z .threads) k (queuePlace o)
+  queue-told l = let x = queue-place k z g o l (queuePlace o) refl in s .waiting (queuePlace o) (omega (arith, x .1 .0)) (x .1 .1)
+
+  pub writers-told : o < z .mailboxes → TellsAt (z .threads) k (writersPlace o)
+  writers-told l = let x = writers-place k z g o l (writersPlace o) refl in s .waiting (writersPlace o) (omega (arith, x .1 .0)) (x .1 .1)
+
+  pub readers-told : o < z .mailboxes → TellsAt (z .threads) k (readersPlace o)
+  readers-told l = let x = readers-place k z g o l (readersPlace o) refl in s .waiting (readersPlace o) (omega (arith, x .1 .0)) (x .1 .1)

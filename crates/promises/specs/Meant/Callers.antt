@@ -1,6 +1,5 @@
 -- An accepted step has what its row asks for: its tables hang together, and its caller is the running thread or an interrupt.
 use Prim.Native.Nat.{ℕ, _≤_}
-use native.Mathlib.Omega.{arith}
 use mathlib.Core.Path.{_≡_, _∙_}
 use mathlib.Core.Logic.{_⊎_, inl, inr}
 use lib.Dec.{eqb}
@@ -43,11 +42,11 @@ module _ (p : Plant) (c : Clock) (s : Step) (z : Sized (p .kernel)) (e : refusal
   -- 3: the caller is an interrupt, or the first ready thread
   pub caller-runs : (i ≡ nobody) ⊎ FirstReady k n i
   caller-runs =
-      elim (either-means (eqb i nobody) (eqb i (firstReady k n)) (a .caller)) [
+      elim (either-means (eqb i nobody) (eqb i (firstReady k)) (a .caller)) [
         | inl b ↦ inl (eqb-true i nobody b)
-        | inr b ↦ of-running (eqb-true i (firstReady k n) b) (running-first k n few)
+        | inr b ↦ of-running (eqb-true i (firstReady k) b) (running-first p (whole .good))
       ]
     where
-      of-running : i ≡ firstReady k n → FirstReady k n (firstReady k n) ⊎ NobodyReady k n (firstReady k n) → (i ≡ nobody) ⊎ FirstReady k n i
+      of-running : i ≡ firstReady k → FirstReady k n (firstReady k) ⊎ NobodyReady k n (firstReady k) → (i ≡ nobody) ⊎ FirstReady k n i
       of-running e (inl f) = inr (rw e f)
       of-running e (inr f) = inl (e ∙ f .nobody)

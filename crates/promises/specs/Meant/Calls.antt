@@ -15,20 +15,20 @@ use Rattle.kernel.specs.declared.records.Kernel.{Kernel}
 use Rattle.kernel.specs.Numbers.{queued, awaiting, ok, wasReset, timedOut}
 use Rattle.kernel.specs.Places.{poolPlace, writersPlace, readersPlace}
 use Rattle.kernel.specs.Walk.{each}
-use Rattle.kernel.specs.Tables.{usedRows, threadAt, counterAt, holderAt, withThread, withCounter}
+use Rattle.kernel.specs.Tables.{threadAt, counterAt, holderAt, withThread, withCounter}
 use Rattle.kernel.specs.Moves.{woken, finished, blocked}
 use Rattle.kernel.specs.Waiters.{firstWaiter}
-use Rattle.kernel.specs.Queue.{enqueued, releasedFirst, releasedOne, releasedAll}
+use Rattle.kernel.specs.Queue.{enqueued, releasedFirst, releasedAll}
 use Rattle.kernel.specs.Semaphore.{taken, waited, signalled}
 use Rattle.kernel.specs.Reference.{resumed}
 use Rattle.kernel.specs.Event.{withPending, flagged, tookFlags, eventSignalled, eventWaited}
 use Rattle.kernel.proofs.Cases.{split, same-or, in-or-out, contrary}
-use Rattle.kernel.proofs.TablesLaws.{Sized, sized-kept, used-all, counter-sizes, thread-sizes, thread-same}
+use Rattle.kernel.proofs.TablesLaws.{Sized, sized-kept, counter-sizes, thread-sizes, thread-same}
 use Rattle.kernel.proofs.CountersLaws.{up-exact, down-exact}
 use Rattle.kernel.proofs.WalkLaws.{Least as FirstOf}
-use Rattle.kernel.proofs.WaitersLaws.{waits, first-waiter-cases}
+use Rattle.kernel.proofs.WaitersLaws.{waits, TellsAt, first-waiter-cases}
 use Rattle.kernel.proofs.MovesLaws.{wake-sizes, wake-past}
-use Rattle.kernel.proofs.QueueLaws.{release-first-sizes}
+use Rattle.kernel.proofs.QueueLaws.{walkedOne, release-first-sizes, release-all-walk}
 use Rattle.library.specs.declared.tables.Mailbox.{Mailbox}
 use Rattle.library.specs.declared.tables.Plant.{Plant}
 use Rattle.library.specs.Binary.{binarySignalled}
@@ -40,6 +40,7 @@ use Rattle.library.specs.Tables.{mailboxAt, poolAt, withKernel, withMailbox}
 use Rattle.promises.specs.Together.Good.{Good}
 use Rattle.promises.specs.Kept.Tallies.{Tallies, wake-tallies}
 use Rattle.promises.specs.Kept.CounterRule.{pool-place, writers-place, readers-place}
+use Rattle.promises.specs.Kept.WordRule.{writers-told, readers-told}
 use Rattle.promises.specs.Kept.Moving.{below-top}
 use Rattle.promises.specs.Kept.RingKept.{after-mod}
 use Rattle.promises.specs.Kept.Whole.{Whole, whole-good}
@@ -137,14 +138,14 @@ module _ (p : Plant) (z : Sized (p .kernel)) where
 
   -- ---- releases
 
-  pub signal-is : n ≤ 16 → (q : ℕ) → InUse p q → ltZ (counterAt k q) (pos 2147483647) ≡ true
-      → Signal (worldOf p) q (worldOf (withKernel p (signalled k n q)))
+  pub signal-is : n ≤ 16 → (q : ℕ) → TellsAt n k q → InUse p q → ltZ (counterAt k q) (pos 2147483647) ≡ true
+      → Signal (worldOf p) q (worldOf (withKernel p (signalled k q)))
   unfolding signalled releasedFirst
-  signal-is few q u low =
+  signal-is few q told u low =
       split (ltZ (counterAt k q) (pos 0))
       (λ e.
-      let w = signal-finds k z n q few (u .1) e in
-      let i = firstWaiter k n q in
+      let w = signal-finds k z n q few told (u .1) e in
+      let i = firstWaiter k q in
       Signal.wakes e i
       (record {
         thread = w .thread;
@@ -154,43 +155,42 @@ module _ (p : Plant) (z : Sized (p .kernel)) where
       (rw e (wake-world p z i (pos 0) (omega (arith, w .thread, few)) (waiter-room p q i (w .thread) u (w .waits .place)))))
       (λ e. Signal.raises e (rw (e, up-exact (counterAt k q) low) (counter-world p z q (u .0) (counterAt k q +ℤ pos 1))))
 
-  pub binary-is : n ≤ 16 → (q : ℕ) → InUse p q → BinarySignal (worldOf p) q (worldOf (withKernel p (binarySignalled k n q)))
+  pub binary-is : n ≤ 16 → (q : ℕ) → TellsAt n k q → InUse p q → BinarySignal (worldOf p) q (worldOf (withKernel p (binarySignalled k q)))
   unfolding binarySignalled
-  binary-is few q u =
+  binary-is few q told u =
       split (ltZ (counterAt k q) (pos 1))
-      (λ e. BinarySignal.signals e (rw e (signal-is few q u (below-top (counterAt k q) e))))
+      (λ e. BinarySignal.signals e (rw e (signal-is few q told u (below-top (counterAt k q) e))))
       (λ e. BinarySignal.nothing e (rw e))
 
   -- a thread that is not there is not made ready
   nobody-woken : (m : ℤ) → woken k 255 m ≡ k
   nobody-woken m = wake-past k 255 m (omega (arith, z .threads)) (omega (arith, z .woken)) (omega arith)
 
-  pub release-is : n ≤ 16 → (q : ℕ) (m : ℤ) → InUse p q → Release (worldOf p) q m (worldOf (withKernel p (releasedFirst k n q m)))
+  pub release-is : n ≤ 16 → (q : ℕ) → TellsAt n k q → (m : ℤ) → InUse p q → Release (worldOf p) q m (worldOf (withKernel p (releasedFirst k q m)))
   unfolding releasedFirst
-  release-is few q m u =
-      elim (first-waiter-cases k n q) [
+  release-is few q told m u =
+      elim (first-waiter-cases k n few q told) [
         | inl f ↦ found f
-        | inr f ↦ Release.nobody (λ i h. waits-not k q i (f .1 i (rw (used-all n few) (h .thread))) (h .waits .0) (h .waits .1))
+        | inr f ↦ Release.nobody (λ i h. waits-not k q i (f .1 i (h .thread)) (h .waits .0) (h .waits .1))
             (ap (λ (i : ℕ). worldOf (withKernel p (woken k i m))) (f .0) ∙ ap (λ (x : Kernel). worldOf (withKernel p x)) (nobody-woken m))
       ]
     where
-      found : FirstOf (waits k q) (usedRows n) (firstWaiter k n q)
-          → Release (worldOf p) q m (worldOf (withKernel p (woken k (firstWaiter k n q) m)))
+      found : FirstOf (waits k q) n (firstWaiter k q)
+          → Release (worldOf p) q m (worldOf (withKernel p (woken k (firstWaiter k q) m)))
       found f =
-          let i = firstWaiter k n q in
+          let i = firstWaiter k q in
           let w = waits-waiting k q i (f .passes) in
-          let l : i < n = rw (used-all n few) at (f .below) in
           Release.first i
           (record {
-            thread = l;
+            thread = f .below;
             waits = (w .state, w .place);
             highest = λ j h. waits-not k q j (f .least j h);
           })
-          (wake-world p z i m (omega arith) (waiter-room p q i l u (w .place)))
+          (wake-world p z i m (omega (arith, f .below)) (waiter-room p q i (f .below) u (w .place)))
 
 -- one thread of a release of all
 release-of-is : (p : Plant) → Sized (p .kernel) → p .sizes .threads ≤ 16 → (q : ℕ) (m : ℤ) (i : ℕ) → i < p .sizes .threads → InUse p q
-    → ReleaseOf (worldOf p) q m i (worldOf (withKernel p (releasedOne q m i (p .kernel))))
+    → ReleaseOf (worldOf p) q m i (worldOf (withKernel p (walkedOne q m i (p .kernel))))
 release-of-is p z few q m i h u =
     split (waits (p .kernel) q i)
     (λ e.
@@ -203,9 +203,10 @@ release-of-is p z few q m i h u =
         same-or (threadAt (p .kernel) i .state) 3
         (λ s. inr (waits-not (p .kernel) q i e s)) inl
 
-module _ (p : Plant) (z : Sized (p .kernel)) (few : p .sizes .threads ≤ 16) (q : ℕ) (m : ℤ) (u : InUse p q) where
+module _ (p : Plant) (z : Sized (p .kernel)) (few : p .sizes .threads ≤ 16) (q : ℕ) (told : TellsAt (p .sizes .threads) (p .kernel) q) (m : ℤ)
+    (u : InUse p q) where
   abbrev upTo : ℕ → Kernel
-  upTo j = each j (releasedOne q m) (p .kernel)
+  upTo j = each j (walkedOne q m) (p .kernel)
 
   sized-to : (j : ℕ) → Sized (upTo j)
   sized-to zero = z
@@ -226,9 +227,9 @@ module _ (p : Plant) (z : Sized (p .kernel)) (few : p .sizes .threads ≤ 16) (q
     release-of-is (withKernel p (upTo j)) (sized-to j) few q m j h (u .0, tallied-to q (u .1) j (omega arith)),
   )
 
-  pub release-all-is : ReleaseAll (worldOf p) q m (p .sizes .threads) (worldOf (withKernel p (releasedAll (p .kernel) (p .sizes .threads) q m)))
-  unfolding releasedAll
-  release-all-is = rw (used-all (p .sizes .threads) few) (all-to (p .sizes .threads) (omega arith))
+  pub release-all-is : ReleaseAll (worldOf p) q m (p .sizes .threads) (worldOf (withKernel p (releasedAll (p .kernel) q m)))
+  release-all-is =
+      rw (release-all-walk (p .kernel) q m (p .sizes .threads) few told) (all-to (p .sizes .threads) (omega arith))
 
 -- ---- references and events
 
@@ -344,18 +345,29 @@ module _ (p : Plant) (w : Whole (p .sizes) p) (i : ℕ) (c : Call) (there : c .o
   at-readers : readersPlace b ≡ 32 + b
   at-readers = omega (arith, box-there .number)
 
+  -- their words tell who waits there
+  pub told-writers : TellsAt (p .sizes .threads) (p .kernel) (28 + b)
+  told-writers =
+      subst (TellsAt (p .sizes .threads) (p .kernel)) at-writers
+      (writers-told (p .kernel) (p .sizes) (w .sizes) (w .kernel .rules .words) b there)
+
+  told-readers : TellsAt (p .sizes .threads) (p .kernel) (32 + b)
+  told-readers =
+      subst (TellsAt (p .sizes .threads) (p .kernel)) at-readers
+      (readers-told (p .kernel) (p .sizes) (w .sizes) (w .kernel .rules .words) b there)
+
   -- a release, the end of the call, and the mailbox
-  served : (q : ℕ) → InUse p q → (d : ℕ) (x : Mailbox) (h : Plant)
+  served : (q : ℕ) → TellsAt (p .sizes .threads) (p .kernel) q → InUse p q → (d : ℕ) (x : Mailbox) (h : Plant)
       → h ≡ withMailbox
-      (withKernel p (finished (releasedFirst (p .kernel) (p .sizes .threads) q ok) i ok d)) b x
+      (withKernel p (finished (releasedFirst (p .kernel) q ok) i ok d)) b x
       → (v : World) × Release (worldOf p) q (pos 0) v × (worldOf h ≡ ended (boxTo v b x) i (pos 0) d)
-  served q u d x h e =
-      let k = releasedFirst (p .kernel) (p .sizes .threads) q ok in (
+  served q told u d x h e =
+      let k = releasedFirst (p .kernel) q ok in (
         worldOf (withKernel p k),
-        release-is p (sized p w) (few p w) q (pos 0) u,
+        release-is p (sized p w) (few p w) q told (pos 0) u,
         ap worldOf e ∙ box-world (withKernel p (finished k i ok d)) b x (box-there .row)
             ∙ ap (λ (v : World). boxTo v b x)
-            (finish-world (withKernel p k) (sized-kept (release-first-sizes (p .kernel) (p .sizes .threads) q ok) (sized p w)) i (pos 0) d who),
+            (finish-world (withKernel p k) (sized-kept (release-first-sizes (p .kernel) q ok) (sized p w)) i (pos 0) d who),
       )
 
   asleep-at : (q r : ℕ) → q ≡ r → InUse p r → Waits (worldOf p) i 3 r c (worldOf (withKernel p (enqueued (p .kernel) i q c)))
@@ -372,7 +384,7 @@ module _ (p : Plant) (w : Whole (p .sizes) p) (i : ℕ) (c : Call) (there : c .o
   behind-is : box .reset ≡ 0 → box .positions .count < slots → c .kind ≢ 16
       → postTried p i c
       ≡ withMailbox
-      (withKernel p (finished (releasedFirst (p .kernel) (p .sizes .threads) (32 + b) ok) i ok 0)) b
+      (withKernel p (finished (releasedFirst (p .kernel) (32 + b) ok) i ok 0)) b
       (written box slots (c .operand))
   unfolding postDone posted
   behind-is works room d =
@@ -382,7 +394,7 @@ module _ (p : Plant) (w : Whole (p .sizes) p) (i : ℕ) (c : Call) (there : c .o
   ahead-is : box .reset ≡ 0 → box .positions .count < slots → c .kind ≡ 16
       → postTried p i c
       ≡ withMailbox
-      (withKernel p (finished (releasedFirst (p .kernel) (p .sizes .threads) (32 + b) ok) i ok 0)) b
+      (withKernel p (finished (releasedFirst (p .kernel) (32 + b) ok) i ok 0)) b
       (writtenAhead box slots (c .operand))
   unfolding postDone postedAhead
   ahead-is works room e =
@@ -405,10 +417,10 @@ module _ (p : Plant) (w : Whole (p .sizes) p) (i : ℕ) (c : Call) (there : c .o
       goes-in : box .reset ≡ 0 → box .positions .count < slots → (c .kind ≡ 15) ⊎ (c .kind ≡ 16)
           → Post (worldOf p) i c (worldOf (postTried p i c))
       goes-in works room (inl e) =
-          let x = served (32 + b) readers 0 (written box slots (c .operand)) (postTried p i c) (behind-is works room (λ y. absurd (omega (arith, e, y)))) in
+          let x = served (32 + b) told-readers readers 0 (written box slots (c .operand)) (postTried p i c) (behind-is works room (λ y. absurd (omega (arith, e, y)))) in
           Post.behind works room e (x .0) (x .1) (x .2)
       goes-in works room (inr e) =
-          let x = served (32 + b) readers 0 (writtenAhead box slots (c .operand)) (postTried p i c) (ahead-is works room e) in
+          let x = served (32 + b) told-readers readers 0 (writtenAhead box slots (c .operand)) (postTried p i c) (ahead-is works room e) in
           Post.ahead works room e (x .0) (x .1) (x .2)
 
   fetch-reset : box .reset ≢ 0 → fetchTried p i c ≡ withKernel p (finished (p .kernel) i wasReset 0)
@@ -419,7 +431,7 @@ module _ (p : Plant) (w : Whole (p .sizes) p) (i : ℕ) (c : Call) (there : c .o
       → fetchTried p i c
       ≡ withMailbox
       (withKernel p
-      (finished (releasedFirst (p .kernel) (p .sizes .threads) (28 + b) ok) i ok (getD (box .messages) (box .positions .read) 0))) b
+      (finished (releasedFirst (p .kernel) (28 + b) ok) i ok (getD (box .messages) (box .positions .read) 0))) b
       (takenFrom box slots)
   unfolding fetchDone
   taken-is works some =
@@ -431,7 +443,7 @@ module _ (p : Plant) (w : Whole (p .sizes) p) (i : ℕ) (c : Call) (there : c .o
       (λ works. in-or-out 0 (box .positions .count)
       (λ some.
       let x =
-      served (28 + b) writers (getD (box .messages) (box .positions .read) 0) (takenFrom box slots) (fetchTried p i c)
+      served (28 + b) told-writers writers (getD (box .messages) (box .positions .read) 0) (takenFrom box slots) (fetchTried p i c)
       (taken-is works some) in
       Fetch.message works some (x .0) (x .1) (x .2))
       (λ none.

@@ -51,14 +51,14 @@ module _ (s : Step) where
 pub record Rows (p h : Plant) (k : Kernel) (n i o : ℕ) (now : SystemTime) (s : Step) : Type 0 where
   pub tick : s .kind ≡ 1 → h ≡ atOnce (withKernel p (ticked k n)) i
   pub semaphore-wait : s .kind ≡ 2 → h ≡ withKernel p (waited k i (semaphorePlace o) (keptCall 2 o 0 (s .timeout)))
-  pub signal : s .kind ≡ 3 → h ≡ atOnce (withKernel p (signalled k n (semaphorePlace o))) i
+  pub signal : s .kind ≡ 3 → h ≡ atOnce (withKernel p (signalled k (semaphorePlace o))) i
   -- a reset above 2147483647 is refused
-  pub reset : s .kind ≡ 4 → s .a ≤ 2147483647 → h ≡ atOnce (withKernel p (resetTo k n (semaphorePlace o) (pos (s .a)))) i
-  pub binary-signal : s .kind ≡ 5 → h ≡ atOnce (withKernel p (binarySignalled k n (semaphorePlace o))) i
+  pub reset : s .kind ≡ 4 → s .a ≤ 2147483647 → h ≡ atOnce (withKernel p (resetTo k (semaphorePlace o) (pos (s .a)))) i
+  pub binary-signal : s .kind ≡ 5 → h ≡ atOnce (withKernel p (binarySignalled k (semaphorePlace o))) i
   pub queue-wait : s .kind ≡ 6 → h ≡ withKernel p (enqueued k i (queuePlace o) (keptCall 6 o 0 (s .timeout)))
   -- "the waker's a is the message"
-  pub release-first : s .kind ≡ 7 → h ≡ atOnce (withKernel p (releasedFirst k n (queuePlace o) (messageOf s))) i
-  pub release-all : s .kind ≡ 8 → h ≡ atOnce (withKernel p (releasedAll k n (queuePlace o) (messageOf s))) i
+  pub release-first : s .kind ≡ 7 → h ≡ atOnce (withKernel p (releasedFirst k (queuePlace o) (messageOf s))) i
+  pub release-all : s .kind ≡ 8 → h ≡ atOnce (withKernel p (releasedAll k (queuePlace o) (messageOf s))) i
   pub suspend : s .kind ≡ 9 → h ≡ withKernel p (suspendedOn k i o (keptCall 9 o 0 (s .timeout)))
   pub resume : s .kind ≡ 10 → h ≡ atOnce (withKernel p (resumed k o (messageOf s))) i
   pub sleep-for : s .kind ≡ 11 → h ≡ withKernel p (sleptFor k i (record { 0 = s .timeout }))

@@ -27,6 +27,7 @@ use Rattle.library.specs.Settling.{isBoxCall}
 use Rattle.rules.specs.Hanging.{hangsTogether}
 use Rattle.steps.specs.Refusal.{kindFits, callerFits, contextFits, objectLimit, isSpan, valueFits, stateFits, refusalOf}
 use Rattle.promises.specs.Together.Tests.{either-means, neither-means}
+use Rattle.promises.specs.Together.Good.{Good}
 use Rattle.promises.specs.Together.Hanging.{test-hangs, hangs-test}
 use Rattle.promises.specs.Paper.World.{found as world, First}
 use Rattle.promises.specs.Paper.Refusals.{KernelWait, BoxWait, NoSpan, Broken}
@@ -115,19 +116,19 @@ module _ (t : Tables) (c : Clock) (s : Step) where
   p = opened t
 
   abbrev r : ℕ
-  r = firstReady (p .kernel) (p .sizes .threads)
+  r = firstReady (p .kernel)
 
   -- the running thread is the first ready one
-  first-runs : t .sizes .threads ≤ 16 → s .caller ≢ 255 → s .caller ≡ r → First (world t) (s .caller)
-  first-runs few d e =
-      elim (running-first (p .kernel) (t .sizes .threads) few) [
+  first-runs : Good p → s .caller ≢ 255 → s .caller ≡ r → First (world t) (s .caller)
+  first-runs good d e =
+      elim (running-first p good) [
         | inl g ↦ rw e (record { thread = g .thread; is-ready = g .is-ready; first = g .first })
         | inr g ↦ absurd (d (e ∙ g .nobody))
       ]
 
-  runs-first : t .sizes .threads ≤ 16 → First (world t) (s .caller) → s .caller ≡ r
-  runs-first few f =
-      elim (running-first (p .kernel) (t .sizes .threads) few) [
+  runs-first : Good p → First (world t) (s .caller) → s .caller ≡ r
+  runs-first good f =
+      elim (running-first p good) [
         | inl g ↦ first-only (world t) (s .caller) r f (record { thread = g .thread; is-ready = g .is-ready; first = g .first })
         | inr g ↦ absurd (g .none (s .caller) (f .thread) (f .is-ready))
       ]
@@ -137,10 +138,10 @@ module _ (t : Tables) (c : Clock) (s : Step) where
   passes n =
       cond (eqb n 1) (hangsTogether p c)
       (cond (eqb n 2) (kindFits (s .kind))
-      (cond (eqb n 3) (callerFits (p .kernel) (p .sizes .threads) (s .caller))
+      (cond (eqb n 3) (callerFits r (s .caller))
       (cond (eqb n 4) (contextFits s)
       (cond (eqb n 5) (not (leb (objectLimit (p .sizes) (s .kind)) (s .object)))
-      (cond (eqb n 6) (valueFits (c .time) s) (cond (eqb n 7) (stateFits p s) true))))))
+      (cond (eqb n 6) (valueFits (c .time) s) (cond (eqb n 7) (stateFits (p .kernel .counters) (p .kernel .references) (p .pools) s) true))))))
 
   -- the refusal is the first number whose rule fails, or 0
   abbrev found : ℕ
@@ -153,7 +154,7 @@ module _ (t : Tables) (c : Clock) (s : Step) where
       (λ e1. rw e1
       (split (kindFits (s .kind))
       (λ e2. rw e2
-      (split (callerFits (p .kernel) (p .sizes .threads) (s .caller))
+      (split (callerFits r (s .caller))
       (λ e3. rw e3
       (split (contextFits s)
       (λ e4. rw e4
@@ -161,7 +162,7 @@ module _ (t : Tables) (c : Clock) (s : Step) where
       (λ e5. rw e5)
       (λ e5. rw e5
       (split (valueFits (c .time) s)
-      (λ e6. rw e6 (split (stateFits p s) (λ e7. rw e7) (λ e7. rw e7)))
+      (λ e6. rw e6 (split (stateFits (p .kernel .counters) (p .kernel .references) (p .pools) s) (λ e7. rw e7) (λ e7. rw e7)))
       (λ e6. rw e6)))))
       (λ e4. rw e4)))
       (λ e3. rw e3)))
@@ -169,30 +170,30 @@ module _ (t : Tables) (c : Clock) (s : Step) where
       (λ e1. rw e1)
 
   -- a rule that is broken fails its test
-  broken-fails : {n : ℕ} → (n ≡ 3 → t .sizes .threads ≤ 16) → Broken t c s n → passes n ≡ false
-  broken-fails few (Broken.tables h) = split (hangsTogether p c) (λ e. absurd (h (rules-together t c (test-hangs p c e)))) (λ e. e)
-  broken-fails few (Broken.no-kind e) = rw e
-  broken-fails few (Broken.other-kind h) = second-fails (leb 1 (s .kind)) (lt-leb (s .kind) 22 h)
-  broken-fails few (Broken.caller a b) = rw (ne-eqb (s .caller) 255 a, ne-eqb (s .caller) r (λ e. b (first-runs (few refl) a e)))
-  broken-fails few (Broken.tick a e) = rw (ne-eqb (s .caller) 255 a, e)
-  broken-fails few (Broken.wait a k) = rw (a, kernel-wait (s .kind) k)
-  broken-fails few (Broken.box-wait a k t) = rw (a, box-call (s .kind) k .1, box-call (s .kind) k .0, ne-eqb (s .timeout) 0 t)
-  broken-fails few (Broken.semaphore a b h) = rw (limit-semaphores (p .sizes) (s .kind) a b, le-leb (p .sizes .semaphores) (s .object) h)
-  broken-fails few (Broken.queue a b h) = rw (limit-queues (p .sizes) (s .kind) a b, le-leb (p .sizes .queues) (s .object) h)
-  broken-fails few (Broken.reference a b h) = rw (limit-references (p .sizes) (s .kind) a b, le-leb (p .sizes .references) (s .object) h)
-  broken-fails few (Broken.thread e h) = rw (e, le-leb (p .sizes .threads) (s .object) h)
-  broken-fails few (Broken.mailbox a b h) = rw (limit-mailboxes (p .sizes) (s .kind) a b, le-leb (p .sizes .mailboxes) (s .object) h)
-  broken-fails few (Broken.pool a b h) = rw (limit-pools (p .sizes) (s .kind) a, le-leb (p .sizes .pools) (s .object) h)
-  broken-fails few (Broken.reset e h) = rw (e, lt-leb (s .a) 2147483647 h)
-  broken-fails few (Broken.pool-object (inl e) h) = rw (e, lt-leb (s .a) 31 h)
-  broken-fails few (Broken.pool-object (inr e) h) = rw (e, lt-leb (s .a) 31 h)
-  broken-fails few (Broken.mask e z) = rw (e, z)
-  broken-fails few (Broken.sleep-for e d) = rw (e, no-span (s .timeout) d)
-  broken-fails few (Broken.sleep-until e d) = rw (e, no-span (differed (c .time) (record { 0 = s .a }) .0) d)
-  broken-fails few (Broken.signal e h) = rw (e, h)
-  broken-fails few (Broken.suspend e d) = rw (e, ne-eqb (holderAt (p .kernel) (s .object)) 255 d)
-  broken-fails few (Broken.free e h d) = rw (e, object-byte s h, ne-eqb (markAt (poolAt p (s .object)) (s .a)) out d)
-  broken-fails few (Broken.add e h d) = rw (e, object-byte s h, ne-eqb (markAt (poolAt p (s .object)) (s .a)) absent d)
+  broken-fails : {n : ℕ} → (n ≡ 3 → Good p) → Broken t c s n → passes n ≡ false
+  broken-fails good (Broken.tables h) = split (hangsTogether p c) (λ e. absurd (h (rules-together t c (test-hangs p c e)))) (λ e. e)
+  broken-fails good (Broken.no-kind e) = rw e
+  broken-fails good (Broken.other-kind h) = second-fails (leb 1 (s .kind)) (lt-leb (s .kind) 22 h)
+  broken-fails good (Broken.caller a b) = rw (ne-eqb (s .caller) 255 a, ne-eqb (s .caller) r (λ e. b (first-runs (good refl) a e)))
+  broken-fails good (Broken.tick a e) = rw (ne-eqb (s .caller) 255 a, e)
+  broken-fails good (Broken.wait a k) = rw (a, kernel-wait (s .kind) k)
+  broken-fails good (Broken.box-wait a k t) = rw (a, box-call (s .kind) k .1, box-call (s .kind) k .0, ne-eqb (s .timeout) 0 t)
+  broken-fails good (Broken.semaphore a b h) = rw (limit-semaphores (p .sizes) (s .kind) a b, le-leb (p .sizes .semaphores) (s .object) h)
+  broken-fails good (Broken.queue a b h) = rw (limit-queues (p .sizes) (s .kind) a b, le-leb (p .sizes .queues) (s .object) h)
+  broken-fails good (Broken.reference a b h) = rw (limit-references (p .sizes) (s .kind) a b, le-leb (p .sizes .references) (s .object) h)
+  broken-fails good (Broken.thread e h) = rw (e, le-leb (p .sizes .threads) (s .object) h)
+  broken-fails good (Broken.mailbox a b h) = rw (limit-mailboxes (p .sizes) (s .kind) a b, le-leb (p .sizes .mailboxes) (s .object) h)
+  broken-fails good (Broken.pool a b h) = rw (limit-pools (p .sizes) (s .kind) a, le-leb (p .sizes .pools) (s .object) h)
+  broken-fails good (Broken.reset e h) = rw (e, lt-leb (s .a) 2147483647 h)
+  broken-fails good (Broken.pool-object (inl e) h) = rw (e, lt-leb (s .a) 31 h)
+  broken-fails good (Broken.pool-object (inr e) h) = rw (e, lt-leb (s .a) 31 h)
+  broken-fails good (Broken.mask e z) = rw (e, z)
+  broken-fails good (Broken.sleep-for e d) = rw (e, no-span (s .timeout) d)
+  broken-fails good (Broken.sleep-until e d) = rw (e, no-span (differed (c .time) (record { 0 = s .a }) .0) d)
+  broken-fails good (Broken.signal e h) = rw (e, h)
+  broken-fails good (Broken.suspend e d) = rw (e, ne-eqb (holderAt (p .kernel) (s .object)) 255 d)
+  broken-fails good (Broken.free e h d) = rw (e, object-byte s h, ne-eqb (markAt (poolAt p (s .object)) (s .a)) out d)
+  broken-fails good (Broken.add e h d) = rw (e, object-byte s h, ne-eqb (markAt (poolAt p (s .object)) (s .a)) absent d)
 
   -- ---- and a test that fails has its rule broken
 
@@ -202,10 +203,10 @@ module _ (t : Tables) (c : Clock) (s : Step) where
       (λ d. in-or-out 22 (s .kind) Broken.other-kind
       (λ h. contrary (both-true (le-leb 1 (s .kind) (omega arith)) (le-leb (s .kind) 22 h)) e))
 
-  caller-broken : t .sizes .threads ≤ 16 → callerFits (p .kernel) (p .sizes .threads) (s .caller) ≡ false → Broken t c s 3
-  caller-broken few e =
+  caller-broken : Good p → callerFits r (s .caller) ≡ false → Broken t c s 3
+  caller-broken good e =
       let x = neither-means (eqb (s .caller) nobody) (eqb (s .caller) r) e in
-      Broken.caller (eqb-false (s .caller) nobody (x .0)) (λ f. eqb-false (s .caller) r (x .1) (runs-first few f))
+      Broken.caller (eqb-false (s .caller) nobody (x .0)) (λ f. eqb-false (s .caller) r (x .1) (runs-first good f))
 
   context-broken : contextFits s ≡ false → Broken t c s 4
   context-broken e =
@@ -247,7 +248,7 @@ module _ (t : Tables) (c : Clock) (s : Step) where
       none : s .a < 1 → s .a ≡ 0
       none l = omega arith
 
-  state-broken : valueFits (c .time) s ≡ true → stateFits p s ≡ false → Broken t c s 7
+  state-broken : valueFits (c .time) s ≡ true → stateFits (p .kernel .counters) (p .kernel .references) (p .pools) s ≡ false → Broken t c s 7
   state-broken v h =
       let k = s .kind in
       same-or k 3 (λ e. Broken.signal e (rw e at h))
@@ -267,7 +268,7 @@ module _ (t : Tables) (c : Clock) (s : Step) where
   rule-broken rows byte n d l h before =
       next n 1 (omega arith) (λ e. rw e (Broken.tables (λ g. contrary (hangs-test p c (together-rules t c rows g)) (rw e at h))))
       (λ a2. next n 2 a2 (λ e. rw e (kind-broken (rw e at h)))
-      (λ a3. next n 3 a3 (λ e. rw e (caller-broken (test-hangs p c (before 1 (omega arith)) .good .sizes .threads .1) (rw e at h)))
+      (λ a3. next n 3 a3 (λ e. rw e (caller-broken (test-hangs p c (before 1 (omega arith)) .good) (rw e at h)))
       (λ a4. next n 4 a4 (λ e. rw e (context-broken (rw e at h)))
       (λ a5. next n 5 a5 (λ e. rw e (object-broken byte (before 2 (omega arith)) (over (rw e at h))))
       (λ a6. next n 6 a6 (λ e. rw e (value-broken (rw e at h)))
@@ -298,9 +299,9 @@ pub record FirstBroken (t : Tables) (c : Clock) (s : Step) (r : ℕ) : Type 0 wh
   pub none : r ≡ 0 → (n : ℕ) → Broken t c s n → ⊥
 
 module _ (t : Tables) (c : Clock) (s : Step) (rows : length (t .kernel .threads) ≡ 16) (byte : s .object < 256) where
-  -- whose rule 1 holds has at most 16 threads
-  few-then : passes t c s 1 ≡ true → t .sizes .threads ≤ 16
-  few-then e = test-hangs (opened t) c e .good .sizes .threads .1
+  -- whose rule 1 holds is good
+  good-then : passes t c s 1 ≡ true → Good (opened t)
+  good-then e = test-hangs (opened t) c e .good
 
   -- "Refusal numbers, in the order of checking"
   pub first-broken : FirstBroken t c s (refusalOf (opened t) c s)
@@ -311,7 +312,7 @@ module _ (t : Tables) (c : Clock) (s : Step) (rows : length (t .kernel .threads)
         | inr f ↦ rw (f .0) (record {
           broken = λ d. absurd (d refl);
           before = λ n l. absurd (omega arith);
-          none = λ e n b. contrary (holds f n) (broken-fails t c s (λ x. few-then (holds f 1)) b);
+          none = λ e n b. contrary (holds f n) (broken-fails t c s (λ x. good-then (holds f 1)) b);
         })
       ])
     where
@@ -329,6 +330,6 @@ module _ (t : Tables) (c : Clock) (s : Step) (rows : length (t .kernel .threads)
           rw (ne-eqb r nobody apart)
           (record {
             broken = λ d. rule-broken t c s rows byte r d (f .below) fails earlier;
-            before = λ n l b. contrary (earlier n l) (broken-fails t c s (λ x. few-then (earlier 1 (omega (arith, x, l)))) b);
+            before = λ n l b. contrary (earlier n l) (broken-fails t c s (λ x. good-then (earlier 1 (omega (arith, x, l)))) b);
             none = λ e. absurd (some e fails);
           })

@@ -23,6 +23,7 @@ use Rattle.kernel.specs.Event.{eventSignalled}
 use Rattle.kernel.specs.Ticking.{countedOff, tickedOne, ticked}
 use Rattle.kernel.proofs.Cases.{next, split, same-or, in-or-out, chosen, contrary, both-means}
 use Rattle.kernel.proofs.TablesLaws.{Sized, SameSizes, sizes-refl, used-all, sized-kept}
+use Rattle.kernel.proofs.WaitersLaws.{TellsAt}
 use Rattle.kernel.proofs.QueueLaws.{release-first-sizes, release-all-sizes}
 use Rattle.kernel.proofs.SemaphoreLaws.{signal-sizes, reset-sizes}
 use Rattle.kernel.proofs.ReferenceLaws.{resume-sizes}
@@ -43,7 +44,9 @@ use Rattle.steps.specs.Refusal.{refusalOf}
 use Rattle.promises.specs.Together.Good.{GoodSizes, GoodThread}
 use Rattle.promises.specs.Kept.Tallies.{Tallies, wake-tallies, row-tallies, release-all-tallies}
 use Rattle.promises.specs.Kept.CounterRule.{semaphore-place, queue-place}
-use Rattle.promises.specs.Kept.Chain.{queueing-place}
+use Rattle.promises.specs.Kept.WordRule.{semaphore-told, queue-told, pool-told, readers-told}
+use Rattle.promises.specs.Kept.Moving.{release-all-chained}
+use Rattle.promises.specs.Kept.Chain.{queueing-place, chain-sound}
 use Rattle.promises.specs.Kept.PoolKept.{stock-below, good-length, push-is}
 use Rattle.promises.specs.Kept.Whole.{Whole}
 use Rattle.promises.specs.Kept.Accepting.{Accepted, refusal-none, waits-thread}
@@ -104,6 +107,7 @@ use Rattle.promises.specs.Meant.Calls.{
   event-wait-is,
   writers,
   readers,
+  told-writers,
   post-is,
   fetch-is,
   pool-row,
@@ -288,6 +292,13 @@ module _ (t : Tables) (c : Clock) (s : Step) (w : Whole (t .sizes) (opened t)) (
   at-queue : o < t .sizes .queues → queuePlace o ≡ 20 + o
   at-queue l = omega (arith, w .sizes .queues, l)
 
+  -- their words tell who waits there
+  told-semaphore : o < t .sizes .semaphores → TellsAt n kern o
+  told-semaphore = semaphore-told kern (t .sizes) (w .sizes) (w .kernel .rules .words) o
+
+  told-queue : o < t .sizes .queues → TellsAt n kern (20 + o)
+  told-queue l = subst (TellsAt n kern) (at-queue l) (queue-told kern (t .sizes) (w .sizes) (w .kernel .rules .words) o l)
+
   -- what is told of the world at work is told of what the step finds
   from : (P : World → Type 0) → P (worldOf p) → P (found t)
   from P x = subst P (found-is t) x
@@ -319,34 +330,34 @@ module _ (t : Tables) (c : Clock) (s : Step) (w : Whole (t .sizes) (opened t)) (
 
   row-3 : s .kind ≡ 3 → Row 3
   row-3 k =
-      Act.signal (worldOf (withKernel p (signalled kern n o)))
-      (from (λ v. Signal v o (worldOf (withKernel p (signalled kern n o))))
-      (signal-is p z low o (semaphore (rw k at (accepts .object))) (rw k at (accepts .state))))
-      (kernel-at-once (signalled kern n o) (signal-sizes kern n o) (row .signal k))
+      Act.signal (worldOf (withKernel p (signalled kern o)))
+      (from (λ v. Signal v o (worldOf (withKernel p (signalled kern o))))
+      (signal-is p z low o (told-semaphore (rw k at (accepts .object))) (semaphore (rw k at (accepts .object))) (rw k at (accepts .state))))
+      (kernel-at-once (signalled kern o) (signal-sizes kern o) (row .signal k))
 
   row-4 : s .kind ≡ 4 → Row 4
   unfolding resetTo
   row-4 k =
       let u = semaphore (rw k at (accepts .object)) in
-      let v = releasedAll kern n o wasReset in
+      let v = releasedAll kern o wasReset in
       Act.reset (worldOf (withKernel p v))
-      (from (λ v. ReleaseAll v o (negsuc 1) n (worldOf (withKernel p (releasedAll kern n o wasReset)))) (release-all-is p z low o wasReset u))
-      (kernel-at-once (resetTo kern n o (pos (s .a))) (reset-sizes kern n o (pos (s .a)))
+      (from (λ v. ReleaseAll v o (negsuc 1) n (worldOf (withKernel p (releasedAll kern o wasReset)))) (release-all-is p z low o (told-semaphore (rw k at (accepts .object))) wasReset u))
+      (kernel-at-once (resetTo kern o (pos (s .a))) (reset-sizes kern o (pos (s .a)))
       (row .reset k (leb-true (s .a) 2147483647 (rw k at (accepts .value))))
       ∙ ap (λ (x : World). ended x (s .caller) (pos 0) 0)
-      (counter-world (withKernel p v) (sized-kept (release-all-sizes kern n o wasReset) z) o (u .0) (pos (s .a))))
+      (counter-world (withKernel p v) (sized-kept (release-all-sizes kern o wasReset) z) o (u .0) (pos (s .a))))
 
   row-5 : s .kind ≡ 5 → Row 5
   row-5 k =
-      Act.binary-signal (worldOf (withKernel p (binarySignalled kern n o)))
-      (from (λ v. BinarySignal v o (worldOf (withKernel p (binarySignalled kern n o))))
-      (binary-is p z low o (semaphore (rw k at (accepts .object)))))
-      (kernel-at-once (binarySignalled kern n o) binary-sizes (row .binary-signal k))
+      Act.binary-signal (worldOf (withKernel p (binarySignalled kern o)))
+      (from (λ v. BinarySignal v o (worldOf (withKernel p (binarySignalled kern o))))
+      (binary-is p z low o (told-semaphore (rw k at (accepts .object))) (semaphore (rw k at (accepts .object)))))
+      (kernel-at-once (binarySignalled kern o) binary-sizes (row .binary-signal k))
     where
-      binary-sizes : SameSizes kern (binarySignalled kern n o)
+      binary-sizes : SameSizes kern (binarySignalled kern o)
       binary-sizes =
           unfold binarySignalled in
-          chosen (SameSizes kern) (ltZ (counterAt kern o) (pos 1)) (λ e. signal-sizes kern n o) (λ e. sizes-refl kern)
+          chosen (SameSizes kern) (ltZ (counterAt kern o) (pos 1)) (λ e. signal-sizes kern o) (λ e. sizes-refl kern)
 
   row-6 : s .kind ≡ 6 → Row 6
   unfolding enqueued
@@ -360,20 +371,20 @@ module _ (t : Tables) (c : Clock) (s : Step) (w : Whole (t .sizes) (opened t)) (
   row-7 : s .kind ≡ 7 → Row 7
   row-7 k =
       let l : o < t .sizes .queues = rw k at (accepts .object) in
-      let v = releasedFirst kern n (20 + o) (signed (s .a)) in
+      let v = releasedFirst kern (20 + o) (signed (s .a)) in
       Act.release-first (worldOf (withKernel p v))
-      (from (λ x. Release x (20 + o) (signed (s .a)) (worldOf (withKernel p (releasedFirst kern n (20 + o) (signed (s .a))))))
-      (release-is p z low (20 + o) (signed (s .a)) (queue l)))
-      (kernel-at-once v (release-first-sizes kern n (20 + o) (signed (s .a))) (row .release-first k ∙ rw (at-queue l, signed-is s word)))
+      (from (λ x. Release x (20 + o) (signed (s .a)) (worldOf (withKernel p (releasedFirst kern (20 + o) (signed (s .a))))))
+      (release-is p z low (20 + o) (told-queue l) (signed (s .a)) (queue l)))
+      (kernel-at-once v (release-first-sizes kern (20 + o) (signed (s .a))) (row .release-first k ∙ rw (at-queue l, signed-is s word)))
 
   row-8 : s .kind ≡ 8 → Row 8
   row-8 k =
       let l : o < t .sizes .queues = rw k at (accepts .object) in
-      let v = releasedAll kern n (20 + o) (signed (s .a)) in
+      let v = releasedAll kern (20 + o) (signed (s .a)) in
       Act.release-all (worldOf (withKernel p v))
-      (from (λ x. ReleaseAll x (20 + o) (signed (s .a)) n (worldOf (withKernel p (releasedAll kern n (20 + o) (signed (s .a))))))
-      (release-all-is p z low (20 + o) (signed (s .a)) (queue l)))
-      (kernel-at-once v (release-all-sizes kern n (20 + o) (signed (s .a))) (row .release-all k ∙ rw (at-queue l, signed-is s word)))
+      (from (λ x. ReleaseAll x (20 + o) (signed (s .a)) n (worldOf (withKernel p (releasedAll kern (20 + o) (signed (s .a))))))
+      (release-all-is p z low (20 + o) (told-queue l) (signed (s .a)) (queue l)))
+      (kernel-at-once v (release-all-sizes kern (20 + o) (signed (s .a))) (row .release-all k ∙ rw (at-queue l, signed-is s word)))
 
   row-9 : s .kind ≡ 9 → Row 9
   unfolding suspendedOn
@@ -455,17 +466,20 @@ module _ (t : Tables) (c : Clock) (s : Step) (w : Whole (t .sizes) (opened t)) (
       let c0 = kept 18 o 0 0 in
       let u = writers p w (s .caller) c0 l who (λ d. absurd (d refl)) in
       let y = readers p w (s .caller) c0 l who (λ d. absurd (d refl)) in
-      let v = releasedAll kern n (28 + o) wasReset in
-      let x = releasedAll v n (32 + o) wasReset in
+      let v = releasedAll kern (28 + o) wasReset in
+      let x = releasedAll v (32 + o) wasReset in
       let b = inReset (mailboxAt p o) in
       let a : writersPlace o ≡ 28 + o = omega (arith, w .sizes .mailboxes, l) in
       let d : readersPlace o ≡ 32 + o = omega (arith, w .sizes .mailboxes, l) in
-      let zv = sized-kept (release-all-sizes kern n (28 + o) wasReset) z in
-      let zx = sized-kept (release-all-sizes v n (32 + o) wasReset) zv in
+      let told = told-writers p w (s .caller) c0 l who (λ d. absurd (d refl)) in
+      let left = chain-sound (t .sizes) (w .sizes) (release-all-chained (t .sizes) (w .sizes) kern (28 + o) told wasReset (λ h. refl)) (w .kernel) in
+      let zv = sized-kept (release-all-sizes kern (28 + o) wasReset) z in
+      let zx = sized-kept (release-all-sizes v (32 + o) wasReset) zv in
       Act.mailbox-reset (worldOf (withKernel p v)) (worldOf (withKernel p x))
-      (from (λ q. ReleaseAll q (28 + o) (negsuc 1) n (worldOf (withKernel p (releasedAll kern n (28 + o) wasReset))))
-      (release-all-is p z low (28 + o) wasReset u))
-      (release-all-is (withKernel p v) zv low (32 + o) wasReset (y .0, release-all-tallies kern n (28 + o) wasReset (32 + o) (y .1)))
+      (from (λ q. ReleaseAll q (28 + o) (negsuc 1) n (worldOf (withKernel p (releasedAll kern (28 + o) wasReset))))
+      (release-all-is p z low (28 + o) told wasReset u))
+      (release-all-is (withKernel p v) zv low (32 + o) (subst (TellsAt n v) d (readers-told v (t .sizes) (w .sizes) (left .rules .words) o l))
+      wasReset (y .0, release-all-tallies kern (28 + o) wasReset n low told (32 + o) (y .1)))
       (at-once (withMailbox (withKernel p x) o b) zx (row .mailbox-reset k ∙ rw (a, d))
       ∙ ap (λ (q : World). ended q (s .caller) (pos 0) 0)
       (box-world (withKernel p x) o b (omega (arith, w .boxes, w .sizes .mailboxes, l))))
@@ -491,23 +505,24 @@ module _ (t : Tables) (c : Clock) (s : Step) (w : Whole (t .sizes) (opened t)) (
   module _ (l : o < t .sizes .pools) (small : s .a ≤ 31) (unlisted : markAt (poolAt p o) (s .a) ≢ free)
       (puts : h ≡ atOnce (putBack p o (s .a)) (s .caller)) where
     abbrev after : World
-    after = worldOf (withKernel p (signalled kern n (16 + o)))
+    after = worldOf (withKernel p (signalled kern (16 + o)))
 
     put-signals : Signal (found t) (16 + o) after
     put-signals =
         let g = good p w .pools o l in
-        from (λ v. Signal v (16 + o) (worldOf (withKernel p (signalled kern n (16 + o)))))
-        (signal-is p z low (16 + o) (pool-used p w o l)
+        from (λ v. Signal v (16 + o) (worldOf (withKernel p (signalled kern (16 + o)))))
+        (signal-is p z low (16 + o)
+        (subst (TellsAt n kern) (at-pool p w o l) (pool-told kern (t .sizes) (w .sizes) (w .kernel .rules .words) o l)) (pool-used p w o l)
         (stock-below (counterAt kern (16 + o)) (omega (arith, rw (at-pool p w o l) at (good-length g), g .length))))
 
     put-is : worldOf h ≡ ended (poolTo after o (onTop (poolAt p o) (s .a))) (s .caller) (pos 0) 0
     unfolding putBack
     put-is =
-        at-once (withPool (withKernel p (signalled kern n (16 + o))) o (onTop (poolAt p o) (s .a)))
-        (sized-kept (signal-sizes kern n (16 + o)) z)
+        at-once (withPool (withKernel p (signalled kern (16 + o))) o (onTop (poolAt p o) (s .a)))
+        (sized-kept (signal-sizes kern (16 + o)) z)
         (puts ∙ rw (at-pool p w o l, push-is (poolAt p o) (w .pools .listed o l) (w .pools .sized o l) (s .a) (omega arith) unlisted))
         ∙ ap (λ (q : World). ended q (s .caller) (pos 0) 0)
-        (pool-world (withKernel p (signalled kern n (16 + o))) o (onTop (poolAt p o) (s .a)) (pool-row p w o l))
+        (pool-world (withKernel p (signalled kern (16 + o))) o (onTop (poolAt p o) (s .a)) (pool-row p w o l))
 
   row-21 : s .kind ≡ 21 → Row 21
   row-21 k =

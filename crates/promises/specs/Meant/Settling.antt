@@ -1,5 +1,5 @@
 -- Settling of the meanings, continuation by continuation; and who runs.
-use Prim.Native.Nat.{ℕ, suc, _≤_, _<_}
+use Prim.Native.Nat.{ℕ, suc, _<_}
 use mathlib.Core.Path.{_≡_, refl, sym}
 use mathlib.Core.Logic.{_≢_, _⊎_, inl, inr}
 use mathlib.Core.Bool.{true, false}
@@ -9,9 +9,8 @@ use Rattle.kernel.specs.declared.records.Thread.{Thread}
 use Rattle.kernel.specs.declared.records.Kernel.{Kernel}
 use Rattle.kernel.specs.Numbers.{nobody, ready}
 use Rattle.kernel.specs.Tables.{threadAt}
-use Rattle.kernel.specs.Waiters.{isReady, firstReady}
+use Rattle.kernel.specs.Waiters.{isReady, runningFree}
 use Rattle.kernel.proofs.Cases.{contrary}
-use Rattle.kernel.proofs.TablesLaws.{used-all}
 use Rattle.kernel.proofs.WaitersLaws.{first-ready-cases}
 use Rattle.library.specs.declared.tables.Plant.{Plant}
 use Rattle.kernel.specs.Event.{tookFlags}
@@ -20,6 +19,8 @@ use Rattle.library.specs.Pool.{handedOver}
 use Rattle.library.specs.Settling.{doesMore, answeredOnly, continued, runningIn, settled}
 use Rattle.library.specs.Tables.{withKernel}
 use Rattle.library.proofs.SettlingLaws.{settled-quiet}
+use Rattle.promises.specs.Together.Good.{Good}
+use Rattle.promises.specs.Kept.WordRule.{words-said}
 
 -- ---- "the running thread is the first ready one, or idle"
 
@@ -38,15 +39,17 @@ unready : (t : Thread) → isReady t ≡ false → t .state ≢ ready
 unready t e s = contrary (eq-eqb (t .state) ready s) e
 
 -- "the running thread is the first ready one, or idle"
-pub running-first : (k : Kernel) (n : ℕ) → n ≤ 16 → FirstReady k n (firstReady k n) ⊎ NobodyReady k n (firstReady k n)
-running-first k n few =
-    elim (first-ready-cases k n) [
+pub running-first : (p : Plant) → Good p
+    → FirstReady (p .kernel) (p .sizes .threads) (runningIn p) ⊎ NobodyReady (p .kernel) (p .sizes .threads) (runningIn p)
+running-first p g =
+    let k = p .kernel in
+    elim (first-ready-cases k (p .sizes .threads) (g .sizes .threads .1) (words-said k (p .sizes) (g .sizes) (g .words) .ready)) [
       | inl c ↦ inl (record {
-        thread = rw (used-all n few) at (c .below);
-        is-ready = eqb-true (threadAt k (firstReady k n) .state) ready (c .passes);
+        thread = c .below;
+        is-ready = eqb-true (threadAt k (runningIn p) .state) ready (c .passes);
         first = λ j h. unready (threadAt k j) (c .least j h);
       })
-      | inr c ↦ inr (record { nobody = c .0; none = λ j h. unready (threadAt k j) (c .1 j (rw (used-all n few) h)) })
+      | inr c ↦ inr (record { nobody = c .0; none = λ j h. unready (threadAt k j) (c .1 j h) })
     ]
 
 -- ---- "If it has an unfinished call, that call is continued"
@@ -91,4 +94,5 @@ module _ (p : Plant) where
 
   -- "Settling ends when the running thread has no unfinished call"
   pub settle-stops : (n : ℕ) → threadAt (p .kernel) (runningIn p) .call .kind ≡ 0 → settled n p ≡ p
-  settle-stops n e = sym (settled-quiet p (runningIn p) (threadAt (p .kernel) (runningIn p)) refl refl n e)
+  settle-stops n e =
+      sym (settled-quiet n p p (runningFree (p .kernel)) refl refl (eq-eqb (threadAt (p .kernel) (runningIn p) .call .kind) 0 e))

@@ -1,5 +1,5 @@
 -- What `stepped` gives back is what document 01 tells of the step: for any tables, any clock and any step of a host.
-use Prim.Native.Nat.{ℕ, zero, suc, _≤_, _<_}
+use Prim.Native.Nat.{ℕ, zero, suc, _<_}
 use native.Mathlib.Omega.{arith}
 use mathlib.Core.Path.{_≡_, refl, sym, ap, _∙_, subst}
 use mathlib.Core.Logic.{_≢_, _⊎_, inl, inr}
@@ -13,7 +13,6 @@ use Rattle.kernel.specs.declared.records.Thread.{Thread}
 use Rattle.kernel.specs.Numbers.{nobody}
 use Rattle.kernel.specs.Tables.{threadAt}
 use Rattle.kernel.specs.Moves.{finished}
-use Rattle.kernel.specs.Waiters.{firstReady}
 use Rattle.kernel.proofs.Cases.{split, same-or, in-or-out, contrary}
 use Rattle.kernel.proofs.TablesLaws.{thread-blank}
 use Rattle.library.specs.declared.calls.Step.{Step}
@@ -38,7 +37,8 @@ use Rattle.promises.specs.Meant.Masks.{mask-digit}
 use Rattle.promises.specs.Together.Hanging.{test-hangs}
 use Rattle.promises.specs.Kept.Accepting.{refusal-none}
 use Rattle.promises.specs.Kept.Acts.{step-acts}
-use Rattle.promises.specs.Kept.Whole.{PlantSized, Whole, good-whole}
+use Rattle.promises.specs.Together.Good.{Good}
+use Rattle.promises.specs.Kept.Whole.{PlantSized, Whole, good-whole, whole-good}
 use Rattle.promises.specs.Kept.Settles.{continue-tries, spent-all}
 use Rattle.promises.specs.Kept.Steps.{Hangs, settles}
 use Rattle.promises.specs.Meant.Clock.{tick-time, tick-time-wraps, other-time}
@@ -83,9 +83,9 @@ sized-host t h =
 
 -- ---- who runs
 
-pub running-is : (p : Plant) → p .sizes .threads ≤ 16 → Running (worldOf p) (firstReady (p .kernel) (p .sizes .threads))
-running-is p few =
-    elim (running-first (p .kernel) (p .sizes .threads) few) [
+pub running-is : (p : Plant) → Good p → Running (worldOf p) (runningIn p)
+running-is p good =
+    elim (running-first p good) [
       | inl f ↦ Running.thread (record { thread = f .thread; is-ready = f .is-ready; first = f .first })
       | inr f ↦ Running.idle (f .none) (f .nobody)
     ]
@@ -100,7 +100,7 @@ module _ (p : Plant) (w : Whole (p .sizes) p) where
   -- settled tables have no call to continue
   quiet : isSettled p ≡ true → (i : ℕ) → First (worldOf p) i → worldOf p .thread i .call .kind ≡ 0
   quiet e i f =
-      elim (running-is p (few p w)) [
+      elim (running-is p (whole-good p (p .sizes) w)) [
         | Running.thread g ↦ rw (first-only (worldOf p) i r f g) (eqb-true (threadAt (p .kernel) r .call .kind) 0 e)
         | Running.idle none d ↦ absurd (none i (f .thread) (f .is-ready))
       ]
@@ -108,7 +108,7 @@ module _ (p : Plant) (w : Whole (p .sizes) p) where
   -- others have a running thread with one
   due : isSettled p ≡ false → First (worldOf p) r
   due e =
-      elim (running-is p (few p w)) [
+      elim (running-is p (whole-good p (p .sizes) w)) [
         | Running.thread g ↦ g
         | Running.idle none d ↦ contrary (rw (d, thread-blank (p .kernel) 255 (omega (arith, sized p w .threads)))) e
       ]
@@ -237,13 +237,12 @@ clock-is c h kind =
     ClockAfter.wraps e top (rw e (λ x. record { time = record { 0 = tick-time-wraps c top x }; frequency = c .frequency }))))
     (λ d. ClockAfter.stays d (other-time c kind d))
 
-pub result-is : (p : Plant) → p .sizes .threads ≤ 16 → (caller : ℕ)
-    → ResultOf (worldOf p) caller (outcomeOf (p .kernel) (p .sizes .threads) caller)
+pub result-is : (p : Plant) → Whole (p .sizes) p → (caller : ℕ) → ResultOf (worldOf p) caller (outcomeOf (p .kernel) caller)
 unfolding outcomeOf
-result-is p few caller =
+result-is p w caller =
     record {
       code = refl;
-      running = running-is p few;
+      running = running-is p (whole-good p (p .sizes) w);
       woken = λ i. mask-digit (p .kernel .woken) i ∙ bit-one (getD (p .kernel .woken) i false);
       finished = λ i. mask-digit (p .kernel .finished) i ∙ bit-one (getD (p .kernel .finished) i false);
       message = split (eqb caller 255) (λ e. rw e) (λ e. rw e);
@@ -275,10 +274,10 @@ module _ (t : Tables) (c : Clock) (s : Step) (host : Host t c s) where
   abbrev pub n : ℕ
   n = refusalOf p c s
 
-  -- tables that break no rule have at most 16 threads
-  few-then : n ≢ 1 → t .sizes .threads ≤ 16
-  few-then x =
-      split (hangsTogether p c) (λ e. test-hangs p c e .good .sizes .threads .1) (λ e. absurd (x (unfold refusalOf in rw e)))
+  -- tables that break no rule are good
+  good-then : n ≢ 1 → Good p
+  good-then x =
+      split (hangsTogether p c) (λ e. test-hangs p c e .good) (λ e. absurd (x (unfold refusalOf in rw e)))
 
   refused-is : n ≢ 0 → RefusedWith t c n (refusedWith t c p n)
   unfolding refusedWith
@@ -288,7 +287,7 @@ module _ (t : Tables) (c : Clock) (s : Step) (host : Host t c s) where
         clock = refl;
         code = refl;
         no-running = λ e. rw e;
-        running = λ x. rw (ne-eqb n 1 x) (subst (λ (w : World). Running w (runningIn p)) (found-is t) (running-is p (few-then x)));
+        running = λ x. rw (ne-eqb n 1 x) (subst (λ (w : World). Running w (runningIn p)) (found-is t) (running-is p (good-then x)));
         woken = refl;
         finished = refl;
         message = refl;
@@ -338,7 +337,7 @@ module _ (t : Tables) (c : Clock) (s : Step) (host : Host t c s) where
         StepOf.accepted (first-broken t c s (host .tables .threads) (host .step .object) .none e) (worldOf (acted p (c .time) s)) (worldOf h)
         (act-is t c s begun-whole (host .step .operand) e)
         (settles-is (budgetOf (t .sizes .threads)) (acted p (c .time) s) (own acted-whole) (settles t c s hangs code .ended))
-        (left-is h settled-whole) words-left (clock-is c (host .time) (s .kind)) (result-is h (settled-whole .sizes .threads .1) (s .caller))
+        (left-is h settled-whole) words-left (clock-is c (host .time) (s .kind)) (result-is h settled-whole (s .caller))
 
   -- EVERY STEP IS AS DOCUMENT 01 TELLS IT
   pub step-is : StepOf t c s (stepped t c s)

@@ -49,7 +49,7 @@ use Rattle.promises.specs.Paper.Together.{
   HangTogether,
 }
 use Rattle.promises.specs.Together.Tests.{used-all}
-use Rattle.promises.specs.Together.Good.{GoodSizes, CallKind, GoodThread, SemaphoreCounter, QueueCounter, GoodPool, RulesHold}
+use Rattle.promises.specs.Together.Good.{GoodSizes, CallKind, GoodThread, SemaphoreCounter, QueueCounter, GoodPool, Good, RulesHold}
 use Rattle.promises.specs.Kept.PoolKept.{stock, good-length, length-promises}
 use Rattle.promises.specs.Kept.WordRule.{words-said, said-words}
 use Rattle.promises.specs.Meant.Moves.{found-is}
@@ -473,8 +473,8 @@ module _ (t : Tables) (c : Clock) where
             (pool-fits (w .pool q) (w .counter (16 + q)) (promisedCount k n q) (rw (pool-at s q l) at (g .pools q l)));
         threads = λ i l. thread-fits (t .sizes) (threadAt k i) (g .threads i l) s;
         running = λ i f.
-            elim (running-first k n (s .threads .1)) [
-              | inl r ↦ rw (first-only w i (firstReady k n) f (record { thread = r .thread; is-ready = r .is-ready; first = r .first }))
+            elim (running-first (opened t) g) [
+              | inl r ↦ rw (first-only w i (firstReady k) f (record { thread = r .thread; is-ready = r .is-ready; first = r .first }))
                   (h .running)
               | inr r ↦ absurd (r .none i (f .thread) (f .is-ready))
             ];
@@ -486,32 +486,34 @@ module _ (t : Tables) (c : Clock) where
   pub together-rules : length (t .kernel .threads) ≡ 16 → HangTogether w (t .kernel .words) c → RulesHold (opened t) c
   together-rules rows f =
       let s = sizes-good (f .sizes) in
+      let g : Good (opened t) =
       record {
-        good = record {
-          sizes = s;
-          counters = record {
-            semaphores = λ i l. of-semaphore s i i refl (f .semaphores i l);
-            pools = λ q l. of-semaphore s (16 + q) (16 + q % 256) (pool-at s q l) (f .pool-counters q l);
-            queues = λ q l. of-queue s (20 + q) (20 + q % 256) (queue-at s q l) (f .queues q l);
-            writers = λ m l. of-queue s (28 + m) (28 + m % 256) (writers-at s m l) (f .writers m l);
-            readers = λ m l. of-queue s (32 + m) (32 + m % 256) (readers-at s m l) (f .readers m l);
-          };
-          references = record { holder = f .holder; holds = f .holds };
-          mailboxes = λ m l.
-              let b = f .mailboxes m l in
-              record { count = b .count; read = b .read; write = b .write; follows = b .follows };
-          pools = λ q l.
-              rw (pool-at s q l)
-              (fits-pool (w .pool q) (w .counter (16 + q)) (promisedCount k n q) (rw (promised-are s q) at (f .pools q l)));
-          threads = λ i l. good-thread (t .sizes) (threadAt k i) (f .threads i l) s;
-          words =
-              said-words k (t .sizes) s
-              (agree-said (opened t) s (subst (λ (x : World). WordsAgree x (t .kernel .words)) (sym (found-is t)) (f .words)));
+        sizes = s;
+        counters = record {
+          semaphores = λ i l. of-semaphore s i i refl (f .semaphores i l);
+          pools = λ q l. of-semaphore s (16 + q) (16 + q % 256) (pool-at s q l) (f .pool-counters q l);
+          queues = λ q l. of-queue s (20 + q) (20 + q % 256) (queue-at s q l) (f .queues q l);
+          writers = λ m l. of-queue s (28 + m) (28 + m % 256) (writers-at s m l) (f .writers m l);
+          readers = λ m l. of-queue s (32 + m) (32 + m % 256) (readers-at s m l) (f .readers m l);
         };
+        references = record { holder = f .holder; holds = f .holds };
+        mailboxes = λ m l.
+            let b = f .mailboxes m l in
+            record { count = b .count; read = b .read; write = b .write; follows = b .follows };
+        pools = λ q l.
+            rw (pool-at s q l)
+            (fits-pool (w .pool q) (w .counter (16 + q)) (promisedCount k n q) (rw (promised-are s q) at (f .pools q l)));
+        threads = λ i l. good-thread (t .sizes) (threadAt k i) (f .threads i l) s;
+        words =
+            said-words k (t .sizes) s
+            (agree-said (opened t) s (subst (λ (x : World). WordsAgree x (t .kernel .words)) (sym (found-is t)) (f .words)));
+      } in
+      record {
+        good = g;
         frequency = f .frequency;
         running =
-            elim (running-first k n (s .threads .1)) [
-              | inl r ↦ f .running (firstReady k n) (record { thread = r .thread; is-ready = r .is-ready; first = r .first })
+            elim (running-first (opened t) g) [
+              | inl r ↦ f .running (firstReady k) (record { thread = r .thread; is-ready = r .is-ready; first = r .first })
               | inr r ↦ rw (r .nobody, thread-blank k 255 (omega (arith, rows)))
             ];
       }

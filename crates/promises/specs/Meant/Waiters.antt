@@ -13,7 +13,7 @@ use Rattle.kernel.specs.Tables.{threadAt, counterAt}
 use Rattle.kernel.specs.Waiters.{firstWaiter}
 use Rattle.kernel.proofs.Cases.{both-true, both-means, contrary}
 use Rattle.kernel.proofs.TablesLaws.{Sized}
-use Rattle.kernel.proofs.WaitersLaws.{waits, first-waiter-counted}
+use Rattle.kernel.proofs.WaitersLaws.{waits, TellsAt, first-waiter-counted}
 use Rattle.kernel.proofs.WalkLaws.{count-le, count-some}
 use Rattle.kernel.proofs.CountersLaws.{debt, debt-below, debt-some}
 use Rattle.promises.specs.Kept.Tallies.{Tallies}
@@ -62,11 +62,11 @@ not-most (negsuc n) e = refl
 
 module _ (k : Kernel) (z : Sized k) (n p : ℕ) where
   -- there is one: "with n > 0 threads queued has counter -n; with none, a semaphore is at least 0"
-  pub signal-finds : n ≤ 16 → Tallies n p k → ltZ (counterAt k p) (pos 0) ≡ true → HighestWaiter k n p (firstWaiter k n p)
-  signal-finds few g e =
-      let first = first-waiter-counted k n p few (omega (arith, g .tally, debt-some (counterAt k p) e)) in
+  pub signal-finds : n ≤ 16 → TellsAt n k p → Tallies n p k → ltZ (counterAt k p) (pos 0) ≡ true → HighestWaiter k n p (firstWaiter k p)
+  signal-finds few told g e =
+      let first = first-waiter-counted k n few p told (omega (arith, g .tally, debt-some (counterAt k p) e)) in
       record {
         thread = first .below;
-        waits = waits-waiting k p (firstWaiter k n p) (first .passes);
+        waits = waits-waiting k p (firstWaiter k p) (first .passes);
         highest = λ j h w. contrary (waiting-waits w) (first .least j h);
       }

@@ -132,7 +132,7 @@ module _ (t : Tables) (c : Clock) (s : Step) (host : Host t c s) (e : stepped t 
   unfolding doneWith outcomeOf
   woken-seen j a =
       let x : World = worldOf (h t c s host) in
-      let r = result-is (h t c s host) (settled-whole t c s host accepted .sizes .threads .1) (s .caller) in
+      let r = result-is (h t c s host) (settled-whole t c s host accepted) (s .caller) in
       subst (λ (q : Stepped). inMask j (q .outcome .woken) ≡ true) (sym (step-done t c s e))
       (rw (bit-in _ j (x .woken j) (r .woken j)) (settle-keeps (λ w. w .woken j ≡ true) stays a))
     where
@@ -175,7 +175,7 @@ module _ (t : Tables) (c : Clock) (s : Step) (host : Host t c s) (e : stepped t 
     unfolding doneWith outcomeOf
     told P q =
         let x : World = worldOf (h t c s host) in
-        let r = result-is (h t c s host) (settled-whole t c s host accepted .sizes .threads .1) (s .caller) in
+        let r = result-is (h t c s host) (settled-whole t c s host accepted) (s .caller) in
         subst (λ (q : Stepped). P (rowOf (q .tables) i) (inMask i (q .outcome .woken)) (inMask i (q .outcome .finished)))
         (sym (step-done t c s e)) (rw (bit-in _ i (x .woken i) (r .woken i), bit-in _ i (x .finished i) (r .finished i)) q)
 

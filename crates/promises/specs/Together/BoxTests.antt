@@ -10,6 +10,7 @@ use borrow.Author.Tests.{eqb-true, eqb-false, eq-eqb, ne-eqb, ltb-true, lt-ltb, 
 use Rattle.kernel.specs.Places.{poolPlace}
 use Rattle.kernel.specs.Tables.{counterAt}
 use Rattle.kernel.proofs.Cases.{same-or, chosen, both-true, both-means}
+use Rattle.kernel.proofs.WalkLaws.{all-at, all-of}
 use Rattle.library.specs.declared.ring.Positions.{Positions}
 use Rattle.library.specs.declared.tables.Pool.{Pool}
 use Rattle.library.specs.declared.tables.Plant.{Plant}
@@ -30,7 +31,7 @@ use Rattle.rules.specs.PoolRules.{
   poolAgrees,
   poolsFit,
 }
-use Rattle.promises.specs.Together.Tests.{all-at, all-of, used-all, same-means, same-of, sum-of, difference-of}
+use Rattle.promises.specs.Together.Tests.{used-all, same-means, same-of, sum-of, difference-of}
 use Rattle.promises.specs.Together.Good.{GoodSizes, GoodMailbox, GoodPool}
 
 -- ---- mailboxes
@@ -139,7 +140,7 @@ module _ (p : Plant) (s : GoodSizes (p .sizes)) where
   unfolding mailboxesFit
   mailboxes-good e m h =
       positions-good (mailboxAt p m .positions) (slotsAt (p .sizes) m)
-      (all-at (mailboxFits p) (p .sizes .mailboxes) m (rw (used-all 4 (p .sizes .mailboxes) (s .mailboxes)) at e) h)
+      (all-at (mailboxFits (p .mailboxes) (p .sizes)) (p .sizes .mailboxes) m (rw (used-all 4 (p .sizes .mailboxes) (s .mailboxes)) at e) h)
 
   -- good mailboxes pass
   pub good-mailboxes : ((m : ℕ) → m < p .sizes .mailboxes → GoodMailbox (mailboxAt p m .positions) (slotsAt (p .sizes) m))
@@ -147,7 +148,7 @@ module _ (p : Plant) (s : GoodSizes (p .sizes)) where
   unfolding mailboxesFit
   good-mailboxes g =
       rw (used-all 4 (p .sizes .mailboxes) (s .mailboxes))
-      (all-of (mailboxFits p) (p .sizes .mailboxes) (λ m h. good-positions (mailboxAt p m .positions) (slotsAt (p .sizes) m) (g m h)))
+      (all-of (mailboxFits (p .mailboxes) (p .sizes)) (p .sizes .mailboxes) (λ m h. good-positions (mailboxAt p m .positions) (slotsAt (p .sizes) m) (g m h)))
 
   -- pools that pass are good
   pub pools-good : poolsFit p ≡ true

@@ -154,4 +154,4 @@ pub record RulesHold (p : Plant) (c : Clock) : Type 0 where
   -- ".. the frequency .. in range"
   pub frequency : (1 ≤ c .frequency) × (c .frequency ≤ 1000000)
   -- "The running thread has no unfinished call"
-  pub running : threadAt (p .kernel) (firstReady (p .kernel) (p .sizes .threads)) .call .kind ≡ 0
+  pub running : threadAt (p .kernel) (firstReady (p .kernel)) .call .kind ≡ 0

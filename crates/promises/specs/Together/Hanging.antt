@@ -19,10 +19,10 @@ use Rattle.kernel.specs.Records.{blank, freshRecords, begun}
 use Rattle.kernel.specs.Tables.{usedRows, threadAt, counterAt}
 use Rattle.kernel.specs.Units.{frequencyOf, frequencyFits}
 use Rattle.kernel.specs.Walk.{countOf}
-use Rattle.kernel.specs.Waiters.{isReady, queuedAt, firstReady}
+use Rattle.kernel.specs.Waiters.{isReady, queuedAt, firstReady, runningFree}
 use Rattle.kernel.specs.Words.{freshWords}
 use Rattle.kernel.proofs.Cases.{split, both-true, both-means}
-use Rattle.kernel.proofs.WalkLaws.{count-none}
+use Rattle.kernel.proofs.WalkLaws.{count-none, all-at, all-of}
 use Rattle.kernel.proofs.WordsLaws.{word-all, word-agree, word-none}
 use Rattle.library.specs.declared.sizes.Sizes.{Sizes}
 use Rattle.library.specs.declared.tables.Plant.{Plant}
@@ -35,8 +35,8 @@ use Rattle.rules.specs.ReferenceRules.{referencesFit}
 use Rattle.rules.specs.MailboxRules.{mailboxesFit}
 use Rattle.rules.specs.PoolRules.{occurrences, promisedBy, promisedCount, poolsFit}
 use Rattle.rules.specs.WordRules.{readyWord, waitingWord, wordsFit}
-use Rattle.rules.specs.Hanging.{runningFree, hangsTogether}
-use Rattle.promises.specs.Together.Tests.{all-at, all-of, used-all}
+use Rattle.rules.specs.Hanging.{hangsTogether}
+use Rattle.promises.specs.Together.Tests.{used-all}
 use Rattle.promises.specs.Together.Good.{
   GoodSizes,
   GoodThread,
@@ -76,7 +76,7 @@ frequency-good f e = let x = both-means (leb 1 f) (leb f 1000000) e in (leb-true
 module _ (p : Plant) (c : Clock) where
   -- tables that pass the test hang together
   pub test-hangs : hangsTogether p c ≡ true → RulesHold p c
-  unfolding hangsTogether runningFree
+  unfolding hangsTogether
   test-hangs e =
       let a = both-means (sizesFit (p .sizes)) _ e in
       let b = both-means (frequencyFits (c .frequency)) _ (a .1) in
@@ -85,7 +85,7 @@ module _ (p : Plant) (c : Clock) where
       let g = both-means (referencesFit (p .kernel) (p .sizes)) _ (f .1) in
       let h = both-means (mailboxesFit p) _ (g .1) in
       let i = both-means (poolsFit p) _ (h .1) in
-      let j = both-means (runningFree (p .kernel) (p .sizes .threads)) (wordsFit (p .kernel) (p .sizes)) (i .1) in
+      let j = both-means (runningFree (p .kernel)) (wordsFit (p .kernel) (p .sizes)) (i .1) in
       let s = sizes-good (p .sizes) (a .0) in
       record {
         good = record {
@@ -98,12 +98,12 @@ module _ (p : Plant) (c : Clock) where
           words = words-good (p .kernel) (p .sizes) (j .1);
         };
         frequency = frequency-good (c .frequency) (b .0);
-        running = eqb-true (threadAt (p .kernel) (firstReady (p .kernel) (p .sizes .threads)) .call .kind) 0 (j .0);
+        running = eqb-true (threadAt (p .kernel) (firstReady (p .kernel)) .call .kind) 0 (j .0);
       }
 
   -- tables that hang together pass the test
   pub hangs-test : RulesHold p c → hangsTogether p c ≡ true
-  unfolding hangsTogether runningFree
+  unfolding hangsTogether
   hangs-test g =
       let s = g .good .sizes in
       both-true (good-sizes (p .sizes) s)
@@ -113,7 +113,7 @@ module _ (p : Plant) (c : Clock) where
       (both-true (good-references (p .kernel) (p .sizes) s (g .good .references))
       (both-true (good-mailboxes p s (g .good .mailboxes))
       (both-true (good-pools p s (g .good .pools))
-      (both-true (eq-eqb (threadAt (p .kernel) (firstReady (p .kernel) (p .sizes .threads)) .call .kind) 0 (g .running))
+      (both-true (eq-eqb (threadAt (p .kernel) (firstReady (p .kernel)) .call .kind) 0 (g .running))
       (good-words (p .kernel) (p .sizes) (g .good .words)))))))))
 
   -- the Bool test and the record of statements say the same
@@ -243,7 +243,7 @@ fresh-hangs z f e h =
     (record {
       good = fresh-good z (sizes-good z e);
       frequency = frequency-good f h;
-      running = ap (λ (t : Thread). t .call .kind) (all-blank 16 blank (firstReady (fresh (z .threads)) (z .threads)));
+      running = ap (λ (t : Thread). t .call .kind) (all-blank 16 blank (firstReady (fresh (z .threads))));
     })
 
 -- what `made` makes, it makes so that it passes

@@ -15,12 +15,13 @@ use Rattle.kernel.specs.Places.{poolPlace, queuePlace, writersPlace, readersPla
 use Rattle.kernel.specs.Walk.{allFrom}
 use Rattle.kernel.specs.Tables.{usedRows, threadAt, counterAt, holderAt}
 use Rattle.kernel.proofs.Cases.{split, same-or, in-or-out, chosen, contrary, both-true, both-means}
+use Rattle.kernel.proofs.WalkLaws.{all-at, all-of}
 use Rattle.library.specs.declared.sizes.Sizes.{Sizes}
 use Rattle.library.specs.Sizes.{slotsAt, slotsFit, sizesFit}
 use Rattle.library.specs.Signs.{same, minus}
 use Rattle.rules.specs.PlaceRules.{inUse, counterFits, placeAgrees, queuedCount, countersFit}
 use Rattle.rules.specs.ReferenceRules.{suspendedAt, holdsRightly, isHolder, threadAgrees, holderFits, referencesFit}
-use Rattle.promises.specs.Together.Tests.{either-means, either-first, either-second, not-of, all-at, all-of, used-all, same-means, same-of}
+use Rattle.promises.specs.Together.Tests.{either-means, either-first, either-second, not-of, used-all, same-means, same-of}
 use Rattle.promises.specs.Together.Good.{GoodSizes, SemaphoreCounter, QueueCounter, GoodCounters, SuspendedOn, GoodReferences}
 
 -- ---- sizes

@@ -1,5 +1,5 @@
--- Tests and what they mean, both ways: of two tests, of all indexes, of signed numbers.
-use Prim.Native.Nat.{ℕ, zero, suc, _+_, _≤_, _<_}
+-- Tests and what they mean, both ways: of two tests, of signed numbers.
+use Prim.Native.Nat.{ℕ, _≤_}
 use native.Mathlib.Omega.{arith}
 use mathlib.Core.Path.{_≡_, refl, sym, ap}
 use mathlib.Core.Logic.{_⊎_, inl, inr}
@@ -7,8 +7,7 @@ use mathlib.Core.Bool.{Bool, true, false, not, _&&_, _||_}
 use lib.Dec.{ltb}
 use lib.IntN.{ℤ, pos, negsuc, _+ℤ_, _-ℤ_, +ℤ-negℤ-cancel, -ℤ-+ℤ-cancel}
 use borrow.Author.Tests.{ltb-false, lt-ltb, le-ltb, not-true}
-use Rattle.kernel.specs.Walk.{allFrom}
-use Rattle.kernel.proofs.Cases.{same-or, in-or-out, contrary, both-true, both-means}
+use Rattle.kernel.proofs.Cases.{in-or-out, contrary, both-means}
 use Rattle.library.specs.Signs.{same}
 use Rattle.rules.specs.Limits.{usedOf}
 
@@ -31,28 +30,6 @@ either-second false e = e
 
 pub not-of : {a : Bool} → a ≡ false → not a ≡ true
 not-of e = rw e
-
--- all of the n indexes from i on pass: each does
-all-from-at : (f : ℕ → Bool) (i n j : ℕ) → allFrom f i n ≡ true → i ≤ j → j < i + n → f j ≡ true
-unfolding allFrom
-all-from-at f i zero j e a b = absurd (omega arith)
-all-from-at f i (suc n) j e a b =
-    let x = both-means (f i) (allFrom f (suc i) n) e in
-    same-or j i (λ s. rw s (x .0)) (λ s. all-from-at f (suc i) n j (x .1) (omega arith) (omega arith))
-
-all-from-of : (f : ℕ → Bool) (i n : ℕ) → ((j : ℕ) → i ≤ j → j < i + n → f j ≡ true) → allFrom f i n ≡ true
-unfolding allFrom
-all-from-of f i zero h = refl
-all-from-of f i (suc n) h =
-    both-true (h i (omega arith) (omega arith)) (all-from-of f (suc i) n (λ j a b. h j (omega arith) (omega arith)))
-
--- all indexes below n pass: each does
-pub all-at : (f : ℕ → Bool) (n i : ℕ) → allFrom f 0 n ≡ true → i < n → f i ≡ true
-all-at f n i e h = all-from-at f 0 n i e (omega arith) (omega arith)
-
--- and if each does, all pass
-pub all-of : (f : ℕ → Bool) (n : ℕ) → ((i : ℕ) → i < n → f i ≡ true) → allFrom f 0 n ≡ true
-all-of f n h = all-from-of f 0 n (λ j a b. h j (omega arith))
 
 -- all n rows are in use where there are as many
 pub used-all : (rows n : ℕ) → n ≤ rows → usedOf rows n ≡ n

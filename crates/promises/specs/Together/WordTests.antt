@@ -5,10 +5,10 @@ use borrow.Author.Tests.{eqb-true, eq-eqb}
 use Rattle.kernel.specs.declared.records.Kernel.{Kernel}
 use Rattle.kernel.specs.Words.{waitingAt}
 use Rattle.kernel.proofs.Cases.{split, both-true, both-means}
+use Rattle.kernel.proofs.WalkLaws.{all-at, all-of}
 use Rattle.library.specs.declared.sizes.Sizes.{Sizes}
 use Rattle.rules.specs.PlaceRules.{inUse}
 use Rattle.rules.specs.WordRules.{readyWord, waitingWord, readyFits, wordAgrees, waitingFits, wordsFit}
-use Rattle.promises.specs.Together.Tests.{all-at, all-of}
 use Rattle.promises.specs.Together.Good.{GoodWords}
 
 module _ (k : Kernel) (z : Sizes) where

@@ -10,7 +10,7 @@ use Rattle.kernel.specs.declared.units.Ticks.{Ticks}
 use Rattle.kernel.specs.Time.{differed, inRange}
 use Rattle.kernel.specs.Units.{inTicks}
 use Rattle.kernel.specs.Walk.{bit, firstFrom, allFrom, countOf}
-use Rattle.kernel.specs.Words.{wordOf}
+use Rattle.kernel.specs.Words.{wordOf, firstOf}
 use Rattle.kernel.specs.Waiters.{firstReady, firstWaiter}
 use Rattle.kernel.specs.Moves.{takenOff, putOn, woken, slept, finished, blocked}
 use Rattle.kernel.specs.Queue.{enqueued, releasedFirst, releasedAll}
@@ -27,7 +27,7 @@ use Rattle.rules.specs.WordRules.{readyWord, waitingWord, readyFits, waitingFit
 use Rattle.rules.specs.ReferenceRules.{holderFits, referencesFit}
 use Rattle.rules.specs.MailboxRules.{positionsFit, mailboxesFit}
 use Rattle.rules.specs.PoolRules.{promisedCount, occurrences, entriesFit, objectsFit, poolFits, poolsFit}
-use Rattle.rules.specs.Hanging.{runningFree, hangsTogether}
+use Rattle.rules.specs.Hanging.{hangsTogether}
 use Rattle.steps.specs.declared.stepping.Outcome.{Outcome}
 use Rattle.steps.specs.Refusal.{refusalOf}
 use Rattle.steps.specs.Stepping.{maskOf, outcomeOf, doneWith, refusedWith, stepped}
@@ -108,7 +108,7 @@ told =
 
 -- the twelve facts
 pub twelve-facts : computed ≡ told
-unfolding firstFrom allFrom countOf wordOf firstReady firstWaiter takenOff putOn woken slept finished blocked enqueued releasedFirst releasedAll taken waited signalled ticked sizesFit made inTicks waitBegun effected actedOnKernel acted continued settled callFits waitFits ticksFit flagsFit rowFits rowsFit queuedCount countersFit readyWord waitingWord readyFits waitingFits wordsFit holderFits referencesFit positionsFit mailboxesFit promisedCount occurrences entriesFit objectsFit poolFits poolsFit runningFree hangsTogether refusalOf maskOf outcomeOf doneWith refusedWith stepped getN endsInside lengthRefusal stepRefusal decodedSizes decodedStep openedRead steppedRead nextRead readFrom readAll ran
+unfolding firstFrom allFrom countOf wordOf firstOf firstReady firstWaiter takenOff putOn woken slept finished blocked enqueued releasedFirst releasedAll taken waited signalled ticked sizesFit made inTicks waitBegun effected actedOnKernel acted continued settled callFits waitFits ticksFit flagsFit rowFits rowsFit queuedCount countersFit readyWord waitingWord readyFits waitingFits wordsFit holderFits referencesFit positionsFit mailboxesFit promisedCount occurrences entriesFit objectsFit poolFits poolsFit hangsTogether refusalOf maskOf outcomeOf doneWith refusedWith stepped getN endsInside lengthRefusal stepRefusal decodedSizes decodedStep openedRead steppedRead nextRead readFrom readAll ran
 twelve-facts = refl
 
 -- and the trace of the six steps is read to its end

@@ -1,48 +1,65 @@
--- In range the parts are what the callees ensure; past all threads the blank's waking changes nothing.
+-- In range: what was left is `takenOff`, by the four tests, and the parts are what the callees ensure. Past all threads a waking changes nothing.
 use Prim.Native.Nat.{_≤_}
 use native.Mathlib.Omega.{arith}
-use mathlib.Core.Path.{_≡_}
+use mathlib.Core.Path.{_≡_, sym}
+use mathlib.Core.Logic.{inl, inr}
 use lib.ListN.{length}
 use borrow.Author.Needs.{needs}
-use Rattle.kernel.proofs.Lengths.{length-mapped}
+use borrow.Author.Tests.{eq-eqb, ne-eqb}
+use Rattle.kernel.proofs.Lengths.{length-mapped, write-past}
 use Rattle.kernel.proofs.MovesLaws.{wake-past}
 use Rattle.kernel.proofs.Signed.{signed}
-use Rattle.kernel.proofs.TablesLaws.{thread-blank}
+use Rattle.kernel.specs.Numbers.{nobody}
+use Rattle.kernel.specs.Counters.{up}
+use Rattle.kernel.specs.Tables.{threadAt, counterAt}
 use Rattle.kernel.specs.Moves.{takenOff, woken}
 use Rattle.kernel.proofs.moves.wake.Statement.{statement}
 use Rattle.kernel.proofs.moves.wake.Tie as tie
 
+off : (c : tie.Joined2) →
+    let a = c .before .before .before .before .before .before .args in
+    c .if2 .r ≡ takenOff (a .k) (threadAt (a .k) (a .i) .state) (threadAt (a .k) (a .i) .place)
+unfolding takenOff
+off c =
+    let a = c .before .before .before .before .before .before .args in
+    let place = threadAt (a .k) (a .i) .place in
+    let counters : length (a .k .counters) ≡ 36 = search (needs, length-mapped) in
+    let references : length (a .k .references) ≡ 8 = search (needs, length-mapped) in
+    elim (c .if2 .came) [
+      | inl w ↦ rw (eq-eqb _ _ (w .0 .taken), w .4, signed (w .3 .ok), w .3 .ensures, signed (w .2 .given))
+      | inr (inl w) ↦ rw (
+        eq-eqb _ _ (w .0 .taken),
+        w .2,
+        ← write-past (a .k .counters) 36 place counters (w .1 .left) (up (counterAt (a .k) place)),
+      )
+      | inr (inr (inl w)) ↦ rw (ne-eqb _ _ (w .0 .left), eq-eqb _ _ (w .2 .taken)) (w .4)
+      | inr (inr (inr (inl w))) ↦ rw (
+        ne-eqb _ _ (w .0 .left),
+        eq-eqb _ _ (w .2 .taken),
+        w .4,
+        ← write-past (a .k .references) 8 place references (w .3 .left) nobody,
+      )
+      | inr (inr (inr (inr w))) ↦ rw (ne-eqb _ _ (w .0 .left), ne-eqb _ _ (w .2 .left)) (w .3)
+    ]
+
 returns : tie.Need-returns
 unfolding woken
 returns c =
-    let off = c .before .before in
-    let row = off .before .before .before in
-    rw (
-      c .ready-row .ensures,
-      off .take-off .ensures,
-      off .before .note-ready .ensures,
-      row .thread-at .ensures,
-      signed (row .before .fits .m .sfits),
-    )
+    let joined = c .before .before in
+    let start = joined .before .before .before .before .before .before in
+    rw (c .ready-row .ensures, c .before .note-ready .ensures, off joined, signed (start .fits .m .sfits))
 
 returns-2 : tie.Need-returns-2
-unfolding takenOff
 returns-2 c =
-    let off = c .before in
-    let row = off .before .before .before in
-    let a = row .before .args in
-    let threads : length (a .k .threads) ≡ 16 = length-mapped _ (a .k .threads) 16 (row .before .good .0 .1 .1 .1 .0 .1 .0 .1) in
-    let flags : length (a .k .woken) ≡ 16 = length-mapped _ (a .k .woken) 16 (row .before .good .0 .1 .1 .1 .1 .1 .1 .0 .1 .0 .1) in
+    let start = c .before in
+    let a = start .args in
+    let threads : length (a .k .threads) ≡ 16 = search (needs, length-mapped) in
+    let flags : length (a .k .woken) ≡ 16 = search (needs, length-mapped) in
     let past : 16 ≤ a .i = c .if1 .left in
-    rw (
-      off .take-off .ensures,
-      row .thread-at .ensures,
-      thread-blank (a .k) (a .i) (omega (arith, threads, past)),
-      wake-past (a .k) (a .i) (a .m) (omega (arith, threads, past)) (omega (arith, flags, past)) past,
-    )
+    sym (wake-past (a .k) (a .i) (a .m) (omega (arith, threads, past)) (omega (arith, flags, past)) past)
 
 pub wake-spec : {M : Type 1} → statement M
 wake-spec =
     tie.close
-    (tie.spec (λ c κs. tt) (λ c κs. tt) (λ c κs. tt) (λ c κs. tt) (λ c. search needs) (λ c. search needs) (λ c. search needs) returns
-    returns-2)
+    (tie.spec (λ c. search needs) (λ c. search needs) (λ c. search needs) (λ c. search needs) (λ c. search needs) (λ c κs. tt) (λ c. search needs) (λ c. search needs)
+    (λ c. search needs) (λ c κs. tt) (λ c κs. tt) (λ c. search needs) (λ c. search needs) (λ c. search needs) returns returns-2)

@@ -6,30 +6,28 @@ use mathlib.Core.Logic.{⊎-elim}
 use mathlib.Core.Path.{_≡_, refl, _∙_}
 use mir.Syntax.{w32}
 use mir.Val.{toZ}
-use Rattle.kernel.proofs.Loops.{used-le}
 use Rattle.kernel.proofs.Signed.{signed}
-use Rattle.kernel.specs.Queue.{releasedOne, releasedAll}
-use Rattle.kernel.specs.Tables.{usedRows}
+use Rattle.kernel.proofs.QueueLaws.{release-all-turns}
+use Rattle.kernel.specs.Queue.{releasedOne}
 use Rattle.kernel.specs.Walk.{each}
 use Rattle.kernel.proofs.queue.release_all.Statement.{statement}
 use Rattle.kernel.proofs.queue.release_all.Tie as tie
 
 abbrev Inv-loop : tie.InvT-loop
-Inv-loop n place m end r₀ i₀ r i = (i ≤ end) × (end ≤ 16) × (r ≡ each i (releasedOne place (toZ w32 m)) r₀)
+Inv-loop place m word r₀ i₀ r i = (i ≤ 16) × (r ≡ each i (releasedOne word (toZ w32 m)) r₀)
 
 abbrev μ-loop : tie.MeasureT-loop
-μ-loop n place m end r₀ i₀ r i = end - i
+μ-loop place m word r₀ i₀ r i = 16 - i
 
 loop-holds : tie.Need-loop-holds Inv-loop μ-loop
-loop-holds c = (omega arith, used-le _ (c .before .args .n) (c .used-rows .ensures), refl)
+loop-holds c = (omega arith, refl)
 
 loop-again : tie.Need-loop-again Inv-loop μ-loop
 loop-again c =
-    let turn = c .before .before .before in
-    let test = c .before .is-queued-at .ensures in (
+    let turn = c .before .before in
+    let test = c .before .has-bit .ensures in (
       omega arith,
-      omega arith,
-      rw (add-one, ← turn .before .loop .inv .2)
+      rw (add-one, ← turn .before .loop .inv .1)
           (⊎-elim
           (λ w. rw (← test, w .0 .taken) (w .2 ∙ w .1 .ensures))
           (λ w. rw (← test, w .0 .left) (w .1))
@@ -37,11 +35,11 @@ loop-again c =
     )
 
 returns : tie.Need-returns Inv-loop μ-loop
-unfolding releasedAll
 returns c =
-    let start = c .before .before .before in
-    let end : c .before .loop .i ≡ usedRows (start .args .n) = omega (arith, c .before .before .used-rows .ensures) in
-    rw (c .before .loop .inv .2, end, signed (start .fits .m .sfits))
+    let start = c .before .before .before .before in
+    c .before .loop .inv .1
+    ∙ release-all-turns (start .args .k) (start .args .place) (start .args .m) _ (c .before .loop .i) _ (c .before .before .waiting-at .ensures) (omega arith)
+    (signed (start .fits .m .sfits))
 
 pub release-all-spec : {M : Type 1} → statement M
-release-all-spec = tie.close (tie.spec Inv-loop μ-loop (λ c κs. tt) loop-holds (λ c. omega arith) (λ c. omega arith) (λ c. omega arith) (λ c κs. tt) (λ c κs. tt) (λ c. omega arith) (λ c. omega arith) loop-again returns)
+release-all-spec = tie.close (tie.spec Inv-loop μ-loop (λ c κs. tt) loop-holds (λ c κs. tt) (λ c κs. tt) (λ c. omega arith) (λ c. omega arith) loop-again returns)

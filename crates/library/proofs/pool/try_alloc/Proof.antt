@@ -11,7 +11,7 @@ returns c =
     let read = test .before in
     let same = signed {z = read .counter-at .result} (read .counter-at .ok) in
     rw (
-      ← read .before .pool-place .ensures,
+      ← read .before .before .pool-place .ensures,
       ← read .counter-at .ensures,
       rw same at (test .if1 .taken),
       c .hand-over .ensures,
@@ -26,7 +26,7 @@ returns-2 c =
     let read = test .before in
     let same = signed {z = read .counter-at .result} (read .counter-at .ok) in
     rw (
-      ← read .before .pool-place .ensures,
+      ← read .before .before .pool-place .ensures,
       ← read .counter-at .ensures,
       rw same at (test .if1 .left),
       c .set-kernel2 .ensures,

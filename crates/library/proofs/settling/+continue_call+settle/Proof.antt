@@ -2,12 +2,11 @@
 -- more than b - 1, twice. The measures are 2 b for `settle` and 2 b + 1 for `continue_call`. Each way out is a turn of the meaning.
 use Prim.Native.Nat.{ℕ, _<_, _+_, _*_}
 use native.Mathlib.Omega.{arith}
-use mathlib.Core.Path.{_∙_}
+use mathlib.Core.Path.{refl, _∙_}
 use borrow.Fn.Kinds.{In}
 use borrow.Fn.PlainCycle.{Measures, is, falls, and}
-use Rattle.kernel.proofs.tables.thread_at.Reads as thread-at
 use Rattle.kernel.proofs.waiters.first_ready.Reads as first-ready
-use Rattle.library.specs.Settling.{settled}
+use Rattle.kernel.proofs.waiters.running_free.Reads as running-free
 use Rattle.library.proofs.SettlingLaws.{settled-none, settled-quiet, settled-on, settled-halves}
 use Rattle.library.proofs.settling.go_on.Reads as go-on
 use Rattle.library.proofs.settling.continue_call.Reads as continue-call
@@ -36,16 +35,18 @@ abbrev for-continue-call : ℕ → continue-call-lts.Claims
 for-continue-call t = (
   go-on.Asked,
   go-on.Learnt,
+  running-free.Asked,
+  running-free.Learnt,
   and 0 settle-kinds.ps (falls 0 settle-kinds.ps _<_ μ-settle t) settle.Pre,
   settle.Post,
 )
 
 abbrev for-settle : ℕ → settle-lts.Claims
 for-settle t = (
+  running-free.Asked,
+  running-free.Learnt,
   first-ready.Asked,
   first-ready.Learnt,
-  thread-at.Asked,
-  thread-at.Learnt,
   and 0 continue-call-kinds.ps (falls 0 continue-call-kinds.ps _<_ μ-continue-call t) continue-call.Pre,
   continue-call.Post,
 )
@@ -62,33 +63,37 @@ module _ (t : ℕ) where
 
   continue-call-returns : continue-call-lts.Need-returns (for-continue-call t) (continue-call-at t) continue-call.Post
   continue-call-returns c =
+      let test = c .before in
+      settled-quiet _ _ _ _ (test .before .go-on .ensures) (test .running-free .ensures) (c .if1 .taken)
+
+  continue-call-returns-2 : continue-call-lts.Need-returns-2 (for-continue-call t) (continue-call-at t) continue-call.Post
+  continue-call-returns-2 c =
       let first = c .before in
       c .settle2 .ensures
-      ∙ settled-halves _ _ _ _ _ (omega arith) (first .before .go-on .ensures) (first .settle .ensures)
+      ∙ settled-halves _ _ _ _ _ (omega arith) (first .before .before .before .go-on .ensures) (first .settle .ensures)
 
   settle-returns : settle-lts.Need-returns (for-settle t) (settle-at t) settle.Post
   settle-returns c = settled-none _ _ (c .if1 .taken)
 
   settle-returns-2 : settle-lts.Need-returns-2 (for-settle t) (settle-at t) settle.Post
-  settle-returns-2 c =
-      let row = c .before .before in
-      settled-quiet _ _ _ (row .before .first-ready .ensures) (row .thread-at .ensures) _ (c .if2 .taken)
+  settle-returns-2 c = settled-quiet _ _ _ _ refl (c .before .running-free .ensures) (c .if2 .taken)
 
   settle-continue-call-requires : settle-lts.Need-continue-call-requires (for-settle t) (settle-at t) settle.Post
   settle-continue-call-requires c κs = (omega arith, tt)
 
   settle-returns-3 : settle-lts.Need-returns-3 (for-settle t) (settle-at t) settle.Post
   settle-returns-3 c =
-      let row = c .before .before .before in
-      let some = row .before .before .before .if1 .left in
+      let at = c .before in
+      let test = at .before .before in
       c .continue-call .ensures
-      ∙ settled-on _ _ _ (row .before .first-ready .ensures) (row .thread-at .ensures) _ (c .before .if2 .left) some
+      ∙ settled-on _ _ _ _ (test .running-free .ensures) (at .before .if2 .left) (at .first-ready .ensures) (test .before .if1 .left)
 
 pub +continue-call+settle-spec : {M : Type 1} → statement M
 +continue-call+settle-spec =
     close μ-continue-call μ-settle
     (λ t. continue-call-lts.spec (for-continue-call t) (continue-call-at t) continue-call.Post
-    (λ c κs. tt) (continue-call-settle-requires t) (continue-call-sub-settle t) (continue-call-settle-requires-2 t) (continue-call-returns t))
+    (λ c κs. tt) (λ c κs. tt) (continue-call-returns t) (continue-call-settle-requires t) (continue-call-sub-settle t)
+    (continue-call-settle-requires-2 t) (continue-call-returns-2 t))
     (λ t. settle-lts.spec (for-settle t) (settle-at t) settle.Post
-    (settle-returns t) (λ c κs. tt) (λ c κs. tt) (settle-returns-2 t)
+    (settle-returns t) (λ c κs. tt) (settle-returns-2 t) (λ c κs. tt)
     (λ c. omega arith) (settle-continue-call-requires t) (settle-returns-3 t))

@@ -9,12 +9,12 @@ use Rattle.library.proofs.tables.pool_at.Tie as tie
 returns : tie.Need-returns
 returns c =
     let a = c .before .before .args in
-    read-within (a .t1 .pools) 4 (a .i) _ blankPool (search (needs, length-mapped)) (c .before .if1 .taken)
+    read-within (a .t1) 4 (a .i) _ blankPool (search (needs, length-mapped)) (c .before .if1 .taken)
 
 returns-2 : tie.Need-returns-2
 returns-2 c =
     let a = c .before .before .args in
-    c .blank-pool .ensures ∙ read-past (a .t1 .pools) 4 (a .i) (search (needs, length-mapped)) (c .before .if1 .left) blankPool
+    c .blank-pool .ensures ∙ read-past (a .t1) 4 (a .i) (search (needs, length-mapped)) (c .before .if1 .left) blankPool
 
 pub pool-at-spec : {M : Type 1} → statement M
 pool-at-spec = tie.close (tie.spec (λ c. search needs) (λ c. search needs) (λ c κs. tt) returns returns-2)

@@ -6,7 +6,7 @@ use mathlib.Core.Bool.{Bool, not}
 use mathlib.Core.Path.{_≡_, sym, _∙_}
 use borrow.Author.Needs.{needs}
 use Rattle.kernel.proofs.Loops.{first-none, used-le}
-use Rattle.kernel.specs.Tables.{threadAt}
+use Rattle.kernel.specs.Tables.{rowIn}
 use Rattle.kernel.specs.Walk.{firstFrom}
 use Rattle.rules.proofs.HangingLaws.{finds-later, finds-here}
 use Rattle.rules.specs.Limits.{firstBad}
@@ -15,13 +15,13 @@ use Rattle.rules.proofs.finding.first_bad_row.Statement.{statement}
 use Rattle.rules.proofs.finding.first_bad_row.Tie as tie
 
 abbrev Inv-loop : tie.InvT-loop
-Inv-loop z rule k end i₀ i =
+Inv-loop z rule threads end i₀ i =
     (i ≤ end)
     × (end ≤ 16)
-    × (firstBad (λ j. rowKeeps z rule (threadAt k j)) end ≡ firstFrom (λ j. not (rowKeeps z rule (threadAt k j))) i (end - i))
+    × (firstBad (λ j. rowKeeps z rule (rowIn threads j)) end ≡ firstFrom (λ j. not (rowKeeps z rule (rowIn threads j))) i (end - i))
 
 abbrev μ-loop : tie.MeasureT-loop
-μ-loop z rule k end i₀ i = end - i
+μ-loop z rule threads end i₀ i = end - i
 
 loop-holds : tie.Need-loop-holds Inv-loop μ-loop
 loop-holds c = (omega arith, used-le _ (c .before .args .z .threads) (c .used-rows .ensures), rw sub-zero)
@@ -30,7 +30,7 @@ returns : tie.Need-returns Inv-loop μ-loop
 returns c =
     let turn = c .before .before .before in
     let start = turn .before .before .before in
-    let tests : ℕ → Bool = λ j. rowKeeps (start .args .z) (start .args .rule) (threadAt (start .args .t1) j) in
+    let tests : ℕ → Bool = λ j. rowKeeps (start .args .z) (start .args .rule) (rowIn (start .args .t1) j) in
     rw (← turn .before .before .used-rows .ensures)
     (sym (turn .before .loop .inv .2 ∙ finds-here tests _ _ _ (turn .loop-test .taken) (c .before .keeps-rule .ensures) (c .if1 .taken)))
 
@@ -38,7 +38,7 @@ loop-again : tie.Need-loop-again Inv-loop μ-loop
 loop-again c =
     let turn = c .before .before .before in
     let start = turn .before .before .before in
-    let tests : ℕ → Bool = λ j. rowKeeps (start .args .z) (start .args .rule) (threadAt (start .args .t1) j) in (
+    let tests : ℕ → Bool = λ j. rowKeeps (start .args .z) (start .args .rule) (rowIn (start .args .t1) j) in (
       omega arith,
       omega arith,
       turn .before .loop .inv .2 ∙ finds-later tests _ _ _ (turn .loop-test .taken) (c .before .keeps-rule .ensures) (c .if1 .left),

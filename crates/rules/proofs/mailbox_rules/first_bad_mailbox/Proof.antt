@@ -18,19 +18,19 @@ use Rattle.rules.proofs.mailbox_rules.first_bad_mailbox.Statement.{stat
 use Rattle.rules.proofs.mailbox_rules.first_bad_mailbox.Tie as tie
 
 abbrev Inv-loop : tie.InvT-loop
-Inv-loop p z end m₀ m =
+Inv-loop z mailboxes end m₀ m =
     (m ≤ end)
     × (end ≤ 4)
-    × (length (p .mailboxes) ≡ 4)
-    × (firstBad (mailboxFits p) end ≡ firstFrom (λ j. not (mailboxFits p j)) m (end - m))
+    × (length mailboxes ≡ 4)
+    × (firstBad (mailboxFits mailboxes z) end ≡ firstFrom (λ j. not (mailboxFits mailboxes z j)) m (end - m))
 
 abbrev μ-loop : tie.MeasureT-loop
-μ-loop p z end m₀ m = end - m
+μ-loop z mailboxes end m₀ m = end - m
 
 loop-holds : tie.Need-loop-holds Inv-loop μ-loop
 loop-holds c = (
   omega arith,
-  used-of-le _ 4 (c .before .before .args .t1 .sizes .mailboxes) (c .used-of .ensures),
+  used-of-le _ 4 (c .before .args .z .mailboxes) (c .used-of .ensures),
   search (needs, length-mapped),
   rw sub-zero,
 )
@@ -38,13 +38,14 @@ loop-holds c = (
 -- the callee's test is the meaning's
 tested : (c : tie.After-positions-fit Inv-loop μ-loop) →
     c .positions-fit .result
-    ≡ mailboxFits (c .before .before .before .before .before .before .before .args .t1) (c .before .before .before .before .loop .m)
+    ≡ mailboxFits (c .before .before .before .before .before .before .args .t1) (c .before .before .before .before .before .before .args .z)
+    (c .before .before .before .before .loop .m)
 tested c =
     let turn = c .before .before .before in
-    let p = turn .before .before .before .before .args .t1 in
+    let mailboxes = turn .before .before .before .args .t1 in
     let slots = c .before .slots-at in
     let row =
-    read-within (p .mailboxes) 4 (turn .before .loop .m) _ blankMailbox (turn .before .loop .inv .2) (omega arith) in
+    read-within mailboxes 4 (turn .before .loop .m) _ blankMailbox (turn .before .loop .inv .2) (omega arith) in
     rw (slots .ensures)
     at (c .positions-fit .ensures ∙ ap (λ (b : Mailbox). positionsFit (b .positions) (slots .result)) row)
 
@@ -54,14 +55,14 @@ loop-again c =
       omega arith,
       omega arith,
       turn .before .loop .inv .2,
-      turn .before .loop .inv .3 ∙ finds-later (mailboxFits (turn .before .before .before .before .args .t1)) _ _ _ (turn .loop-test .taken) (tested (c .before)) (c .if1 .left),
+      turn .before .loop .inv .3 ∙ finds-later (mailboxFits (turn .before .before .before .args .t1) (turn .before .before .before .args .z)) _ _ _ (turn .loop-test .taken) (tested (c .before)) (c .if1 .left),
     )
 
 returns : tie.Need-returns Inv-loop μ-loop
 returns c =
     let turn = c .before .before .before .before in
     rw (← turn .before .before .used-of .ensures)
-    (sym (turn .before .loop .inv .3 ∙ finds-here (mailboxFits (turn .before .before .before .before .args .t1)) _ _ _ (turn .loop-test .taken) (tested (c .before)) (c .if1 .taken)))
+    (sym (turn .before .loop .inv .3 ∙ finds-here (mailboxFits (turn .before .before .before .args .t1) (turn .before .before .before .args .z)) _ _ _ (turn .loop-test .taken) (tested (c .before)) (c .if1 .taken)))
 
 returns-2 : tie.Need-returns-2 Inv-loop μ-loop
 returns-2 c =
