@@ -3,12 +3,13 @@
  * archive beside the second program's, on the same steps in one process, for
  * 1, 4 and 16 threads; and of the archive the slowest single step. Both sides
  * test at each step whether the tables hang together. Every answer is compared
- * once before anything is timed.
+ * once before anything is timed. Then a pipe's transfers, STEPS a round.
  *
  * The clock counts this process's own work, and of several rounds the
  * shortest counts, of a single step too: so other work on the machine shows as
  * little as can be.
  */
+#include "bench.h"
 #include "bridge.h"
 #include "director.h"
 
@@ -153,7 +154,7 @@ static void expect_same_answers(const struct sizes *z)
     }
 }
 
-static double seconds(void)
+double seconds(void)
 {
     struct timespec s;
 
@@ -249,5 +250,6 @@ int main(int argc, char **argv)
     for (size_t k = 0; k < sizeof LOADS / sizeof LOADS[0]; k++) {
         measure(&LOADS[k], seed, (uint32_t)rounds);
     }
+    bench_pipes(number, (uint32_t)rounds);
     return fflush(stdout) == 0 ? 0 : 1;
 }

@@ -5,14 +5,16 @@
  * TABLES damaged tables, of which both say which rule is broken first; and for
  * each of these the nine functions of time. A damage that is an event wait has
  * further steps, until the wait has gone on. At each step the archive also says
- * for a screen who is ready and who waits where. It stops at the first answer
- * or byte that differs.
+ * for a screen who is ready and who waits where. Then STEPS calls on byte pipes
+ * that live, and one on each of TABLES pipes from outside. It stops at the
+ * first answer or byte that differs.
  *
- * Seeds count up from SEED: one for each trace, and then one for each plant
- * whose tables are damaged.
+ * Seeds count up from SEED: one for each trace, then one for each plant whose
+ * tables are damaged, and then those of the pipes.
  */
 #include "director.h"
 #include "odd.h"
+#include "piping.h"
 #include "scenario.h"
 #include "spoil.h"
 #include "times.h"
@@ -22,7 +24,7 @@
 #include <stdlib.h>
 #include <string.h>
 
-enum { PLANT_STEPS = 60, DAMAGES = 4 };
+enum { PLANT_STEPS = 60, DAMAGES = 4, MANY = 20000 };
 
 /* How often each code was answered. */
 static uint64_t read_codes[CODES];
@@ -234,6 +236,47 @@ static void print_waits(void)
            (unsigned long long)event_waits.kept);
 }
 
+/* What came of each kind of call. */
+static void print_pipe_calls(void)
+{
+    static const char *const kinds[PIPE_KINDS] = { "write", "read", "reset",
+                                                   "resume" };
+    static const char *const outcomes[PIPE_OUTCOMES] = {
+        "done", "wrapped", "none", "-2", "5", "6"
+    };
+
+    printf("  %-22s", "pipe calls");
+    for (uint32_t k = 0; k < PIPE_OUTCOMES; k++) {
+        printf(" %7s", outcomes[k]);
+    }
+    for (uint32_t kind = 0; kind < PIPE_KINDS; kind++) {
+        printf("\n  %-22s", kinds[kind]);
+        for (uint32_t k = 0; k < PIPE_OUTCOMES; k++) {
+            printf(" %7llu", (unsigned long long)pipe_calls[kind][k]);
+        }
+    }
+    printf("\n");
+}
+
+static void report(void)
+{
+    print_heading();
+    print_codes("random steps", step_codes);
+    report_tables();
+    for (uint32_t way = 0; way < PIPE_WAYS; way++) {
+        print_codes(pipe_way_name(way), pipe_codes[way]);
+    }
+    print_pipe_calls();
+    print_met("traces read", "code", read_codes, CODES);
+    print_met("fresh tables asked for", "code", fresh_codes, CODES);
+    print_met("fresh pipes asked for", "code", pipe_fresh_codes, CODES);
+    print_met("broken first", "rule", broken_rules, RULES);
+    print_waits();
+    printf("  conversions: %llu made, %llu refused\n",
+           (unsigned long long)conversions[0],
+           (unsigned long long)conversions[1]);
+}
+
 static bool read_number(const char *text, uint64_t *number)
 {
     char *end;
@@ -245,7 +288,7 @@ static bool read_number(const char *text, uint64_t *number)
 int main(int argc, char **argv)
 {
     uint64_t given[] = { 100000, 100000, 1 };
-    uint64_t middle, last;
+    uint64_t plants, pipes, odd, end;
 
     for (int k = 1; k < argc; k++) {
         if (k > 3 || !read_number(argv[k], &given[k - 1])) {
@@ -253,20 +296,19 @@ int main(int argc, char **argv)
             return 2;
         }
     }
-    middle = run_traces(given[2], given[0]);
-    last = run_plants(middle, given[1]);
-    printf("compare: seeds %llu to %llu, traces before %llu; all answers and "
+    plants = run_traces(given[2], given[0]);
+    pipes = run_plants(plants, given[1]);
+    odd = run_pipes(pipes, given[0]);
+    end = run_odd_pipes(odd, given[1]);
+    /* a short run need not meet all */
+    if (given[0] >= MANY && given[1] >= MANY) {
+        expect_pipes_met((struct where){ end - 1, 0 });
+    }
+    printf("compare: seeds %llu to %llu: traces, from %llu on plants, from "
+           "%llu on pipes, from %llu on pipes from outside; all answers and "
            "bytes equal\n", (unsigned long long)given[2],
-           (unsigned long long)last - 1, (unsigned long long)middle);
-    print_heading();
-    print_codes("random steps", step_codes);
-    report_tables();
-    print_met("traces read", "code", read_codes, CODES);
-    print_met("fresh tables asked for", "code", fresh_codes, CODES);
-    print_met("broken first", "rule", broken_rules, RULES);
-    print_waits();
-    printf("  conversions: %llu made, %llu refused\n",
-           (unsigned long long)conversions[0],
-           (unsigned long long)conversions[1]);
+           (unsigned long long)end - 1, (unsigned long long)plants,
+           (unsigned long long)pipes, (unsigned long long)odd);
+    report();
     return fflush(stdout) == 0 ? 0 : 1;
 }

@@ -41,6 +41,10 @@ enum {
     NIL_OBJECTS = 32 /* of one pool, numbered 0 to 31 */
 };
 
+/* Byte pipes, which stand beside the tables: how many, and the bytes of a
+   buffer, 1 at least. */
+enum { NIL_PIPES = 4, NIL_PIPE_BYTES = 256 };
+
 /* No thread: idle as the running one, an interrupt as the caller, nobody in an
    empty reference. */
 enum { NIL_IDLE = 255, NIL_INTERRUPT = 255, NIL_NOBODY = 255 };
@@ -135,8 +139,10 @@ enum {
     NIL_BAD_KIND = 2,
     NIL_BAD_CALLER = 3,  /* neither an interrupt nor the running thread */
     NIL_BAD_CONTEXT = 4, /* not this kind by a thread, or by an interrupt */
-    NIL_BAD_OBJECT = 5,  /* not in the configuration */
-    NIL_BAD_VALUE = 6,   /* `a`, the timeout or a frequency out of range */
+    NIL_BAD_OBJECT = 5,  /* not in the configuration; a pipe's buffer of a
+                            length out of range */
+    NIL_BAD_VALUE = 6,   /* `a`, the timeout or a frequency out of range; a
+                            pipe that does not fit its buffer */
     NIL_BAD_MOMENT = 7,  /* the object is not in the state that is needed */
     NIL_BAD_VERSION = 11, /* an empty trace, or one of another version */
     NIL_CUT_SHORT = 12,   /* a trace that ends inside a record */
@@ -257,6 +263,20 @@ typedef struct nil_clock {
     uint32_t frequency; /* ticks a second */
 } nil_clock;
 
+/* Where the bytes of a pipe stand in its buffer, which the host keeps beside
+   it and lends anew at each call, always with the same length. */
+typedef struct nil_pipe {
+    uint16_t read;  /* the place of the first byte in it */
+    uint16_t write; /* the place that is written next */
+    uint16_t count; /* the bytes in it */
+    uint16_t reset; /* any value but 0 is the reset state */
+} nil_pipe;
+
+typedef struct nil_pipes {
+    nil_pipe pipes[NIL_PIPES];
+    uint16_t number; /* how many of them there are, 0 to 4 */
+} nil_pipes;
+
 /* ---- what goes in and comes out --------------------------------------- */
 
 /* One call of a thread or an interrupt, or one tick. */
@@ -366,6 +386,32 @@ uint8_t nil_i2s(uint32_t ticks, uint32_t frequency, uint64_t *seconds);
 uint8_t nil_i2ms(uint32_t ticks, uint32_t frequency, uint64_t *milliseconds);
 uint8_t nil_i2us(uint32_t ticks, uint32_t frequency, uint64_t *microseconds);
 
+/* Sets up so many empty pipes, and returns 0; or NIL_BAD_SIZE for a number
+   above NIL_PIPES, with nothing written. */
+uint8_t nil_pipe_fresh(nil_pipes *pipes, uint32_t number);
+
+/* Puts bytes into a pipe, as many as there is room for, or takes some out, as
+   many as there are, at once and without waking anybody; the number goes to
+   `moved`, NIL_RESET in reset state, where nothing else happens. What passes
+   the buffer's end goes on at its start, and no other byte changes. `length` is
+   that of the pipe's buffer; what is offered, and the target, may be shorter,
+   longer or empty.
+   Each returns 0; or NIL_BAD_OBJECT for a pipe that is not there, then for a
+   buffer's length outside 1 to NIL_PIPE_BYTES, then NIL_BAD_VALUE for a pipe
+   whose places or count do not fit that length, with 0 moved and no byte of
+   pipes, buffer or target changed. */
+uint8_t nil_pipe_write(nil_pipes *pipes, uint32_t pipe, uint8_t *buffer,
+                       size_t length, const uint8_t *offered,
+                       size_t offered_length, int32_t *moved);
+uint8_t nil_pipe_read(nil_pipes *pipes, uint32_t pipe, const uint8_t *buffer,
+                      size_t length, uint8_t *target, size_t target_length,
+                      int32_t *moved);
+
+/* Empties a pipe and sets its reset state; ends the reset state, and leaves all
+   else. Both refuse as a transfer does, with nothing changed. */
+uint8_t nil_pipe_reset(nil_pipes *pipes, uint32_t pipe, size_t length);
+uint8_t nil_pipe_resume(nil_pipes *pipes, uint32_t pipe, size_t length);
+
 /* The timeout here for a timeout of compiled firmware: its TIME_INFINITE (0)
    and TIME_IMMEDIATE (4294967295) change places, all others stay. */
 static inline uint32_t nil_timeout(uint32_t firmware)
@@ -443,6 +489,16 @@ NIL_AT(nil_tables, sizes, 1420);
 NIL_HOLDS(sizeof(nil_clock) == 8);
 NIL_AT(nil_clock, time, 0);
 NIL_AT(nil_clock, frequency, 4);
+
+NIL_HOLDS(sizeof(nil_pipe) == 8);
+NIL_AT(nil_pipe, read, 0);
+NIL_AT(nil_pipe, write, 2);
+NIL_AT(nil_pipe, count, 4);
+NIL_AT(nil_pipe, reset, 6);
+
+NIL_HOLDS(sizeof(nil_pipes) == 34);
+NIL_AT(nil_pipes, pipes, 0);
+NIL_AT(nil_pipes, number, 32);
 
 NIL_HOLDS(sizeof(nil_request) == 12);
 NIL_AT(nil_request, kind, 0);

@@ -19,6 +19,10 @@ pub const OBJECTS: usize = 32;
 /// Where threads queue: semaphores 0, pools 16, queues 20, mailboxes' writers 28, their readers 32.
 pub const PLACES: usize = 36;
 
+/// Byte pipes, which stand beside the tables: how many, and the bytes of a buffer, 1 at least.
+pub const PIPES: usize = 4;
+pub const PIPE_BYTES: usize = 256;
+
 /// The number of this file's layout, as `NIL_LAYOUT` of the header: it rises with every change of a struct.
 pub const LAYOUT: u32 = 2;
 
@@ -189,6 +193,35 @@ pub struct Clock {
     pub frequency: u32,
 }
 
+/// Where the bytes of a pipe stand in its buffer, which the host keeps beside it and lends anew at each call, always with the
+/// same length: the place of the first byte in it, the place that is written next, and how many are in it. Any value of `reset`
+/// but 0 is the reset state.
+#[repr(C)]
+#[derive(Clone, Copy, Debug, Default, PartialEq, Eq)]
+pub struct Pipe {
+    pub read: u16,
+    pub write: u16,
+    pub count: u16,
+    pub reset: u16,
+}
+
+/// `number` is how many of them there are, 0 to 4.
+#[repr(C)]
+#[derive(Clone, Copy, Debug, Default, PartialEq, Eq)]
+pub struct Pipes {
+    pub pipes: [Pipe; PIPES],
+    pub number: u16,
+}
+
+/// What became of a write to a pipe, or of a read.
+#[derive(Clone, Copy, Debug, PartialEq, Eq)]
+pub enum Transfer {
+    /// The number of bytes.
+    Moved(usize),
+    /// The pipe is in reset state, and nothing was moved.
+    Reset,
+}
+
 /// One call of a thread or an interrupt, or one tick. `unused` may have any value.
 #[repr(C)]
 #[derive(Clone, Copy, Debug, Default, PartialEq, Eq)]
@@ -285,6 +318,27 @@ declare! {
     fn nil_i2s(ticks: u32, frequency: u32, seconds: *mut u64) -> u8;
     fn nil_i2ms(ticks: u32, frequency: u32, milliseconds: *mut u64) -> u8;
     fn nil_i2us(ticks: u32, frequency: u32, microseconds: *mut u64) -> u8;
+    fn nil_pipe_fresh(pipes: *mut Pipes, number: u32) -> u8;
+    fn nil_pipe_write(
+        pipes: *mut Pipes,
+        pipe: u32,
+        buffer: *mut u8,
+        length: usize,
+        offered: *const u8,
+        offered_length: usize,
+        moved: *mut i32,
+    ) -> u8;
+    fn nil_pipe_read(
+        pipes: *mut Pipes,
+        pipe: u32,
+        buffer: *const u8,
+        length: usize,
+        target: *mut u8,
+        target_length: usize,
+        moved: *mut i32,
+    ) -> u8;
+    fn nil_pipe_reset(pipes: *mut Pipes, pipe: u32, length: usize) -> u8;
+    fn nil_pipe_resume(pipes: *mut Pipes, pipe: u32, length: usize) -> u8;
 }
 
 impl Tables {
@@ -479,6 +533,85 @@ pub fn i2us(ticks: u32, frequency: u32) -> Result<u64, u8> {
     accepted(code, microseconds)
 }
 
+fn transferred(code: u8, moved: i32) -> Result<Transfer, u8> {
+    let transfer = if moved == RESET {
+        Transfer::Reset
+    } else {
+        Transfer::Moved(moved as usize)
+    };
+    accepted(code, transfer)
+}
+
+/// Sets up so many empty pipes; or refuses with 14 for more than 4, and writes nothing.
+pub fn pipe_fresh(pipes: &mut Pipes, number: u32) -> Result<(), u8> {
+    // SAFETY: the reference is valid and aligned.
+    let code = unsafe { nil_pipe_fresh(pipes, number) };
+    accepted(code, ())
+}
+
+/// Puts bytes into a pipe, as many as its buffer has room for; what passes the buffer's end goes on at its start, and no other
+/// byte changes. Nobody is woken. It refuses with 5 for a pipe that is not there, then for a buffer whose length is not 1 to
+/// 256, then with 6 for a pipe whose places or count do not fit that length; then no byte of pipes and buffer changes.
+pub fn pipe_write(
+    pipes: &mut Pipes,
+    pipe: u32,
+    buffer: &mut [u8],
+    offered: &[u8],
+) -> Result<Transfer, u8> {
+    let mut moved = 0;
+    // SAFETY: as in `read`; slices that may be changed overlap nothing else, and `moved` is a local of its own.
+    let code = unsafe {
+        nil_pipe_write(
+            pipes,
+            pipe,
+            buffer.as_mut_ptr(),
+            buffer.len(),
+            offered.as_ptr(),
+            offered.len(),
+            &mut moved,
+        )
+    };
+    transferred(code, moved)
+}
+
+/// Takes bytes out of a pipe, as many as the target holds and there are; they stand at the target's start. It refuses as
+/// [`pipe_write`] does; then no byte of pipes and target changes.
+pub fn pipe_read(
+    pipes: &mut Pipes,
+    pipe: u32,
+    buffer: &[u8],
+    target: &mut [u8],
+) -> Result<Transfer, u8> {
+    let mut moved = 0;
+    // SAFETY: as in `pipe_write`.
+    let code = unsafe {
+        nil_pipe_read(
+            pipes,
+            pipe,
+            buffer.as_ptr(),
+            buffer.len(),
+            target.as_mut_ptr(),
+            target.len(),
+            &mut moved,
+        )
+    };
+    transferred(code, moved)
+}
+
+/// Empties a pipe and sets its reset state. `length` is that of its buffer; it refuses as a transfer does.
+pub fn pipe_reset(pipes: &mut Pipes, pipe: u32, length: usize) -> Result<(), u8> {
+    // SAFETY: as in `pipe_fresh`.
+    let code = unsafe { nil_pipe_reset(pipes, pipe, length) };
+    accepted(code, ())
+}
+
+/// Ends the reset state of a pipe, and leaves all else. It refuses as [`pipe_reset`] does.
+pub fn pipe_resume(pipes: &mut Pipes, pipe: u32, length: usize) -> Result<(), u8> {
+    // SAFETY: as in `pipe_fresh`.
+    let code = unsafe { nil_pipe_resume(pipes, pipe, length) };
+    accepted(code, ())
+}
+
 /// Reads the record at a place of a trace: the sizes at place 0, a step or the end elsewhere.
 pub fn read(trace: &[u8], at: usize) -> Read {
     let mut raw = RawRead::default();
@@ -577,6 +710,12 @@ mod layout {
         pools: 6,
         slots: [7, 8, 9, 10],
     };
+    const PIPE: Pipe = Pipe {
+        read: 1,
+        write: 2,
+        count: 3,
+        reset: 4,
+    };
     const REQUEST: Request = Request {
         kind: 1,
         caller: 2,
@@ -648,6 +787,15 @@ mod layout {
             })
         };
         assert!(b[0] == 1 && b[4] == 2);
+        let b: [u8; 8] = unsafe { transmute(PIPE) };
+        assert!(b[0] == 1 && b[2] == 2 && b[4] == 3 && b[6] == 4);
+        let b: [u8; 34] = unsafe {
+            transmute(Pipes {
+                pipes: [PIPE; PIPES],
+                number: 5,
+            })
+        };
+        assert!(b[0] == 1 && b[8] == 1 && b[30] == 4 && b[32] == 5);
         let b: [u8; 12] = unsafe { transmute(REQUEST) };
         assert!(b[0] == 1 && b[1] == 2 && b[2] == 3 && b[3] == 4 && b[4] == 5 && b[8] == 6);
         let b: [u8; 16] = unsafe {

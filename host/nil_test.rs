@@ -8,7 +8,7 @@
 mod nil;
 
 use nil::kind::{SEMAPHORE_WAIT, SIGNAL, TICK};
-use nil::{Clock, Found, Outcome, Request, Sizes, Tables, NOBODY};
+use nil::{Clock, Found, Outcome, Pipe, Pipes, Request, Sizes, Tables, Transfer, NOBODY};
 
 const SIZES: Sizes = Sizes {
     threads: 2,
@@ -238,6 +238,84 @@ fn tells_the_time() {
     );
 }
 
+fn pipes(number: u32) -> Pipes {
+    let mut pipes = Pipes::default();
+    nil::pipe_fresh(&mut pipes, number).unwrap();
+    pipes
+}
+
+/// Seven bytes go through a buffer of five, across its end.
+fn pipes_bytes() {
+    let (mut pipes, mut buffer, mut target) = (pipes(2), *b".....", *b"-------");
+    let wrote = nil::pipe_write(&mut pipes, 1, &mut buffer, b"abc");
+    assert_eq!(wrote, Ok(Transfer::Moved(3)));
+    let read = nil::pipe_read(&mut pipes, 1, &buffer, &mut target[..2]);
+    assert_eq!(read, Ok(Transfer::Moved(2)));
+    let wrote = nil::pipe_write(&mut pipes, 1, &mut buffer, b"defgh");
+    assert_eq!((wrote, &buffer), (Ok(Transfer::Moved(4)), b"fgcde"));
+    let full = Pipe {
+        read: 2,
+        write: 2,
+        count: 5,
+        reset: 0,
+    };
+    assert_eq!((pipes.pipes[0], pipes.pipes[1]), (Pipe::default(), full));
+    let read = nil::pipe_read(&mut pipes, 1, &buffer, &mut target[2..]);
+    assert_eq!((read, &target), (Ok(Transfer::Moved(5)), b"abcdefg"));
+    let nothing = nil::pipe_read(&mut pipes, 1, &buffer, &mut []);
+    assert_eq!(nothing, Ok(Transfer::Moved(0)));
+    let nothing = nil::pipe_write(&mut pipes, 0, &mut buffer, &[]);
+    assert_eq!(nothing, Ok(Transfer::Moved(0)));
+}
+
+fn resets_and_resumes_pipes() {
+    let (mut pipes, mut buffer, mut target) = (pipes(1), *b"....", *b"--");
+    nil::pipe_write(&mut pipes, 0, &mut buffer, b"abc").unwrap();
+    assert_eq!(nil::pipe_reset(&mut pipes, 0, 4), Ok(()));
+    let wrote = nil::pipe_write(&mut pipes, 0, &mut buffer, b"x");
+    let read = nil::pipe_read(&mut pipes, 0, &buffer, &mut target);
+    assert_eq!(
+        (wrote, read, &buffer, &target),
+        (Ok(Transfer::Reset), Ok(Transfer::Reset), b"abc.", b"--")
+    );
+    assert_eq!(nil::pipe_resume(&mut pipes, 0, 4), Ok(()));
+    let wrote = nil::pipe_write(&mut pipes, 0, &mut buffer, b"x");
+    assert_eq!((wrote, &buffer), (Ok(Transfer::Moved(1)), b"xbc."));
+}
+
+/// Each of the four calls, with the same number; every byte stays.
+fn refuses_pipe(mut pipes: Pipes, pipe: u32, length: usize, code: u8) {
+    let (before, mut buffer, mut target) = (pipes, vec![7; length], [7; 3]);
+    let wrote = nil::pipe_write(&mut pipes, pipe, &mut buffer, b"abc");
+    let read = nil::pipe_read(&mut pipes, pipe, &buffer, &mut target);
+    assert_eq!((wrote, read), (Err(code), Err(code)));
+    let reset = nil::pipe_reset(&mut pipes, pipe, length);
+    let resumed = nil::pipe_resume(&mut pipes, pipe, length);
+    assert_eq!((reset, resumed), (Err(code), Err(code)));
+    assert_eq!(
+        (pipes, buffer, target),
+        (before, vec![7; length], [7; 3]),
+        "refused with {}",
+        code
+    );
+}
+
+fn refuses_pipes() {
+    let (object, value) = (nil::code::BAD_OBJECT, nil::code::BAD_VALUE);
+    let mut table = pipes(4);
+    assert_eq!(nil::pipe_fresh(&mut table, 5), Err(nil::code::BAD_SIZE));
+    assert_eq!(table, pipes(4));
+    refuses_pipe(table, 4, 8, object);
+    refuses_pipe(table, 0, 0, object);
+    refuses_pipe(table, 0, nil::PIPE_BYTES + 1, object);
+    table.pipes[0].count = 8;
+    refuses_pipe(table, 0, 7, value);
+    table.pipes[0].reset = 1;
+    refuses_pipe(table, 0, 7, value);
+    table.number = 5;
+    refuses_pipe(table, 0, 8, object);
+}
+
 #[no_mangle]
 pub extern "C" fn main() -> i32 {
     plays_the_six_steps();
@@ -248,6 +326,9 @@ pub extern "C" fn main() -> i32 {
     shows_who_is_ready_and_who_waits();
     refuses_wrong_words();
     tells_the_time();
+    pipes_bytes();
+    resets_and_resumes_pipes();
+    refuses_pipes();
     println!("nil_test: the wrapper does as the paper lists");
     0
 }

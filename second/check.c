@@ -106,6 +106,7 @@ int main(void)
     check_tables();
     check_words();
     check_traces();
+    check_pipes();
     printf("check: %u tests, %u failed\n", tests, failures);
     return failures == 0 && fflush(stdout) == 0 ? 0 : 1;
 }

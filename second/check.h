@@ -54,5 +54,6 @@ void check_refusals(void);
 void check_tables(void);
 void check_words(void);
 void check_traces(void);
+void check_pipes(void);
 
 #endif

@@ -2,6 +2,9 @@
 pub mod Told
 pub mod Fields
 pub mod Asked
+pub mod Replaced
+pub mod Renewed
+pub mod Carried
 pub mod RequestLaws
 pub mod SetupLaws
 pub mod BrokenLaws

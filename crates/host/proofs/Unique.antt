@@ -45,6 +45,11 @@ use Rattle.host.proofs.setup.nil_fresh as setup-nil-fresh
 use Rattle.host.proofs.reads.nil_read as reads-nil-read
 use Rattle.host.proofs.writes.nil_write_sizes as writes-nil-write-sizes
 use Rattle.host.proofs.writes.nil_write_step as writes-nil-write-step
+use Rattle.host.proofs.piping.nil_pipe_fresh as piping-nil-pipe-fresh
+use Rattle.host.proofs.piping.nil_pipe_reset as piping-nil-pipe-reset
+use Rattle.host.proofs.piping.nil_pipe_resume as piping-nil-pipe-resume
+use Rattle.host.proofs.piping.nil_pipe_write as piping-nil-pipe-write
+use Rattle.host.proofs.piping.nil_pipe_read as piping-nil-pipe-read
 
 pub request-step-of-one : Fixes 0 request-step-of-kinds.ps request-step-of-kinds.r request-step-of.Post
 request-step-of-one κs a e x y = coincide
@@ -170,3 +175,43 @@ module _ {M : Type 1} (𝓤 : URA M) (H : Heap 𝓤) (A : Atoms 𝓤) (at-mem : 
     -- the word
     pub screen-nil-waiting-one : ent 𝓤 (sep 𝓤 (nil-waiting-gives x e) (nil-waiting-gives y f)) (fact 𝓤 (x ≡ y))
     screen-nil-waiting-one = coincide-lent 𝓤 coincide
+
+  module _ (κs : Lfts 1) (a : Args piping-nil-pipe-fresh.signature κs) (x y : Res piping-nil-pipe-fresh.signature κs) (e f : AtExit piping-nil-pipe-fresh.ended κs) where
+    abbrev nil-pipe-fresh-gives : Res piping-nil-pipe-fresh.signature κs → AtExit piping-nil-pipe-fresh.ended κs → SProp 𝓤
+    nil-pipe-fresh-gives = piping-nil-pipe-fresh.clauses 𝓤 H A at-mem run κs a .ensures tt
+
+    -- the code, and what the lent table holds in the end
+    pub piping-nil-pipe-fresh-one : ent 𝓤 (sep 𝓤 (nil-pipe-fresh-gives x e) (nil-pipe-fresh-gives y f)) (fact 𝓤 ((x ≡ y) × (now (e .0) ≡ now (f .0))))
+    piping-nil-pipe-fresh-one = coincide-lent 𝓤 (λ p q. (coincide (p .0) (q .0), coincide (p .1) (q .1)))
+
+  module _ (κs : Lfts 1) (a : Args piping-nil-pipe-reset.signature κs) (x y : Res piping-nil-pipe-reset.signature κs) (e f : AtExit piping-nil-pipe-reset.ended κs) where
+    abbrev nil-pipe-reset-gives : Res piping-nil-pipe-reset.signature κs → AtExit piping-nil-pipe-reset.ended κs → SProp 𝓤
+    nil-pipe-reset-gives = piping-nil-pipe-reset.clauses 𝓤 H A at-mem run κs a .ensures tt
+
+    -- the code, and what the lent table holds in the end
+    pub piping-nil-pipe-reset-one : ent 𝓤 (sep 𝓤 (nil-pipe-reset-gives x e) (nil-pipe-reset-gives y f)) (fact 𝓤 ((x ≡ y) × (now (e .0) ≡ now (f .0))))
+    piping-nil-pipe-reset-one = coincide-lent 𝓤 (λ p q. (coincide (p .0) (q .0), coincide (p .1) (q .1)))
+
+  module _ (κs : Lfts 1) (a : Args piping-nil-pipe-resume.signature κs) (x y : Res piping-nil-pipe-resume.signature κs) (e f : AtExit piping-nil-pipe-resume.ended κs) where
+    abbrev nil-pipe-resume-gives : Res piping-nil-pipe-resume.signature κs → AtExit piping-nil-pipe-resume.ended κs → SProp 𝓤
+    nil-pipe-resume-gives = piping-nil-pipe-resume.clauses 𝓤 H A at-mem run κs a .ensures tt
+
+    -- the code, and what the lent table holds in the end
+    pub piping-nil-pipe-resume-one : ent 𝓤 (sep 𝓤 (nil-pipe-resume-gives x e) (nil-pipe-resume-gives y f)) (fact 𝓤 ((x ≡ y) × (now (e .0) ≡ now (f .0))))
+    piping-nil-pipe-resume-one = coincide-lent 𝓤 (λ p q. (coincide (p .0) (q .0), coincide (p .1) (q .1)))
+
+  module _ (κs : Lfts 4) (a : Args piping-nil-pipe-write.signature κs) (x y : Res piping-nil-pipe-write.signature κs) (e f : AtExit piping-nil-pipe-write.ended κs) where
+    abbrev nil-pipe-write-gives : Res piping-nil-pipe-write.signature κs → AtExit piping-nil-pipe-write.ended κs → SProp 𝓤
+    nil-pipe-write-gives = piping-nil-pipe-write.clauses 𝓤 H A at-mem run κs a .ensures tt
+
+    -- the code, and what the lent table, the lent buffer and the lent number hold in the end
+    pub piping-nil-pipe-write-one : ent 𝓤 (sep 𝓤 (nil-pipe-write-gives x e) (nil-pipe-write-gives y f)) (fact 𝓤 ((x ≡ y) × (now (e .0) ≡ now (f .0)) × (now (e .1 .1 .0) ≡ now (f .1 .1 .0)) × (now (e .1 .1 .1 .1 .0) ≡ now (f .1 .1 .1 .1 .0))))
+    piping-nil-pipe-write-one = coincide-lent 𝓤 (λ p q. (coincide (p .0) (q .0), coincide (p .1) (q .1), coincide (p .2) (q .2), coincide (p .3) (q .3)))
+
+  module _ (κs : Lfts 4) (a : Args piping-nil-pipe-read.signature κs) (x y : Res piping-nil-pipe-read.signature κs) (e f : AtExit piping-nil-pipe-read.ended κs) where
+    abbrev nil-pipe-read-gives : Res piping-nil-pipe-read.signature κs → AtExit piping-nil-pipe-read.ended κs → SProp 𝓤
+    nil-pipe-read-gives = piping-nil-pipe-read.clauses 𝓤 H A at-mem run κs a .ensures tt
+
+    -- the code, and what the lent table, the lent target and the lent number hold in the end
+    pub piping-nil-pipe-read-one : ent 𝓤 (sep 𝓤 (nil-pipe-read-gives x e) (nil-pipe-read-gives y f)) (fact 𝓤 ((x ≡ y) × (now (e .0) ≡ now (f .0)) × (now (e .1 .1 .1 .0) ≡ now (f .1 .1 .1 .0)) × (now (e .1 .1 .1 .1 .0) ≡ now (f .1 .1 .1 .1 .0))))
+    piping-nil-pipe-read-one = coincide-lent 𝓤 (λ p q. (coincide (p .0) (q .0), coincide (p .1) (q .1), coincide (p .2) (q .2), coincide (p .3) (q .3)))

@@ -7,3 +7,4 @@ pub mod Broken
 pub mod Screen
 pub mod Times
 pub mod Layout
+pub mod Piping

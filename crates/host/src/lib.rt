@@ -2,6 +2,7 @@
 // and stores what that gave. What a host owns has C's layout, no padding and no truth value: any bytes of it are legal values.
 pub mod broken;
 pub mod layout;
+pub mod piping;
 pub mod reads;
 pub mod request;
 pub mod screen;

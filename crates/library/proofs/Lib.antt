@@ -1,4 +1,5 @@
 -- What the proofs share.
 pub mod Signed
+pub mod RingLaws
 pub mod SettlingLaws
 pub mod Unique

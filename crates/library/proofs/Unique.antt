@@ -41,6 +41,8 @@ use Rattle.library.proofs.pool.try_alloc.Reads as pool-try-alloc
 use Rattle.library.proofs.pool.try_alloc.Kinds as pool-try-alloc-kinds
 use Rattle.library.proofs.pool.put_back.Reads as pool-put-back
 use Rattle.library.proofs.pool.put_back.Kinds as pool-put-back-kinds
+use Rattle.library.proofs.ring.positions_fit.Reads as ring-positions-fit
+use Rattle.library.proofs.ring.positions_fit.Kinds as ring-positions-fit-kinds
 use Rattle.library.proofs.ring.Positions.post.Reads as ring-Positions-post
 use Rattle.library.proofs.ring.Positions.post.Kinds as ring-Positions-post-kinds
 use Rattle.library.proofs.ring.Positions.post_ahead.Reads as ring-Positions-post-ahead
@@ -147,6 +149,9 @@ pool-try-alloc-one κs a e x y = coincide
 
 pub pool-put-back-one : Fixes 0 pool-put-back-kinds.ps pool-put-back-kinds.r pool-put-back.Post
 pool-put-back-one κs a e x y = coincide
+
+pub ring-positions-fit-one : Fixes 0 ring-positions-fit-kinds.ps ring-positions-fit-kinds.r ring-positions-fit.Post
+ring-positions-fit-one κs a e x y = coincide
 
 pub ring-Positions-post-one : Fixes 0 ring-Positions-post-kinds.ps ring-Positions-post-kinds.r ring-Positions-post.Post
 ring-Positions-post-one κs a e x y = coincide

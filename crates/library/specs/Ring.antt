@@ -1,9 +1,21 @@
--- A mailbox's positions after each call, and the slot that the call is about.
-use Prim.Native.Nat.{ℕ, _+_, _-_}
-use mathlib.Core.Bool.{cond}
-use lib.Dec.{ltb}
+-- A mailbox's or a pipe's positions: whether they fit its slots; and after each call, beside the slot that the call is about.
+use Prim.Native.Nat.{ℕ, _+_, _-_, _%_}
+use mathlib.Core.Bool.{Bool, cond, _&&_}
+use lib.Dec.{eqb, ltb, leb}
 use Rattle.library.specs.declared.ring.Positions.{Positions}
 use Rattle.library.specs.declared.ring.Placed.{Placed}
+
+-- "places, counts (a mailbox's 0 to its slots) .. are in range"
+abbrev pub inRing : Positions → ℕ → Bool
+inRing q slots = leb (q .count) slots && (ltb (q .read) slots && ltb (q .write) slots)
+
+-- "A mailbox's write place is its read place plus its count, modulo slots"; there are slots
+abbrev pub follows : Positions → ℕ → Bool
+follows q slots = ltb 0 slots && eqb (q .write) ((q .read + q .count) % slots)
+
+-- both rules of the positions
+unfoldable pub positionsFit : Positions → ℕ → Bool
+positionsFit q slots = inRing q slots && follows q slots
 
 -- no slot: no room, or no message
 abbrev pub noSlot : ℕ

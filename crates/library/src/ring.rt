@@ -1,8 +1,18 @@
-// A mailbox's positions: one small record, given back anew by each call on it, beside the slot that the call is about.
+// A mailbox's or a pipe's positions: one small record, given back anew by each call on it, beside the slot that the call is about.
 // The slot is NO_SLOT where there is no room, or no message.
 use crate::numbers::NO_SLOT;
 ghost use mathlib.Core.Path.{_≡_};
-ghost use Rattle.library.specs.Ring.{placeAfter, placeBefore, posted, postedAhead, fetched, emptied};
+ghost use Rattle.library.specs.Ring.{
+  inRing,
+  follows,
+  positionsFit,
+  placeAfter,
+  placeBefore,
+  posted,
+  postedAhead,
+  fetched,
+  emptied,
+};
 
 #[repr(C)]
 pub struct Positions {
@@ -14,6 +24,27 @@ pub struct Positions {
 pub struct Placed {
     pub slot: u16,
     pub positions: Positions,
+}
+
+// Whether the count and both places are in range for a ring of `slots`.
+fn in_ring(q: Positions, slots: u16) -> bool
+    ensures { λ r. ⌜ r ≡ inRing q slots ⌝ }
+{
+    q.count <= slots && (q.read < slots && q.write < slots)
+}
+
+// Whether the write place is the read place plus the count, in a ring of `slots`. The sum may leave 16 bits in damaged tables.
+fn follows(q: Positions, slots: u16) -> bool
+    ensures { λ r. ⌜ r ≡ follows q slots ⌝ }
+{
+    0 < slots && q.write as u32 == (q.read as u32 + q.count as u32) % slots as u32
+}
+
+// Whether the positions hang together: both of these.
+pub fn positions_fit(q: Positions, slots: u16) -> bool
+    ensures { λ r. ⌜ r ≡ positionsFit q slots ⌝ }
+{
+    in_ring(q, slots) && follows(q, slots)
 }
 
 // The place after p in a ring of `slots`.

@@ -16,3 +16,4 @@ pub mod Waiters
 pub mod OwnSleep
 pub mod Moments
 pub mod Accounts
+pub mod Pipes

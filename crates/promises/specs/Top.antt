@@ -1,7 +1,9 @@
 -- The demands, the twelve facts, and runs that show that both speak of something.
 pub mod Demands
 pub mod RuledOut
+pub mod Pipes
 pub mod Facts
 pub mod Shown
 pub mod ShownArms
 pub mod ShownRest
+pub mod ShownPipes

@@ -20,7 +20,7 @@ use Rattle.library.specs.Sizes.{slotsAt}
 use Rattle.library.specs.Ring.{noSlot, placeAfter, placeBefore, posted, postedAhead, fetched, emptied}
 use Rattle.library.specs.Tables.{blankMailbox, mailboxAt, withKernel, withMailbox}
 use Rattle.library.specs.Mailbox.{placedFor, postDone, postTried, fetchDone, fetchTried, mailboxReset, mailboxResumed}
-use Rattle.promises.specs.Together.Good.{GoodMailbox}
+use Rattle.library.proofs.RingLaws.{Fitting}
 
 -- ---- places in a ring
 
@@ -62,7 +62,7 @@ given-if true w r q slots barred few h opens bars =
 given-if false w r q slots barred few h opens bars =
     record { within = λ d. absurd (d refl); none = (λ e. bars refl, λ z. refl) }
 
-module _ (q : Positions) (slots : ℕ) (g : GoodMailbox q slots) where
+module _ (q : Positions) (slots : ℕ) (g : Fitting q slots) where
   some : 0 < slots
   some = omega (arith, g .read)
 
@@ -73,10 +73,10 @@ module _ (q : Positions) (slots : ℕ) (g : GoodMailbox q slots) where
   full t = omega (arith, g .count, ltb-false (q .count) slots t)
 
   -- "With room, post writes at the write place"
-  pub posted-good : GoodMailbox (posted q slots .positions) slots
+  pub posted-good : Fitting (posted q slots .positions) slots
   unfolding posted
   posted-good =
-      chosen (λ (x : Placed). GoodMailbox (x .positions) slots) (ltb (q .count) slots)
+      chosen (λ (x : Placed). Fitting (x .positions) slots) (ltb (q .count) slots)
       (λ e. record {
         count = omega (arith, ltb-true (q .count) slots e);
         read = g .read;
@@ -89,10 +89,10 @@ module _ (q : Positions) (slots : ℕ) (g : GoodMailbox q slots) where
       sum = let e : q .read + q .count + 1 ≡ q .read + (q .count + 1) = omega arith in ap (λ n. n % slots) e
 
   -- "ahead steps the read place back and writes there"
-  pub ahead-good : GoodMailbox (postedAhead q slots .positions) slots
+  pub ahead-good : Fitting (postedAhead q slots .positions) slots
   unfolding postedAhead
   ahead-good =
-      chosen (λ (x : Placed). GoodMailbox (x .positions) slots) (ltb (q .count) slots)
+      chosen (λ (x : Placed). Fitting (x .positions) slots) (ltb (q .count) slots)
       (λ e. record {
         count = omega (arith, ltb-true (q .count) slots e);
         read = before-lt (q .read) slots (g .read);
@@ -110,10 +110,10 @@ module _ (q : Positions) (slots : ℕ) (g : GoodMailbox q slots) where
           ap (λ n. n % slots) e
 
   -- "fetch takes from the read place"
-  pub fetched-good : GoodMailbox (fetched q slots .positions) slots
+  pub fetched-good : Fitting (fetched q slots .positions) slots
   unfolding fetched
   fetched-good =
-      chosen (λ (x : Placed). GoodMailbox (x .positions) slots) (ltb 0 (q .count))
+      chosen (λ (x : Placed). Fitting (x .positions) slots) (ltb 0 (q .count))
       (λ e. record {
         count = omega (arith, g .count);
         read = rw (after-mod (q .read) slots (g .read)) (mod-lt (q .read + 1) some);
@@ -153,7 +153,7 @@ module _ (q : Positions) (slots : ℕ) (g : GoodMailbox q slots) where
         (λ t e. absurd (omega (arith, ltb-true 0 (q .count) t))) (λ t. omega (arith, ltb-false 0 (q .count) t))
 
 -- "Reset empties, returns both places to 0"
-pub emptied-good : (q : Positions) (slots : ℕ) → 1 ≤ slots → GoodMailbox (emptied q .positions) slots
+pub emptied-good : (q : Positions) (slots : ℕ) → 1 ≤ slots → Fitting (emptied q .positions) slots
 unfolding emptied
 emptied-good q slots h = record { count = omega arith; read = h; write = h; follows = sym (zero-mod slots) }
 
@@ -161,7 +161,7 @@ emptied-good q slots h = record { count = omega arith; read = h; write = h; foll
 
 -- each mailbox that the sizes have is good
 abbrev pub MailboxesGood : Plant → Type 0
-MailboxesGood p = (m : ℕ) → m < p .sizes .mailboxes → GoodMailbox (mailboxAt p m .positions) (slotsAt (p .sizes) m)
+MailboxesGood p = (m : ℕ) → m < p .sizes .mailboxes → Fitting (mailboxAt p m .positions) (slotsAt (p .sizes) m)
 
 -- a call on one mailbox leaves all of them good, as many as there were, and touches neither sizes nor pools
 pub record MailboxesKept (p h : Plant) : Type 0 where
@@ -178,7 +178,7 @@ module _ (p : Plant) (g : MailboxesGood p) where
   kernel-kept k = record { good = g; boxes = refl; messages = λ m. refl; sizes = refl; pools = refl }
 
   -- one mailbox written
-  box-kept : (k : Kernel) (n : ℕ) (b : Mailbox) → GoodMailbox (b .positions) (slotsAt (p .sizes) n)
+  box-kept : (k : Kernel) (n : ℕ) (b : Mailbox) → Fitting (b .positions) (slotsAt (p .sizes) n)
       → length (b .messages) ≡ length (mailboxAt p n .messages) → MailboxesKept p (withMailbox (withKernel p k) n b)
   box-kept k n b f w =
       record {
@@ -207,19 +207,19 @@ module _ (p : Plant) (g : MailboxesGood p) where
     box = mailboxAt p (call .object)
 
     -- a post that was given the positions of a good mailbox
-    pub post-done-kept : (x : Placed) → GoodMailbox (x .positions) slots → MailboxesKept p (postDone p i call x)
+    pub post-done-kept : (x : Placed) → Fitting (x .positions) slots → MailboxesKept p (postDone p i call x)
     unfolding postDone
     post-done-kept x f = box-kept _ (call .object) _ f (length-set (box .messages) (x .slot) (call .operand))
 
     -- a fetch that was
-    pub fetch-done-kept : (x : Placed) → GoodMailbox (x .positions) slots → MailboxesKept p (fetchDone p i call x)
+    pub fetch-done-kept : (x : Placed) → Fitting (x .positions) slots → MailboxesKept p (fetchDone p i call x)
     unfolding fetchDone
     fetch-done-kept x f = box-kept _ (call .object) _ f refl
 
     module _ (there : call .object < p .sizes .mailboxes) where
-      placed-good : GoodMailbox (placedFor box (call .kind) slots .positions) slots
+      placed-good : Fitting (placedFor box (call .kind) slots .positions) slots
       placed-good =
-          chosen (λ (x : Placed). GoodMailbox (x .positions) slots) (eqb (call .kind) 16)
+          chosen (λ (x : Placed). Fitting (x .positions) slots) (eqb (call .kind) 16)
           (λ e. ahead-good (box .positions) slots (g (call .object) there))
           (λ e. posted-good (box .positions) slots (g (call .object) there))
 

@@ -5,6 +5,8 @@ use native.Mathlib.Omega.{arith}
 use mathlib.Core.Path.{_≡_, refl, sym, ap, _∙_}
 use mathlib.Core.List.{List, [], _∷_}
 use lib.Dec.{eqb}
+use lib.IntN.{ℤ}
+use lib.ListN.{length}
 use borrow.Author.Tests.{eqb-true, eqb-false}
 use Rattle.kernel.specs.declared.clock.Clock.{Clock}
 use Rattle.kernel.specs.declared.time.SystemTime.{SystemTime}
@@ -27,6 +29,11 @@ use Rattle.trace.specs.declared.writer.Written.{Written}
 use Rattle.trace.specs.declared.writer.Written.the-variants as written
 use Rattle.trace.specs.Decoding.{foundCode, nextRead}
 use Rattle.trace.specs.Writer.{writtenCode, sizesAnswer, sizesWritten, stepAnswer, stepWritten}
+use Rattle.pipes.specs.declared.table.Pipes.{Pipes}
+use Rattle.pipes.specs.declared.opening.Opened.{Opened}
+use Rattle.pipes.specs.declared.transfer.Moved.{Moved}
+use Rattle.pipes.specs.Opening.{pipesFresh, pipeReset, pipeResumed}
+use Rattle.pipes.specs.Transfer.{writeAnswer, bufferWritten, readAnswer, targetRead}
 use Rattle.host.specs.declared.request.Request.{Request}
 use Rattle.host.specs.declared.request.StepResult.{StepResult}
 use Rattle.host.specs.declared.reads.ReadResult.{ReadResult}
@@ -37,6 +44,8 @@ use Rattle.host.specs.Times.{addedTime, differedTime, inRangeNumber, ticksCode,
 use Rattle.host.specs.Writes.{placeWritten}
 use Rattle.promises.specs.Paper.Answers.{Said, foundSaid, writtenSaid}
 use Rattle.promises.specs.Paper.Boundary.{asked, StepCall, FreshCall, StepGiven, ReadCall, PlaceKept, SizesCall, RecordCall, AddCall, DifferenceCall, RangeCall, TicksCall, UnitsCall}
+use Rattle.promises.specs.Paper.Boundary.{PipeFreshCall, PipeResetCall, PipeResumeCall, PipeWriteCall, PipeReadCall}
+use Rattle.promises.specs.Paper.Pipes.{HostPipes}
 use Rattle.promises.specs.Meant.Step.{demand-two}
 use Rattle.promises.specs.Paper.Host.{Host}
 use Rattle.promises.specs.Meant.Only.{step-only}
@@ -54,6 +63,7 @@ use Rattle.promises.specs.Meant.Time.{
 }
 use Rattle.promises.specs.Meant.Fresh.{made-is, made-one}
 use Rattle.promises.specs.Meant.Reader.{number-is, number-one, read-is, read-one}
+use Rattle.promises.specs.Meant.Pipes.{pipe-write-is, pipe-read-is, transfer-one, pipe-reset-is, pipe-resume-is, record-set-one, pipes-fresh-is, pipes-fresh-one}
 use Rattle.promises.specs.Meant.Writer.{step-write-is, step-write-one, sizes-write-is, sizes-write-one}
 
 -- ---- nil_step
@@ -265,3 +275,51 @@ pub units-call-one : {u : Unit} {ticks frequency c d m n : ℕ} → UnitsCall u 
 units-call-one a b =
     let same = units-one a b in
     (ap (λ (r : Units). r .code) same, ap (λ (r : Units). r .value) same)
+
+-- ---- pipes
+
+-- the parts of one answer
+opened-parts : {c d : ℕ} {u v : Pipes} → _≡_ {A = Opened} (record { pipes = u; code = c }) (record { pipes = v; code = d }) → (c ≡ d) × (u ≡ v)
+opened-parts e = (ap (λ (o : Opened). o .code) e, ap (λ (o : Opened). o .pipes) e)
+
+moved-parts : {c d : ℕ} {u v : Pipes} {y z : ℤ}
+    → _≡_ {A = Moved} (record { pipes = u; code = c; moved = y }) (record { pipes = v; code = d; moved = z }) → (c ≡ d) × ((u ≡ v) × (y ≡ z))
+moved-parts e = (ap (λ (m : Moved). m .code) e, (ap (λ (m : Moved). m .pipes) e, ap (λ (m : Moved). m .moved) e))
+
+pub pipe-fresh-call-is : (t : Pipes) (number : ℕ) → PipeFreshCall t number (pipesFresh t number .code) (pipesFresh t number .pipes)
+pipe-fresh-call-is t number = pipes-fresh-is t number
+
+pub pipe-fresh-call-one : {t : Pipes} {number c d : ℕ} {u v : Pipes} → PipeFreshCall t number c u → PipeFreshCall t number d v → (c ≡ d) × (u ≡ v)
+pipe-fresh-call-one a b = opened-parts (pipes-fresh-one a b)
+
+module _ (t : Pipes) (h : HostPipes t) (i : ℕ) where
+  pub pipe-reset-call-is : (n : ℕ) → PipeResetCall t i n (pipeReset t i n .code) (pipeReset t i n .pipes)
+  pipe-reset-call-is n = pipe-reset-is t h i n
+
+  pub pipe-resume-call-is : (n : ℕ) → PipeResumeCall t i n (pipeResumed t i n .code) (pipeResumed t i n .pipes)
+  pipe-resume-call-is n = pipe-resume-is t h i n
+
+  pub pipe-write-call-is : (b l : List ℕ)
+      → PipeWriteCall t i b l (writeAnswer t i (length b) (length l) .code) (writeAnswer t i (length b) (length l) .pipes) (bufferWritten t i b l)
+      (writeAnswer t i (length b) (length l) .moved)
+  pipe-write-call-is b l = pipe-write-is t h i b l
+
+  pub pipe-read-call-is : (b g : List ℕ)
+      → PipeReadCall t i b g (readAnswer t i (length b) (length g) .code) (readAnswer t i (length b) (length g) .pipes) (targetRead t i b g)
+      (readAnswer t i (length b) (length g) .moved)
+  pipe-read-call-is b g = pipe-read-is t h i b g
+
+module _ {t : Pipes} {i c d : ℕ} {u v : Pipes} where
+  pub pipe-reset-call-one : {n : ℕ} → PipeResetCall t i n c u → PipeResetCall t i n d v → (c ≡ d) × (u ≡ v)
+  pipe-reset-call-one a b = opened-parts (record-set-one a b)
+
+  pub pipe-resume-call-one : {n : ℕ} → PipeResumeCall t i n c u → PipeResumeCall t i n d v → (c ≡ d) × (u ≡ v)
+  pipe-resume-call-one a b = opened-parts (record-set-one a b)
+
+  pub pipe-write-call-one : {b l e f : List ℕ} {y z : ℤ} → PipeWriteCall t i b l c u e y → PipeWriteCall t i b l d v f z
+      → ((c ≡ d) × ((u ≡ v) × (y ≡ z))) × (e ≡ f)
+  pipe-write-call-one a b = let same = transfer-one a b in (moved-parts (same .0), same .1)
+
+  pub pipe-read-call-one : {b g e f : List ℕ} {y z : ℤ} → PipeReadCall t i b g c u e y → PipeReadCall t i b g d v f z
+      → ((c ≡ d) × ((u ≡ v) × (y ≡ z))) × (e ≡ f)
+  pipe-read-call-one a b = let same = transfer-one a b in (moved-parts (same .0), same .1)

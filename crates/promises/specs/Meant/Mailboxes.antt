@@ -18,7 +18,8 @@ use Rattle.library.specs.Sizes.{slotsAt}
 use Rattle.library.specs.Ring.{noSlot, placeAfter, fetched}
 use Rattle.library.specs.Tables.{mailboxAt, withKernel}
 use Rattle.library.specs.Mailbox.{placedFor, postDone, postTried, fetchDone, fetchTried}
-use Rattle.promises.specs.Together.Good.{GoodMailbox, Good}
+use Rattle.library.proofs.RingLaws.{Fitting}
+use Rattle.promises.specs.Together.Good.{Good}
 use Rattle.promises.specs.Kept.RingKept.{posted-slot, ahead-slot, fetched-slot}
 
 -- ---- the tables
@@ -29,7 +30,7 @@ pub record BoxThere (p : Plant) (b : ℕ) : Type 0 where
   pub row : b < length (p .mailboxes)
   pub messages : length (mailboxAt p b .messages) ≡ 16
   pub few : slotsAt (p .sizes) b ≤ 16
-  pub good : GoodMailbox (mailboxAt p b .positions) (slotsAt (p .sizes) b)
+  pub good : Fitting (mailboxAt p b .positions) (slotsAt (p .sizes) b)
 
 -- such are those of tables that hang together
 pub good-box : (p : Plant) (b : ℕ) → Good p → length (p .mailboxes) ≡ 4 → length (mailboxAt p b .messages) ≡ 16

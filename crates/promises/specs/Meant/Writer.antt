@@ -383,7 +383,7 @@ four-write-one l at n {k} {j} =
     (λ x. let three : i ≡ 3 = omega arith in rw three (a .last ∙ sym (b .last))))))
 
 module _ (Unfit : ℕ → Type 0) where
-  least-one : (m n : ℕ) → LeastOf Unfit m → LeastOf Unfit n → m ≡ n
+  pub least-one : (m n : ℕ) → LeastOf Unfit m → LeastOf Unfit n → m ≡ n
   least-one m n a b =
       in-or-out m n
       (λ l. absurd (b .none-before m l (a .unfit)))

@@ -5,6 +5,7 @@ use mathlib.Core.Path.{_≡_}
 use mathlib.Core.Logic.{_≢_}
 use mathlib.Core.Bool.{Bool, true, false}
 use mathlib.Core.List.{List, [], _∷_}
+use lib.IntN.{ℤ}
 use lib.ListN.{getD}
 use Rattle.kernel.specs.declared.clock.Clock.{Clock}
 use Rattle.kernel.specs.declared.units.Unit.{Unit}
@@ -16,6 +17,7 @@ use Rattle.library.specs.declared.fresh.Made.{Made}
 use Rattle.steps.specs.declared.stepping.Stepped.{Stepped}
 use Rattle.trace.specs.declared.decoding.Read.{Read}
 use Rattle.trace.specs.declared.writer.Written.{Written}
+use Rattle.pipes.specs.declared.table.Pipes.{Pipes}
 use Rattle.host.specs.declared.request.Request.{Request}
 use Rattle.host.specs.declared.request.StepResult.{StepResult}
 use Rattle.host.specs.declared.reads.ReadResult.{ReadResult}
@@ -28,6 +30,7 @@ use Rattle.promises.specs.Paper.Fresh.{MadeOf}
 use Rattle.promises.specs.Paper.Answers.{Said, foundSaid, writtenSaid}
 use Rattle.promises.specs.Paper.Reader.{NumberOf, ReadOf}
 use Rattle.promises.specs.Paper.Writer.{WriteOfSizes, WriteOfStep}
+use Rattle.promises.specs.Paper.Pipes.{PipeWriteOf, PipeReadOf, PipeResetOf, PipeResumeOf, PipesFreshOf}
 
 -- "A step has kind, caller, object, operand a and timeout": the step that a request asks for; its byte `unused` is ignored
 abbrev pub asked : Request → Step
@@ -138,3 +141,24 @@ pub record ScreenOf (t : Tables) (count first : ℕ) (waiting : ℕ → ℕ) : T
   pub running : Running (found t) first
   -- "the threads waiting there"
   pub waiters : (p : ℕ) → InUse (t .sizes) p → WordOf (isQueued (found t) p) (t .sizes .threads) (waiting p)
+
+-- ---- pipes: the table t becomes u, and the code is the host's answer
+
+-- nil_pipe_fresh
+abbrev pub PipeFreshCall : Pipes → ℕ → ℕ → Pipes → Type 0
+PipeFreshCall t number code u = PipesFreshOf t number (record { pipes = u; code = code })
+
+-- nil_pipe_reset, nil_pipe_resume: with a buffer of n bytes
+abbrev pub PipeResetCall : Pipes → ℕ → ℕ → ℕ → Pipes → Type 0
+PipeResetCall t i n code u = PipeResetOf t i n (record { pipes = u; code = code })
+
+abbrev pub PipeResumeCall : Pipes → ℕ → ℕ → ℕ → Pipes → Type 0
+PipeResumeCall t i n code u = PipeResumeOf t i n (record { pipes = u; code = code })
+
+-- nil_pipe_write: of the bytes l; the buffer b becomes c, and the number moved, or -2, is z
+abbrev pub PipeWriteCall : Pipes → ℕ → List ℕ → List ℕ → ℕ → Pipes → List ℕ → ℤ → Type 0
+PipeWriteCall t i b l code u c z = PipeWriteOf t i b l (record { pipes = u; code = code; moved = z }) c
+
+-- nil_pipe_read: the target g becomes h
+abbrev pub PipeReadCall : Pipes → ℕ → List ℕ → List ℕ → ℕ → Pipes → List ℕ → ℤ → Type 0
+PipeReadCall t i b g code u h z = PipeReadOf t i b g (record { pipes = u; code = code; moved = z }) h

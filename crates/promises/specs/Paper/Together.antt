@@ -12,7 +12,7 @@ use Rattle.kernel.specs.declared.records.Call.{Call}
 use Rattle.kernel.specs.declared.records.Thread.{Thread}
 use Rattle.kernel.specs.declared.records.Words.{Words}
 use Rattle.library.specs.declared.sizes.Sizes.{Sizes}
-use Rattle.library.specs.declared.tables.Mailbox.{Mailbox}
+use Rattle.library.specs.declared.ring.Positions.{Positions}
 use Rattle.library.specs.declared.tables.Pool.{Pool}
 use Rattle.promises.specs.Paper.World.{World, noCall, MaskOf, First}
 
@@ -99,14 +99,14 @@ pub data QueueFits (c : ℤ) : ℕ → Type 0 where
   waiters : {n : ℕ} → c ≡ negsuc n → QueueFits c (suc n)
   none : c ≡ pos 0 → QueueFits c 0
 
--- a mailbox of so many slots
-pub record MailboxFits (b : Mailbox) (slots : ℕ) : Type 0 where
+-- the positions of a mailbox of so many slots; and of a pipe, which "fit the buffer as a mailbox's fit its slots"
+pub record PositionsFit (q : Positions) (slots : ℕ) : Type 0 where
   -- "places, counts (a mailbox's 0 to its slots) .. are in range"
-  pub count : b .positions .count ≤ slots
-  pub read : b .positions .read < slots
-  pub write : b .positions .write < slots
+  pub count : q .count ≤ slots
+  pub read : q .read < slots
+  pub write : q .write < slots
   -- "A mailbox's write place is its read place plus its count, modulo slots"
-  pub follows : b .positions .write ≡ (b .positions .read + b .positions .count) % slots
+  pub follows : q .write ≡ (q .read + q .count) % slots
 
 -- "the larger of counter and 0"
 abbrev pub larger : ℤ → ℕ
@@ -186,7 +186,7 @@ pub record HangTogether (w : World) (v : Words) (c : Clock) : Type 0 where
   pub holder : (r : ℕ) → r < w .sizes .references → (w .holder r ≡ 255) ⊎ (w .holder r < w .sizes .threads)
   pub holds : (r : ℕ) → r < w .sizes .references → (i : ℕ) → i < w .sizes .threads
       → (w .holder r ≡ i) ↔ ((w .thread i .state ≡ 2) × (w .thread i .place ≡ r))
-  pub mailboxes : (m : ℕ) → m < w .sizes .mailboxes → MailboxFits (w .box m) (getD (w .sizes .slots) m 0)
+  pub mailboxes : (m : ℕ) → m < w .sizes .mailboxes → PositionsFit (w .box m .positions) (getD (w .sizes .slots) m 0)
   pub pools : (q : ℕ) → q < w .sizes .pools
       → PoolFits (w .pool q) (w .counter (16 + q)) (number (isPromised w q) (w .sizes .threads))
   pub threads : (i : ℕ) → i < w .sizes .threads → ThreadFits (w .sizes) (w .thread i)

@@ -1,5 +1,5 @@
 -- The tests of mailboxes and pools say exactly that these are good.
-use Prim.Native.Nat.{ℕ, _+_, _%_, _≤_, _<_}
+use Prim.Native.Nat.{ℕ, _≤_, _<_}
 use native.Mathlib.Omega.{arith}
 use mathlib.Core.Path.{_≡_}
 use mathlib.Core.Logic.{_≢_, _⊎_, inl, inr}
@@ -11,13 +11,13 @@ use Rattle.kernel.specs.Places.{poolPlace}
 use Rattle.kernel.specs.Tables.{counterAt}
 use Rattle.kernel.proofs.Cases.{same-or, chosen, both-true, both-means}
 use Rattle.kernel.proofs.WalkLaws.{all-at, all-of}
-use Rattle.library.specs.declared.ring.Positions.{Positions}
 use Rattle.library.specs.declared.tables.Pool.{Pool}
 use Rattle.library.specs.declared.tables.Plant.{Plant}
 use Rattle.library.specs.Sizes.{slotsAt}
 use Rattle.library.specs.Tables.{mailboxAt, poolAt}
 use Rattle.library.specs.Pool.{absent, free, out, listedAt, markAt}
-use Rattle.rules.specs.MailboxRules.{inRing, follows, positionsFit, mailboxFits, mailboxesFit}
+use Rattle.library.proofs.RingLaws.{Fitting, fit-means, fit-of}
+use Rattle.rules.specs.MailboxRules.{mailboxFits, mailboxesFit}
 use Rattle.rules.specs.PoolRules.{
   promisedCount,
   occurrences,
@@ -32,35 +32,7 @@ use Rattle.rules.specs.PoolRules.{
   poolsFit,
 }
 use Rattle.promises.specs.Together.Tests.{used-all, same-means, same-of, sum-of, difference-of}
-use Rattle.promises.specs.Together.Good.{GoodSizes, GoodMailbox, GoodPool}
-
--- ---- mailboxes
-
-module _ (q : Positions) (slots : ℕ) where
-  positions-good : positionsFit q slots ≡ true → GoodMailbox q slots
-  unfolding positionsFit
-  positions-good e =
-      let a = both-means (inRing q slots) (follows q slots) e in
-      let b = both-means (leb (q .count) slots) (ltb (q .read) slots && ltb (q .write) slots) (a .0) in
-      let c = both-means (ltb (q .read) slots) (ltb (q .write) slots) (b .1) in
-      let d = both-means (ltb 0 slots) (eqb (q .write) ((q .read + q .count) % slots)) (a .1) in
-      record {
-        count = leb-true (q .count) slots (b .0);
-        read = ltb-true (q .read) slots (c .0);
-        write = ltb-true (q .write) slots (c .1);
-        follows = eqb-true (q .write) ((q .read + q .count) % slots) (d .1);
-      }
-
-  good-positions : GoodMailbox q slots → positionsFit q slots ≡ true
-  unfolding positionsFit
-  good-positions g =
-      both-true
-      (both-true (le-leb (q .count) slots (g .count))
-      (both-true (lt-ltb (q .read) slots (g .read)) (lt-ltb (q .write) slots (g .write))))
-      (both-true (lt-ltb 0 slots (some (g .read))) (eq-eqb (q .write) ((q .read + q .count) % slots) (g .follows)))
-    where
-      some : q .read < slots → 0 < slots
-      some h = omega arith
+use Rattle.promises.specs.Together.Good.{GoodSizes, GoodPool}
 
 -- ---- pools
 
@@ -136,19 +108,19 @@ module _ (x : Pool) (c : ℤ) (promised : ℕ) where
 module _ (p : Plant) (s : GoodSizes (p .sizes)) where
   -- mailboxes that pass are good
   pub mailboxes-good : mailboxesFit p ≡ true
-      → (m : ℕ) → m < p .sizes .mailboxes → GoodMailbox (mailboxAt p m .positions) (slotsAt (p .sizes) m)
+      → (m : ℕ) → m < p .sizes .mailboxes → Fitting (mailboxAt p m .positions) (slotsAt (p .sizes) m)
   unfolding mailboxesFit
   mailboxes-good e m h =
-      positions-good (mailboxAt p m .positions) (slotsAt (p .sizes) m)
+      fit-means (mailboxAt p m .positions) (slotsAt (p .sizes) m)
       (all-at (mailboxFits (p .mailboxes) (p .sizes)) (p .sizes .mailboxes) m (rw (used-all 4 (p .sizes .mailboxes) (s .mailboxes)) at e) h)
 
   -- good mailboxes pass
-  pub good-mailboxes : ((m : ℕ) → m < p .sizes .mailboxes → GoodMailbox (mailboxAt p m .positions) (slotsAt (p .sizes) m))
+  pub good-mailboxes : ((m : ℕ) → m < p .sizes .mailboxes → Fitting (mailboxAt p m .positions) (slotsAt (p .sizes) m))
       → mailboxesFit p ≡ true
   unfolding mailboxesFit
   good-mailboxes g =
       rw (used-all 4 (p .sizes .mailboxes) (s .mailboxes))
-      (all-of (mailboxFits (p .mailboxes) (p .sizes)) (p .sizes .mailboxes) (λ m h. good-positions (mailboxAt p m .positions) (slotsAt (p .sizes) m) (g m h)))
+      (all-of (mailboxFits (p .mailboxes) (p .sizes)) (p .sizes .mailboxes) (λ m h. fit-of (mailboxAt p m .positions) (slotsAt (p .sizes) m) (g m h)))
 
   -- pools that pass are good
   pub pools-good : poolsFit p ≡ true

@@ -1,6 +1,6 @@
 -- "Tables that hang together", each sentence as a statement, in the paper's order within each record. That the code's test says
 -- exactly this is proved in Hanging.antt.
-use Prim.Native.Nat.{ℕ, _+_, _%_, _≤_, _<_}
+use Prim.Native.Nat.{ℕ, _+_, _≤_, _<_}
 use mathlib.Core.Path.{_≡_}
 use mathlib.Core.Logic.{_≢_, _⊎_, _↔_}
 use mathlib.Core.Bool.{true, false}
@@ -16,7 +16,7 @@ use Rattle.kernel.specs.Tables.{threadAt, counterAt, holderAt}
 use Rattle.kernel.specs.Waiters.{firstReady}
 use Rattle.kernel.specs.Words.{waitingAt}
 use Rattle.kernel.specs.Moves.{awaitedBy}
-use Rattle.library.specs.declared.ring.Positions.{Positions}
+use Rattle.library.proofs.RingLaws.{Fitting}
 use Rattle.library.specs.declared.sizes.Sizes.{Sizes}
 use Rattle.library.specs.declared.tables.Pool.{Pool}
 use Rattle.library.specs.declared.tables.Plant.{Plant}
@@ -108,15 +108,6 @@ pub record GoodReferences (k : Kernel) (z : Sizes) : Type 0 where
   -- "Reference r holds i exactly if i is suspended on r"
   pub holds : (r : ℕ) → r < z .references → (i : ℕ) → i < z .threads → (holderAt k r ≡ i) ↔ SuspendedOn r (threadAt k i)
 
--- a mailbox's positions
-pub record GoodMailbox (q : Positions) (slots : ℕ) : Type 0 where
-  -- "places, counts (a mailbox's 0 to its slots) .. are in range"
-  pub count : q .count ≤ slots
-  pub read : q .read < slots
-  pub write : q .write < slots
-  -- "A mailbox's write place is its read place plus its count, modulo slots"
-  pub follows : q .write ≡ (q .read + q .count) % slots
-
 -- a pool, with its counter and the number of "ready threads whose unfinished alloc was woken with 0"
 pub record GoodPool (x : Pool) (c : ℤ) (promised : ℕ) : Type 0 where
   -- "counts .. are in range"
@@ -141,7 +132,7 @@ pub record Good (p : Plant) : Type 0 where
   pub sizes : GoodSizes (p .sizes)
   pub counters : GoodCounters (p .kernel) (p .sizes)
   pub references : GoodReferences (p .kernel) (p .sizes)
-  pub mailboxes : (m : ℕ) → m < p .sizes .mailboxes → GoodMailbox (mailboxAt p m .positions) (slotsAt (p .sizes) m)
+  pub mailboxes : (m : ℕ) → m < p .sizes .mailboxes → Fitting (mailboxAt p m .positions) (slotsAt (p .sizes) m)
   pub pools : (q : ℕ) → q < p .sizes .pools
       → GoodPool (poolAt p q) (counterAt (p .kernel) (poolPlace q)) (promisedCount (p .kernel) (p .sizes .threads) q)
   pub threads : (i : ℕ) → i < p .sizes .threads → GoodThread (p .sizes) (threadAt (p .kernel) i)

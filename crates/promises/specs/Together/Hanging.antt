@@ -29,6 +29,7 @@ use Rattle.library.specs.declared.tables.Plant.{Plant}
 use Rattle.library.specs.Sizes.{slotsAt, sizesFit}
 use Rattle.library.specs.Tables.{blankMailbox, blankPool, opened}
 use Rattle.library.specs.Fresh.{freshTables, freshClock, made}
+use Rattle.library.proofs.RingLaws.{Fitting}
 use Rattle.rules.specs.RowRules.{rowFits, rowsFit}
 use Rattle.rules.specs.PlaceRules.{queuedCount, countersFit}
 use Rattle.rules.specs.ReferenceRules.{referencesFit}
@@ -43,7 +44,6 @@ use Rattle.promises.specs.Together.Good.{
   SemaphoreCounter,
   QueueCounter,
   GoodReferences,
-  GoodMailbox,
   GoodPool,
   GoodWords,
   Good,
@@ -198,7 +198,7 @@ module _ (m : ℕ) where
       }
 
 -- "mailboxes empty"
-fresh-mailbox : (slots : ℕ) → 1 ≤ slots → GoodMailbox (blankMailbox .positions) slots
+fresh-mailbox : (slots : ℕ) → 1 ≤ slots → Fitting (blankMailbox .positions) slots
 fresh-mailbox slots h = record { count = omega arith; read = h; write = h; follows = sym (zero-mod slots) }
 
 -- "pool objects absent"

@@ -17,6 +17,7 @@ use Rattle.kernel.specs.Queue.{enqueued, releasedFirst, releasedAll}
 use Rattle.kernel.specs.Semaphore.{taken, waited, signalled}
 use Rattle.kernel.specs.Ticking.{ticked}
 use Rattle.library.specs.declared.fresh.Made.{Made}
+use Rattle.library.specs.Ring.{positionsFit}
 use Rattle.library.specs.Sizes.{sizesFit}
 use Rattle.library.specs.Fresh.{made}
 use Rattle.library.specs.Acting.{waitBegun, effected, actedOnKernel, acted}
@@ -25,7 +26,7 @@ use Rattle.rules.specs.RowRules.{callFits, waitFits, ticksFit, flagsFit, rowFit
 use Rattle.rules.specs.PlaceRules.{queuedCount, countersFit}
 use Rattle.rules.specs.WordRules.{readyWord, waitingWord, readyFits, waitingFits, wordsFit}
 use Rattle.rules.specs.ReferenceRules.{holderFits, referencesFit}
-use Rattle.rules.specs.MailboxRules.{positionsFit, mailboxesFit}
+use Rattle.rules.specs.MailboxRules.{mailboxesFit}
 use Rattle.rules.specs.PoolRules.{promisedCount, occurrences, entriesFit, objectsFit, poolFits, poolsFit}
 use Rattle.rules.specs.Hanging.{hangsTogether}
 use Rattle.steps.specs.declared.stepping.Outcome.{Outcome}

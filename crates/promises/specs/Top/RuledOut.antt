@@ -4,6 +4,7 @@ use native.Mathlib.Omega.{arith}
 use mathlib.Core.Path.{_≡_, refl, sym, ap, _∙_, subst}
 use mathlib.Core.Logic.{_≢_, inl, inr}
 use mathlib.Core.Bool.{Bool, true, false, cond, not, _&&_, true≢false}
+use mathlib.Core.List.{List}
 use lib.Dec.{eqb, ltb}
 use lib.ListN.{getD}
 use lib.IntN.{ℤ, pos, negsuc, natAbs, pos-ne-negsuc}
@@ -15,11 +16,15 @@ use Rattle.kernel.proofs.Cases.{split}
 use Rattle.kernel.proofs.WordsLaws.{and-test, less-test}
 use Rattle.library.specs.declared.calls.Step.{Step}
 use Rattle.library.specs.declared.tables.Tables.{Tables}
+use Rattle.pipes.specs.declared.table.Pipes.{Pipes}
+use Rattle.pipes.specs.declared.transfer.Moved.{Moved}
 use Rattle.promises.specs.Paper.World.{World}
 use Rattle.promises.specs.Paper.Together.{InUse, WordOf, WordsAgree}
 use Rattle.promises.specs.Paper.Waking.{rowOf, inMask, heard, AnswerOf, SleeperAfter, ReadyAfter, WakerAfter}
 use Rattle.promises.specs.Paper.Flags.{awaitsFlags, FlagsAfter}
 use Rattle.promises.specs.Paper.Run.{TurnOf}
+use Rattle.promises.specs.Paper.Pipes.{pipeOf, Transfer, TransferOf}
+use Rattle.promises.specs.Runs.Pipes.{smaller-le, numbered}
 
 -- -1 and -2 are not 0
 below : {n : ℕ} → _≡_ {A = ℤ} (negsuc n) (pos 0) → ⊥
@@ -111,3 +116,31 @@ no-ready-waiter w v p i g u e =
         split (eqb (w .thread i .state) 3)
         (λ s. rw (eqb-true (w .thread i .state) 3 s))
         (λ s. absurd (omega (arith, rw s at x)))
+
+-- ---- pipes
+
+-- a refused transfer moves nothing, and leaves the table and every byte that it could have written
+pub refused-transfer : {t : Pipes} {i n : ℕ} {x : Transfer} {m : Moved} {e : List ℕ} → TransferOf t i n x m e → m .code ≢ 0
+    → (m .pipes ≡ t) × (m .moved ≡ pos 0) × (e ≡ x .into)
+refused-transfer (TransferOf.refused c p a r) d = (ap (λ (m : Moved). m .pipes) a, ap (λ (m : Moved). m .moved) a, r)
+refused-transfer (TransferOf.in-reset p z a r) d = absurd (d (ap (λ (m : Moved). m .code) a))
+refused-transfer (TransferOf.moves p z k s y u v o) d = absurd (d u)
+
+-- in reset state none moves a byte, and none answers a number
+pub transfer-in-reset : {t : Pipes} {i n : ℕ} {x : Transfer} {m : Moved} {e : List ℕ} → TransferOf t i n x m e → m .code ≡ 0 → pipeOf t i .reset ≢ 0
+    → (m .pipes ≡ t) × (m .moved ≡ negsuc 1) × (e ≡ x .into)
+transfer-in-reset (TransferOf.refused c p a r) z d = absurd (numbered p (sym (ap (λ (m : Moved). m .code) a) ∙ z))
+transfer-in-reset (TransferOf.in-reset p w a r) z d = (ap (λ (m : Moved). m .pipes) a, ap (λ (m : Moved). m .moved) a, r)
+transfer-in-reset (TransferOf.moves p w k s y u v o) z d = absurd (d w)
+
+-- no transfer moves more than was asked for, or than is free or there
+pub transfer-moves-most : {t : Pipes} {i n k : ℕ} {x : Transfer} {m : Moved} {e : List ℕ} → TransferOf t i n x m e → m .moved ≡ pos k
+    → (k ≤ x .wanted) × (k ≤ x .possible)
+transfer-moves-most (TransferOf.refused c p a r) z = none-moved (sym z ∙ ap (λ (m : Moved). m .moved) a)
+  where
+    none-moved : {k a b : ℕ} → _≡_ {A = ℤ} (pos k) (pos 0) → (k ≤ a) × (k ≤ b)
+    none-moved e = let z = ap natAbs e in (omega (arith, z), omega (arith, z))
+transfer-moves-most (TransferOf.in-reset p w a r) z = absurd (pos-ne-negsuc _ 1 (sym z ∙ ap (λ (m : Moved). m .moved) a))
+transfer-moves-most {x = x} (TransferOf.moves p w j s y u v o) z =
+    let same : j ≡ _ = ap natAbs (sym v ∙ z) in
+    subst (λ (k : ℕ). (k ≤ x .wanted) × (k ≤ x .possible)) same (smaller-le s)

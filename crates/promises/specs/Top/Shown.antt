@@ -23,12 +23,13 @@ use Rattle.library.specs.Pool.{popped, pushed, handedOver, allocTried, putBack}
 use Rattle.library.specs.Acting.{waitBegun, effected, actedOnKernel, boxEffected, actedOnBox, acted}
 use Rattle.library.specs.Fresh.{made}
 use Rattle.library.specs.Settling.{continued, settled}
+use Rattle.library.specs.Ring.{positionsFit}
 use Rattle.library.specs.Sizes.{sizesFit}
 use Rattle.rules.specs.RowRules.{callFits, waitFits, ticksFit, flagsFit, rowFits, rowsFit}
 use Rattle.rules.specs.PlaceRules.{queuedCount, countersFit}
 use Rattle.rules.specs.WordRules.{readyWord, waitingWord, readyFits, waitingFits, wordsFit}
 use Rattle.rules.specs.ReferenceRules.{holderFits, referencesFit}
-use Rattle.rules.specs.MailboxRules.{positionsFit, mailboxesFit}
+use Rattle.rules.specs.MailboxRules.{mailboxesFit}
 use Rattle.rules.specs.PoolRules.{promisedCount, occurrences, entriesFit, objectsFit, poolFits, poolsFit}
 use Rattle.rules.specs.Hanging.{hangsTogether}
 use Rattle.steps.specs.Refusal.{refusalOf}

@@ -25,7 +25,7 @@ use Rattle.library.specs.declared.calls.Step.{Step}
 use Rattle.library.specs.declared.sizes.Sizes.{Sizes}
 use Rattle.library.specs.declared.tables.Plant.{Plant}
 use Rattle.library.specs.Binary.{binarySignalled}
-use Rattle.library.specs.Ring.{posted, postedAhead, fetched, emptied}
+use Rattle.library.specs.Ring.{positionsFit, posted, postedAhead, fetched, emptied}
 use Rattle.library.specs.Mailbox.{postDone, postTried, fetchDone, fetchTried, bothReleased, mailboxReset, mailboxResumed}
 use Rattle.library.specs.Pool.{popped, pushed, handedOver, allocTried, putBack}
 use Rattle.library.specs.Acting.{waitBegun, effected, actedOnKernel, boxEffected, actedOnBox, acted}
@@ -37,7 +37,7 @@ use Rattle.rules.specs.RowRules.{callFits, waitFits, ticksFit, flagsFit, rowFit
 use Rattle.rules.specs.PlaceRules.{queuedCount, countersFit}
 use Rattle.rules.specs.WordRules.{readyWord, waitingWord, readyFits, waitingFits, wordsFit}
 use Rattle.rules.specs.ReferenceRules.{holderFits, referencesFit}
-use Rattle.rules.specs.MailboxRules.{positionsFit, mailboxesFit}
+use Rattle.rules.specs.MailboxRules.{mailboxesFit}
 use Rattle.rules.specs.PoolRules.{promisedCount, occurrences, entriesFit, objectsFit, poolFits, poolsFit}
 use Rattle.rules.specs.Hanging.{hangsTogether}
 use Rattle.steps.specs.Refusal.{refusalOf}

@@ -10,7 +10,8 @@ use Rattle.kernel.proofs.Lengths.{length-mapped, read-within}
 use Rattle.kernel.proofs.Loops.{first-none}
 use Rattle.kernel.specs.Walk.{firstFrom}
 use Rattle.rules.proofs.HangingLaws.{finds-later, finds-here, used-of-le}
-use Rattle.rules.specs.MailboxRules.{positionsFit, mailboxFits}
+use Rattle.library.specs.Ring.{positionsFit}
+use Rattle.rules.specs.MailboxRules.{mailboxFits}
 use Rattle.rules.specs.Limits.{firstBad}
 use Rattle.library.specs.Tables.{blankMailbox}
 use Rattle.library.specs.declared.tables.Mailbox.{Mailbox}
