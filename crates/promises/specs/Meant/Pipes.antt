@@ -12,9 +12,8 @@ use lib.ListN.{length, getD, length-set}
 use lib.Seq.{getD-set-same, getD-set-other, ext-getD}
 use borrow.Author.Tests.{eq-eqb, ne-eqb, lt-leb, le-leb, ltb-true, ltb-false, leb-true, leb-false}
 use Rattle.kernel.proofs.Cases.{split, same-or, in-or-out, both-means, contrary}
-use Rattle.library.specs.declared.ring.Positions.{Positions}
 use Rattle.library.specs.Ring.{positionsFit}
-use Rattle.library.proofs.RingLaws.{Fitting, fit-of}
+use Rattle.library.proofs.RingLaws.{fit-of}
 use Rattle.pipes.specs.declared.table.Pipe.{Pipe}
 use Rattle.pipes.specs.declared.table.Pipes.{Pipes}
 use Rattle.pipes.specs.declared.opening.Opened.{Opened}
@@ -26,8 +25,8 @@ use Rattle.pipes.specs.Opening.{pipesFresh, pipeReset, pipeResumed}
 use Rattle.pipes.specs.Transfer.{goesAhead, stopped, goneOn, writeCount, readCount, writeAnswer, bufferWritten, readAnswer, targetRead}
 use Rattle.pipes.proofs.CarryingLaws.{length-carried, carried-at, carried-off, least}
 use Rattle.pipes.proofs.TransferLaws.{Unrefused, unrefused}
-use Rattle.promises.specs.Paper.Together.{PositionsFit}
 use Rattle.promises.specs.Paper.Writer.{LeastOf}
+use Rattle.promises.specs.Meant.Together.{fit-paper, paper-fit}
 use Rattle.promises.specs.Meant.Writer.{least-one}
 use Rattle.promises.specs.Paper.Pipes.{
   noPipe,
@@ -51,13 +50,6 @@ use Rattle.promises.specs.Paper.Pipes.{
 }
 
 -- ---- refusals
-
--- the rules of positions, as the paper has them and as the laws do
-fit-paper : {q : Positions} {n : ℕ} → Fitting q n → PositionsFit q n
-fit-paper f = record { count = f .count; read = f .read; write = f .write; follows = f .follows }
-
-paper-fit : {q : Positions} {n : ℕ} → PositionsFit q n → Fitting q n
-paper-fit f = record { count = f .count; read = f .read; write = f .write; follows = f .follows }
 
 -- there are two numbers
 pub unfit-number : {t : Pipes} {i n m : ℕ} → PipeUnfit t i n m → 5 ≤ m

@@ -19,6 +19,8 @@ use Rattle.kernel.specs.Waiters.{firstReady}
 use Rattle.kernel.proofs.Cases.{split, same-or, contrary}
 use Rattle.kernel.proofs.WalkLaws.{count-agree}
 use Rattle.kernel.proofs.TablesLaws.{thread-blank, used-all as rows-used}
+use Rattle.library.specs.declared.ring.Positions.{Positions}
+use Rattle.library.proofs.RingLaws.{Fitting}
 use Rattle.library.specs.declared.sizes.Sizes.{Sizes}
 use Rattle.library.specs.declared.tables.Pool.{Pool}
 use Rattle.library.specs.declared.tables.Tables.{Tables}
@@ -47,6 +49,7 @@ use Rattle.promises.specs.Paper.Together.{
   PoolFits,
   WordsAgree,
   HangTogether,
+  PositionsFit,
 }
 use Rattle.promises.specs.Together.Tests.{used-all}
 use Rattle.promises.specs.Together.Good.{GoodSizes, CallKind, GoodThread, SemaphoreCounter, QueueCounter, GoodPool, Good, RulesHold}
@@ -56,6 +59,13 @@ use Rattle.promises.specs.Meant.Moves.{found-is}
 use Rattle.promises.specs.Meant.Words.{said-agree, agree-said}
 use Rattle.promises.specs.Meant.Settling.{running-first}
 use Rattle.promises.specs.Meant.Only.{first-only}
+
+-- the rules of positions, as the paper has them and as the laws do
+pub fit-paper : {q : Positions} {n : ℕ} → Fitting q n → PositionsFit q n
+fit-paper f = record { count = f .count; read = f .read; write = f .write; follows = f .follows }
+
+pub paper-fit : {q : Positions} {n : ℕ} → PositionsFit q n → Fitting q n
+paper-fit f = record { count = f .count; read = f .read; write = f .write; follows = f .follows }
 
 -- ---- counting
 
@@ -465,9 +475,7 @@ module _ (t : Tables) (c : Clock) where
         readers = λ m l. at-queue s (32 + m) (32 + m % 256) (readers-at s m l) (g .counters .readers m l);
         holder = g .references .holder;
         holds = g .references .holds;
-        mailboxes = λ m l.
-            let b = g .mailboxes m l in
-            record { count = b .count; read = b .read; write = b .write; follows = b .follows };
+        mailboxes = λ m l. fit-paper (g .mailboxes m l);
         pools = λ q l.
             rw (promised-are s q)
             (pool-fits (w .pool q) (w .counter (16 + q)) (promisedCount k n q) (rw (pool-at s q l) at (g .pools q l)));
@@ -497,9 +505,7 @@ module _ (t : Tables) (c : Clock) where
           readers = λ m l. of-queue s (32 + m) (32 + m % 256) (readers-at s m l) (f .readers m l);
         };
         references = record { holder = f .holder; holds = f .holds };
-        mailboxes = λ m l.
-            let b = f .mailboxes m l in
-            record { count = b .count; read = b .read; write = b .write; follows = b .follows };
+        mailboxes = λ m l. paper-fit (f .mailboxes m l);
         pools = λ q l.
             rw (pool-at s q l)
             (fits-pool (w .pool q) (w .counter (16 + q)) (promisedCount k n q) (rw (promised-are s q) at (f .pools q l)));
