@@ -220,4 +220,5 @@ void continue_call(struct work *w, uint32_t i)
         }
     }
     finish(w, i, answer);
+    tell(w, (struct finished_call){ i, c.kind, c.object, c.operand, answer });
 }

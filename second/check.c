@@ -107,6 +107,7 @@ int main(void)
     check_words();
     check_traces();
     check_pipes();
+    check_account();
     printf("check: %u tests, %u failed\n", tests, failures);
     return failures == 0 && fflush(stdout) == 0 ? 0 : 1;
 }

@@ -55,5 +55,6 @@ void check_tables(void);
 void check_words(void);
 void check_traces(void);
 void check_pipes(void);
+void check_account(void);
 
 #endif

@@ -131,6 +131,74 @@ END
 "$out/second" --tables "$dir/words" | tail -n 10 > "$dir/got"
 same 'words'
 
+# small KIND CALLER OBJECT A TIMEOUT: a step of values below 256
+small() {
+    printf "$step"
+    printf "$(printf '\\%03o\\%03o\\%03o\\000\\000\\000\\%03o\\000\\000\\000\\%03o' "$@")"
+}
+
+# The account: a mailbox of 4 slots and a pool. Messages 11, 10 and 13 are
+# fetched, 12 is lost, 14 is there; object 7 is taken twice, at the end by an
+# interrupt.
+{
+    printf '\001\000\007\002\000\000\000\001\001\004'
+    for object in 8 9 7 3; do
+        small 22 255 0 $object 0
+    done
+    small 15 0 0 10 0
+    small 16 255 0 11 0
+    small 15 0 0 12 0
+    small 17 255 0 0 0
+    small 17 0 0 0 0
+    small 18 255 0 0 0
+    small 19 0 0 0 0
+    small 15 0 0 13 0
+    small 17 255 0 0 0
+    small 15 255 0 14 0
+    small 11 0 0 0 9
+    small 20 0 0 0 0
+    small 20 1 0 0 0
+    small 20 1 0 0 0
+    small 21 1 0 7 0
+    small 20 255 0 0 0
+} > "$dir/account"
+cat > "$dir/want" <<'END'
+mailbox posted fetched lost present
+0 5 3 1 1
+pool added free out
+0 4 2 2
+pool object thread step
+0 3 1 17
+0 7 255 20
+END
+"$out/second" --account "$dir/account" > "$dir/got"
+status 'account' 0 $?
+same 'account'
+"$out/second" --account < "$dir/account" > "$dir/got"
+same 'account from standard input'
+cat > "$dir/want" <<'END'
+mailbox posted fetched lost present
+0 5 3 1 1
+pool added free out
+0 4 3 1
+pool object thread step
+0 3 1 17
+stopped 20 12
+END
+head -c 269 "$dir/account" | "$out/second" --account > "$dir/got"
+status 'account cut short' 0 $?
+same 'account cut short'
+cat > "$dir/want" <<'END'
+mailbox posted fetched lost present
+pool added free out
+pool object thread step
+stopped 0 14
+END
+printf '\001\000\007\021\000\000\000\001\001\004' > "$dir/sizes"
+"$out/second" --account "$dir/sizes" > "$dir/got"
+status 'account without record 0' 0 $?
+same 'account without record 0'
+
 # No listing without a readable file; a clear message instead.
 : > "$dir/want"
 for file in "$dir/missing" "$dir"; do
@@ -144,6 +212,13 @@ status 'wrong option' 2 $?
 same 'wrong option'
 "$out/second" one two > "$dir/got" 2> /dev/null
 status 'two files' 2 $?
+for words in '--account --tables' '--tables --account'; do
+    # two words
+    # shellcheck disable=SC2086
+    "$out/second" $words "$dir/six" > "$dir/got" 2> /dev/null
+    status "$words" 2 $?
+    same "$words"
+done
 "$out/second" --help > "$dir/got"
 status 'help' 0 $?
 grep -q '^usage: second' "$dir/got" || { echo "check.sh: no usage"; failed=1; }

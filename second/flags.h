@@ -5,19 +5,12 @@
 #ifndef FLAGS_H
 #define FLAGS_H
 
-#include "model.h"
+#include "moment.h"
 
-/* An accepted step, with the tables before and after it. */
-struct moment {
-    const struct tables *before;
-    const struct step *step;
-    const struct result *result;
-    const struct tables *after;
-};
-
-/* Whether no flag was lost and none made up: of each thread those are pending
-   that were before and that the step signals to it, less what a wait of its
-   answers; and a wait that goes on with 0 answers all of them in its mask. */
+/* Whether an accepted step lost no flag and made none up: of each thread those
+   are pending that were before and that the step signals to it, less what a
+   wait of its answers; and a wait that goes on with 0 answers all of them in
+   its mask. */
 bool flags_add_up(const struct moment *m);
 
 /* What became of event waits that slept, and how often. */

@@ -1,4 +1,5 @@
-/* The listing program: second [--tables] [FILE]. */
+/* The listing program: second [--tables | --account] [FILE]. */
+#include "account.h"
 #include "trace.h"
 
 #include <errno.h>
@@ -9,10 +10,11 @@
 enum { EXIT_FINE = 0, EXIT_TROUBLE = 1, EXIT_USAGE = 2 };
 
 static const char USAGE[] =
-    "usage: second [--tables] [FILE]\n"
+    "usage: second [--tables | --account] [FILE]\n"
     "Lists the steps of a trace, read from FILE or from standard input.\n"
-    "  --tables  print the answer and all tables after each step's line\n"
-    "  --help    print this text\n";
+    "  --tables   print the answer and all tables after each step's line\n"
+    "  --account  print no steps, but what became of messages and objects\n"
+    "  --help     print this text\n";
 
 /* ---- printing --------------------------------------------------------- */
 
@@ -136,6 +138,13 @@ static int list_steps(struct reader *r, struct tables *t, bool tables)
 }
 
 /* "At a bad record `stopped`, its number (0 for 15 and 11), the code." */
+static void print_stop(const struct reader *r, int code)
+{
+    if (code != TRACE_END) {
+        printf("stopped %" PRIu32 " %d\n", r->record, code);
+    }
+}
+
 static void list_trace(const uint8_t *bytes, size_t length, bool tables)
 {
     static struct tables t;
@@ -148,9 +157,107 @@ static void list_trace(const uint8_t *bytes, size_t length, bool tables)
         fresh_tables(&t, &sizes, NULL);
         code = list_steps(&reader, &t, tables);
     }
-    if (code != TRACE_END) {
-        printf("stopped %" PRIu32 " %d\n", reader.record, code);
+    print_stop(&reader, code);
+}
+
+/* ---- the account ------------------------------------------------------ */
+
+static void print_boxes(const struct account *a)
+{
+    puts("mailbox posted fetched lost present");
+    for (uint32_t m = 0; m < a->sizes.mailboxes; m++) {
+        struct box_sums sums = sums_of_box(a, m);
+
+        printf("%" PRIu32 " %" PRIu32 " %" PRIu32 " %" PRIu32 " %" PRIu32
+               "\n", m, sums.posted, sums.fetched, sums.lost, sums.present);
     }
+}
+
+static void print_pools(const struct account *a)
+{
+    puts("pool added free out");
+    for (uint32_t p = 0; p < a->sizes.pools; p++) {
+        printf("%" PRIu32 " %" PRIu32 " %" PRIu32 " %" PRIu32 "\n", p,
+               a->pool[p].added, objects_with(a, p, FREE),
+               objects_with(a, p, OUT));
+    }
+}
+
+static void print_holders(const struct account *a, uint32_t p)
+{
+    for (uint32_t n = 0; n < POOL_OBJECTS; n++) {
+        const struct holding *h = &a->pool[p].object[n];
+
+        if (h->mark == OUT) {
+            printf("%" PRIu32 " %" PRIu32 " %" PRIu32 " %" PRIu32 "\n", p, n,
+                   h->thread, h->step);
+        }
+    }
+}
+
+static void print_account(const struct account *a)
+{
+    print_boxes(a);
+    print_pools(a);
+    puts("pool object thread step");
+    for (uint32_t p = 0; p < a->sizes.pools; p++) {
+        print_holders(a, p);
+    }
+}
+
+/* NULL, or what is wrong with the account of the step. */
+static const char *account_for(struct account *a, uint32_t record,
+                               struct tables *t, const struct step *s)
+{
+    struct tables before = *t;
+    struct finished_calls told;
+    struct result result = do_told_step(t, s, &told);
+    struct moment m = { &before, s, &result, t };
+
+    return follow_step(a, record, &told, &m);
+}
+
+/* As list_steps. The ledger must agree with the tables after each step. */
+static int account_steps(struct reader *r, struct tables *t,
+                         struct account *a, bool *agrees)
+{
+    for (;;) {
+        uint32_t record = r->record;
+        struct step step;
+        int code = trace_next(r, &step);
+        const char *wrong;
+
+        if (code != ACCEPTED) {
+            return code;
+        }
+        wrong = account_for(a, record, t, &step);
+        if (wrong != NULL) {
+            fprintf(stderr, "second: record %" PRIu32 ": %s\n", record,
+                    wrong);
+            *agrees = false;
+        }
+    }
+}
+
+/* The account of the steps before the end or a bad record. Without record 0
+   there are no mailboxes and no pools. */
+static bool account_trace(const uint8_t *bytes, size_t length)
+{
+    static struct tables t;
+    static struct account account;
+    struct reader reader;
+    struct sizes sizes;
+    bool agrees = true;
+    int code = trace_open(&reader, bytes, length, &sizes);
+
+    if (code == ACCEPTED) {
+        fresh_tables(&t, &sizes, NULL);
+        begin_account(&account, &t);
+        code = account_steps(&reader, &t, &account, &agrees);
+    }
+    print_account(&account);
+    print_stop(&reader, code);
+    return agrees;
 }
 
 /* ---- the program ------------------------------------------------------ */
@@ -158,15 +265,18 @@ static void list_trace(const uint8_t *bytes, size_t length, bool tables)
 struct options {
     const char *file; /* NULL: standard input */
     bool tables;
+    bool account;
     bool help;
 };
 
 static bool read_options(int argc, char **argv, struct options *o)
 {
-    *o = (struct options){ NULL, false, false };
+    *o = (struct options){ NULL, false, false, false };
     for (int k = 1; k < argc; k++) {
         if (strcmp(argv[k], "--tables") == 0) {
             o->tables = true;
+        } else if (strcmp(argv[k], "--account") == 0) {
+            o->account = true;
         } else if (strcmp(argv[k], "--help") == 0) {
             o->help = true;
         } else if (argv[k][0] == '-' || o->file != NULL) {
@@ -175,7 +285,7 @@ static bool read_options(int argc, char **argv, struct options *o)
             o->file = argv[k];
         }
     }
-    return true;
+    return !(o->tables && o->account);
 }
 
 static bool complain(const char *name)
@@ -213,6 +323,7 @@ int main(int argc, char **argv)
     static uint8_t bytes[TRACE_LIMIT + 1];
     struct options options;
     size_t length = 0;
+    bool fine = true;
 
     if (!read_options(argc, argv, &options)) {
         fputs(USAGE, stderr);
@@ -225,11 +336,15 @@ int main(int argc, char **argv)
     if (!read_input(options.file, bytes, sizeof bytes, &length)) {
         return EXIT_TROUBLE;
     }
-    list_trace(bytes, length, options.tables);
+    if (options.account) {
+        fine = account_trace(bytes, length);
+    } else {
+        list_trace(bytes, length, options.tables);
+    }
     errno = 0;
     if (fflush(stdout) != 0 || ferror(stdout)) {
         complain("standard output");
         return EXIT_TROUBLE;
     }
-    return EXIT_FINE;
+    return fine ? EXIT_FINE : EXIT_TROUBLE;
 }

@@ -1,6 +1,8 @@
 /* One step: its refusal or effect, settling, and its result. */
 #include "work.h"
 
+#include <stddef.h>
+
 /* "The falling number is the budget of twice the threads." */
 uint32_t settling_budget(const struct tables *t)
 {
@@ -38,14 +40,30 @@ static struct result refused(const struct tables *t, uint32_t code)
     return r;
 }
 
-struct result do_step(struct tables *t, const struct step *s)
+/* A call that the step itself answered, with its answer. Its effect came before
+   anything that settling does, so it is told first. */
+static void finish_own(struct work *w, const struct step *s,
+                       struct answer answer)
 {
-    struct work w = { t, 0, 0 };
+    if (s->caller != INTERRUPT) {
+        finish(w, s->caller, answer);
+    }
+    tell(w, (struct finished_call){ s->caller, s->kind, s->object, s->a,
+                                    answer });
+}
+
+struct result do_told_step(struct tables *t, const struct step *s,
+                           struct finished_calls *told)
+{
+    struct work w = { t, 0, 0, told };
     struct answer answer = { MSG_OK, 0 };
     struct result r = { 0 };
     bool answered = true;
     uint32_t code = refusal_of(t, s);
 
+    if (told != NULL) {
+        told->number = 0;
+    }
     if (code != ACCEPTED) {
         return refused(t, code);
     }
@@ -54,8 +72,8 @@ struct result do_step(struct tables *t, const struct step *s)
     } else {
         act(&w, s);
     }
-    if (answered && s->caller != INTERRUPT) {
-        finish(&w, s->caller, answer);
+    if (answered) {
+        finish_own(&w, s, answer);
     }
     r.continued = settle(&w);
     make_words(t);
@@ -66,4 +84,9 @@ struct result do_step(struct tables *t, const struct step *s)
        which may be in this very step: so it is the result's in every case. */
     r.answer = s->caller == INTERRUPT ? answer : t->thread[s->caller].last;
     return r;
+}
+
+struct result do_step(struct tables *t, const struct step *s)
+{
+    return do_told_step(t, s, NULL);
 }

@@ -196,6 +196,22 @@ struct result {
     uint32_t continued; /* not the paper's: calls continued while settling */
 };
 
+/* A call that finished: who made it, what it asked for, what it answered. */
+struct finished_call {
+    uint32_t caller; /* 255: an interrupt */
+    uint32_t kind;
+    uint32_t object;
+    uint32_t operand;
+    struct answer answer;
+};
+
+/* The calls that one step finished, the first to finish first. A thread
+   finishes one at most; an interrupt's answered call is one too. */
+struct finished_calls {
+    uint32_t number;
+    struct finished_call call[MAX_THREADS + 1];
+};
+
 /* tables.c */
 bool sizes_in_limits(const struct sizes *sizes);
 /* Without a frequency (NULL) it is 1000. Refused with 14 for a size, then 6
@@ -226,5 +242,8 @@ uint32_t refusal_of(const struct tables *t, const struct step *s);
 /* model.c */
 uint32_t settling_budget(const struct tables *t);
 struct result do_step(struct tables *t, const struct step *s);
+/* The same step, which also tells the calls that it finished. */
+struct result do_told_step(struct tables *t, const struct step *s,
+                           struct finished_calls *told);
 
 #endif

@@ -7,9 +7,12 @@
  *   - a rule can be named exactly where the tables are broken;
  *   - where it does not, it stays (but for a size's, since the director has
  *     an object in mind), and "accepted steps keep it so";
- *   - no accepted step loses an event flag or makes one up.
+ *   - no accepted step loses an event flag or makes one up;
+ *   - none loses a message or an object or makes one up. The ledger begins
+ *     anew where a change of the tables made it untrue.
  */
 #include "broken.h"
+#include "cases.h"
 #include "director.h"
 #include "flags.h"
 
@@ -22,6 +25,7 @@
 enum {
     STEPS = 150,
     CHANGES = 12,
+    STOCK_PERCENT = 10,
     WORD = sizeof(uint32_t),
     FIRST = offsetof(struct tables, thread) / WORD /* word after the sizes */
 };
@@ -32,8 +36,13 @@ static struct {
     uint64_t kept;
     uint64_t broken;
     uint32_t most_continued;
+    uint64_t stocked;
+    uint64_t begun; /* ledgers, from tables as a change left them */
     struct flags_seen flags;
+    struct cases_seen cases;
 } seen;
+
+static struct account account;
 
 static void expect(bool fine, uint64_t seed, uint32_t step, const char *what)
 {
@@ -132,12 +141,78 @@ static void change_something(struct random *r, uint64_t seed, uint32_t step,
     *t = old;
 }
 
+/* Other messages, from another place on: whoever waits there goes on waiting,
+   for what is there now. */
+static void stock_box(struct random *r, struct mailbox *box, uint32_t slots)
+{
+    box->read = random_below(r, slots);
+    box->count = random_below(r, slots + 1);
+    box->write = (box->read + box->count) % slots;
+    for (uint32_t k = 0; k < slots; k++) {
+        box->slot[k] = (int32_t)random_below(r, 1000) - 10;
+    }
+}
+
+/* Objects that are not in the list come or go as out, or come to the list. */
+static void stock_pool(struct random *r, struct pool *pool)
+{
+    for (uint32_t n = 0; n < POOL_OBJECTS; n++) {
+        if (pool->mark[n] == FREE || random_chance(r, 60)) {
+            continue;
+        }
+        pool->mark[n] = random_chance(r, 40) ? OUT : ABSENT;
+        if (pool->counter >= 0 && random_chance(r, 20)) {
+            pool->mark[n] = FREE;
+            pool->list[pool->length++] = n;
+            pool->counter++;
+        }
+    }
+}
+
+/* Messages and objects that no step brought, in tables that hang together. */
+static void change_stock(struct random *r, uint64_t seed, uint32_t step,
+                         struct tables *t)
+{
+    if (!random_chance(r, STOCK_PERCENT)) {
+        return;
+    }
+    seen.stocked++;
+    if (random_chance(r, 50)) {
+        uint32_t m = random_below(r, t->sizes.mailboxes);
+
+        stock_box(r, &t->mailbox[m], t->sizes.slots[m]);
+    } else {
+        stock_pool(r, &t->pool[random_below(r, t->sizes.pools)]);
+    }
+    expect(tables_hang_together(t), seed, step, "other stock does not hang");
+}
+
+/* What was in these tables before counts as posted, added, handed over. */
+static void go_on_with_account(const struct tables *t)
+{
+    if (unlike_tables(&account, t) != NULL) {
+        seen.begun++;
+        begin_account(&account, t);
+    }
+}
+
+static void expect_account(uint64_t seed, uint32_t step,
+                           const struct moment *m,
+                           const struct finished_calls *told)
+{
+    const char *wrong = follow_step(&account, step, told, m);
+
+    expect(wrong == NULL, seed, step, wrong);
+    note_cases(&seen.cases, &account, step, told, m);
+}
+
 static void shaken_step(struct director *d, uint64_t seed, uint32_t step,
                         struct tables *t)
 {
     struct step s = next_step(d, t);
     struct tables before = *t;
-    struct result r = do_step(t, &s);
+    struct finished_calls told;
+    struct result r = do_told_step(t, &s, &told);
     struct moment m = { &before, &s, &r, t };
 
     expect(tables_hang_together(t), seed, step, "tables do not hang");
@@ -146,8 +221,10 @@ static void shaken_step(struct director *d, uint64_t seed, uint32_t step,
         seen.accepted++;
         expect(flags_add_up(&m), seed, step, "flags lost or made up");
         note_flags(&seen.flags, &m);
+        expect_account(seed, step, &m, &told);
     } else {
         seen.refused++;
+        expect(told.number == 0, seed, step, "a refused step told a call");
     }
     if (r.continued > seen.most_continued) {
         seen.most_continued = r.continued;
@@ -165,10 +242,13 @@ static void shake(uint64_t seed)
 
     fresh_tables(&t, &z, NULL);
     begin_flags(&seen.flags);
+    begin_account(&account, &t);
     for (uint32_t step = 1; step <= STEPS; step++) {
         for (uint32_t k = random_below(&random, CHANGES); k > 0; k--) {
             change_something(&random, seed, step, &t);
         }
+        change_stock(&random, seed, step, &t);
+        go_on_with_account(&t);
         shaken_step(&d, seed, step, &t);
     }
 }
@@ -193,5 +273,8 @@ int main(int argc, char **argv)
            "; with another message %" PRIu64 ", flags kept %" PRIu64 "\n",
            seen.flags.woken, seen.flags.empty, seen.flags.timed_out,
            seen.flags.kept);
+    printf("stocks changed %" PRIu64 ", ledgers begun on changed tables %"
+           PRIu64 "\n", seen.stocked, seen.begun);
+    print_cases(&seen.cases);
     return fflush(stdout) == 0 ? 0 : 1;
 }

@@ -8,10 +8,13 @@
  *   - a call that slept is finished by being continued, and in no other way;
  *   - no event flag is lost, none is made up, and an event wait that goes on
  *     with 0 answers one at least;
+ *   - no message and no object is lost, and none is made up: the ledger of
+ *     account.c is run over every step;
  *   - a refused step keeps all bytes and gives masks, message and datum 0;
  *   - a clean trace, read and written again, gives the same bytes.
  * At the end it prints what the traces covered.
  */
+#include "cases.h"
 #include "flags.h"
 #include "scenario.h"
 #include "trace.h"
@@ -38,7 +41,10 @@ static struct {
     uint32_t most_woken;
     uint32_t tightest_percent; /* of the budget */
     struct flags_seen flags;
+    struct cases_seen cases;
 } seen;
+
+static struct account account;
 
 static void fail(uint64_t seed, uint32_t record, const char *what)
 {
@@ -172,15 +178,26 @@ static void expect_flags(uint64_t seed, uint32_t record,
     expect(seen.flags.empty == 0, seed, record, "woken by events, no flag");
 }
 
+static void expect_account(uint64_t seed, uint32_t record,
+                           const struct moment *m,
+                           const struct finished_calls *told)
+{
+    const char *wrong = follow_step(&account, record, told, m);
+
+    expect(wrong == NULL, seed, record, wrong);
+    note_cases(&seen.cases, &account, record, told, m);
+}
+
 static void expect_nothing(uint64_t seed, uint32_t record,
-                           const struct moment *m)
+                           const struct moment *m,
+                           const struct finished_calls *told)
 {
     static const struct answer none = { 0, 0 };
     const struct result *r = m->result;
 
     expect(memcmp(m->before, m->after, sizeof *m->before) == 0, seed, record,
            "a refused step changed something");
-    expect(r->woken == 0 && r->finished == 0
+    expect(r->woken == 0 && r->finished == 0 && told->number == 0
            && memcmp(&r->answer, &none, sizeof none) == 0,
            seed, record, "a refused step gave something");
 }
@@ -189,7 +206,8 @@ static void run_step(uint64_t seed, uint32_t record, struct tables *t,
                      const struct step *s)
 {
     struct tables before = *t;
-    struct result r = do_step(t, s);
+    struct finished_calls told;
+    struct result r = do_told_step(t, s, &told);
     struct moment m = { &before, s, &r, t };
     uint32_t all = (UINT32_C(1) << t->sizes.threads) - 1;
 
@@ -202,8 +220,9 @@ static void run_step(uint64_t seed, uint32_t record, struct tables *t,
         expect(finished_by_settling(s, &r), seed, record,
                "a call that slept was finished and not continued");
         expect_flags(seed, record, &m);
+        expect_account(seed, record, &m, &told);
     } else {
-        expect_nothing(seed, record, &m);
+        expect_nothing(seed, record, &m, &told);
     }
     note_step(&before, t, s, &r);
 }
@@ -234,6 +253,7 @@ static void run_trace(uint64_t seed, const struct bytes *trace)
     if (code == ACCEPTED) {
         fresh_tables(&t, &sizes, NULL);
         begin_flags(&seen.flags);
+        begin_account(&account, &t);
         while ((code = trace_next(&reader, &steps[count])) == ACCEPTED) {
             run_step(seed, reader.record - 1, &t, &steps[count]);
             count++;
@@ -297,6 +317,7 @@ static void print_seen(void)
     printf("steps leaving a ready thread unfinished %" PRIu64 "\n",
            seen.unfinished_ready);
     print_flags();
+    print_cases(&seen.cases);
     printf("most continued %" PRIu32 " (%" PRIu32 "%% of a budget), "
            "most woken %" PRIu32 "\n",
            seen.most_continued, seen.tightest_percent, seen.most_woken);

@@ -4,6 +4,8 @@
  */
 #include "work.h"
 
+#include <stddef.h>
+
 static uint32_t bit_of(uint32_t i)
 {
     return UINT32_C(1) << i;
@@ -38,6 +40,13 @@ void finish(struct work *w, uint32_t i, struct answer answer)
     th->awaited = 0;
     th->last = answer;
     w->finished |= bit_of(i);
+}
+
+void tell(struct work *w, struct finished_call c)
+{
+    if (w->told != NULL && w->told->number <= MAX_THREADS) {
+        w->told->call[w->told->number++] = c;
+    }
 }
 
 /* Asked for places that have a counter only: not a reference, not nowhere. */

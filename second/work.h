@@ -9,17 +9,20 @@
 
 /* The tables that the step changes in place, and the two masks that its
    result collects. Woken is about events, not the end state: a thread made
-   ready and asleep again within the step would keep its bit. */
+   ready and asleep again within the step would keep its bit. Whoever asks is
+   told the finished calls; nothing here reads them. */
 struct work {
     struct tables *t;
     uint32_t woken;
     uint32_t finished;
+    struct finished_calls *told; /* NULL: nobody asks */
 };
 
 /* waits.c: threads are made ready, finish their calls, and go to sleep. */
 int32_t as_message(uint32_t a);
 void make_ready(struct work *w, uint32_t i, int32_t message);
 void finish(struct work *w, uint32_t i, struct answer answer);
+void tell(struct work *w, struct finished_call c);
 void add_to(int32_t *counter, int by);
 void release_first(struct work *w, struct place at, int32_t message);
 void release_all(struct work *w, struct place at, int32_t message);

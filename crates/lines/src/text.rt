@@ -45,7 +45,7 @@ pub(crate) fn put_text(out: &mut [u8], at: usize, text: &[u8]) -> usize {
     end
 }
 
-pub(crate) fn put_digits(out: &mut [u8], at: usize, n: u64) -> usize {
+fn put_digits(out: &mut [u8], at: usize, n: u64) -> usize {
     let mut digits = [0u8; 20];
     let k = io::decimal(n, &mut digits);
     put_text(out, at, &digits[..k])
@@ -73,7 +73,7 @@ fn put_field(out: &mut [u8], at: usize, field: u64) -> usize {
     }
 }
 
-pub(crate) fn put_fields(out: &mut [u8], at: usize, fields: &[u64]) -> usize {
+fn put_fields(out: &mut [u8], at: usize, fields: &[u64]) -> usize {
     let mut end = at;
     let mut i: usize = 0;
     while i < fields.len() {
@@ -91,7 +91,7 @@ pub(crate) fn write_out(out: &[u8], at: usize) -> usize {
 }
 
 // The end of a row, where the buffer may be nearly full.
-pub(crate) fn end_row(out: &mut [u8], at: usize) -> usize {
+fn end_row(out: &mut [u8], at: usize) -> usize {
     let end = put_byte(out, at, b'\n');
     if NEARLY_FULL < end {
         write_out(out, end)
@@ -111,5 +111,12 @@ pub(crate) fn put_row(
     let named = put_text(out, at, word);
     let first = put_fields(out, named, fields);
     let end = put_fields(out, first, more);
+    end_row(out, end)
+}
+
+// A row of numbers alone.
+pub(crate) fn put_numbers(out: &mut [u8], at: usize, first: u64, fields: &[u64]) -> usize {
+    let number = put_digits(out, at, first);
+    let end = put_fields(out, number, fields);
     end_row(out, end)
 }

@@ -1,13 +1,15 @@
-// listing [--tables] [FILE]: prints the listing of a trace, which it reads from FILE or from standard input.
+// listing [--tables | --account] [FILE]: prints the listing of a trace, or its account; the trace is read from FILE or from standard input.
 // All that it decides itself is which words are options; the reading of a trace, the steps and the lines are libraries.
 use libc::STDERR_FILENO;
 use libc::STDIN_FILENO;
 use libc::STDOUT_FILENO;
+use lines::account_trace;
 use lines::list_trace;
 
 // What the arguments ask for. `file` is the argument that names the trace, 0 for none.
 struct Options {
     whole: bool,
+    account: bool,
     help: bool,
     wrong: bool,
     file: usize,
@@ -47,6 +49,8 @@ fn with_word(o: Options, i: usize, word: &[u8]) -> Options {
     let mut r = o;
     if is_same(word, b"--tables") {
         r.whole = true;
+    } else if is_same(word, b"--account") {
+        r.account = true;
     } else if is_same(word, b"--help") {
         r.help = true;
     } else if is_option(word) {
@@ -69,6 +73,7 @@ fn with_argument(o: Options, i: usize) -> Options {
 fn read_options() -> Options {
     let mut o = Options {
         whole: false,
+        account: false,
         help: false,
         wrong: false,
         file: 0,
@@ -83,7 +88,7 @@ fn read_options() -> Options {
 }
 
 fn print_usage(fd: i32) {
-    io::write_all(fd, b"usage: listing [--tables] [FILE]\n");
+    io::write_all(fd, b"usage: listing [--tables | --account] [FILE]\n");
     io::write_all(
         fd,
         b"Lists the steps of a trace, read from FILE or from standard input.\n",
@@ -91,6 +96,10 @@ fn print_usage(fd: i32) {
     io::write_all(
         fd,
         b"  --tables  print the answer and all tables after each step's line\n",
+    );
+    io::write_all(
+        fd,
+        b"  --account print what was posted, fetched, lost and added, and who has what\n",
     );
     io::write_all(fd, b"  --help    print this text\n");
 }
@@ -102,8 +111,12 @@ fn complain(what: &[u8]) {
 }
 
 // A write that failed has left its error.
-fn list_bytes(bytes: &[u8], whole: bool) {
-    list_trace(bytes, whole);
+fn list_bytes(bytes: &[u8], o: Options) {
+    if o.account {
+        account_trace(bytes);
+    } else {
+        list_trace(bytes, o.whole);
+    }
     if os::errno() != 0 {
         complain(b"standard output");
     }
@@ -111,17 +124,17 @@ fn list_bytes(bytes: &[u8], whole: bool) {
 
 // The longest trace and a byte more, to see refusal 15. Nothing is printed before all is read.
 // errno is 0 here: `os::arg` has just set it, and an open that succeeds leaves it.
-fn list_from(fd: i32, what: &[u8], whole: bool) {
+fn list_from(fd: i32, what: &[u8], o: Options) {
     let mut bytes = [0u8; 60001];
     let n = io::read_full(fd, &mut bytes);
     if os::errno() != 0 {
         complain(what);
     } else {
-        list_bytes(&bytes[..n], whole);
+        list_bytes(&bytes[..n], o);
     }
 }
 
-fn list_file(i: usize, whole: bool) {
+fn list_file(i: usize, o: Options) {
     let mut path = io::buffer();
     let n = os::arg(i, &mut path);
     if os::errno() != 0 {
@@ -133,25 +146,30 @@ fn list_file(i: usize, whole: bool) {
         complain(&path[..n]);
         return;
     }
-    list_from(fd, &path[..n], whole);
+    list_from(fd, &path[..n], o);
     libc::close(fd);
 }
 
-fn list_input(whole: bool) {
+fn list_input(o: Options) {
     let mut name = io::buffer();
     os::arg(0, &mut name);
-    list_from(STDIN_FILENO, b"standard input", whole);
+    list_from(STDIN_FILENO, b"standard input", o);
+}
+
+// The account has no tables after each step.
+fn is_wrong(o: Options) -> bool {
+    o.wrong || (o.whole && o.account)
 }
 
 fn main() {
     let o = read_options();
-    if o.wrong {
+    if is_wrong(o) {
         print_usage(STDERR_FILENO);
     } else if o.help {
         print_usage(STDOUT_FILENO);
     } else if o.file != 0 {
-        list_file(o.file, o.whole);
+        list_file(o.file, o);
     } else {
-        list_input(o.whole);
+        list_input(o);
     }
 }

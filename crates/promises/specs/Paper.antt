@@ -16,3 +16,5 @@ pub mod Boundary
 pub mod Waking
 pub mod Run
 pub mod Flags
+pub mod History
+pub mod Ledger

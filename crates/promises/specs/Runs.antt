@@ -17,3 +17,13 @@ pub mod OwnSleep
 pub mod Moments
 pub mod Accounts
 pub mod Pipes
+pub mod Boxes
+pub mod Dealing
+pub mod Deeds
+pub mod Seen
+pub mod Histories
+pub mod Counting
+pub mod Objects
+pub mod Ledgers
+pub mod Tallied
+pub mod Takers

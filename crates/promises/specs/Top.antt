@@ -2,8 +2,10 @@
 pub mod Demands
 pub mod RuledOut
 pub mod Pipes
+pub mod Ledgers
 pub mod Facts
 pub mod Shown
 pub mod ShownArms
 pub mod ShownRest
 pub mod ShownPipes
+pub mod ShownLedgers

@@ -1,14 +1,22 @@
 // Recorded traces, each named for what it shows: a damaged one for each refusal of the reader, and those of a plant. `steps/` has
-// them in words, `data/` as they were recorded. `stdout` holds the second program's listings of them,
+// them in words, `data/` as they were recorded. `stdout` holds the second program's listings of them, and of some their accounts,
 // and for the writer what document 01's words give.
 use kernel::kinds::TICK;
 use libc::STDOUT_FILENO;
 use library::calls::Step;
 use library::sizes::Sizes;
+use lines::account_trace;
 use lines::list_trace;
 use trace::writer::Written;
 use trace::writer::write_sizes;
 use trace::writer::write_step;
+
+// What is shown of a trace: a line for each step, these with all tables, or its account.
+const STEPS: u8 = 0;
+
+const TABLES: u8 = 1;
+
+const ACCOUNT: u8 = 2;
 
 // A file's name without its ending, `.trace`.
 fn print_title(path: &[u8]) {
@@ -19,8 +27,16 @@ fn print_title(path: &[u8]) {
     io::write_all(STDOUT_FILENO, b"\n");
 }
 
+fn print_trace(bytes: &[u8], view: u8) {
+    if view == ACCOUNT {
+        account_trace(bytes);
+    } else {
+        list_trace(bytes, view == TABLES);
+    }
+}
+
 // The trace in a file, under its name. A file that is not there shows as one more line on standard error, and as a missing listing.
-fn show(path: &[u8], whole: bool) {
+fn show(path: &[u8], view: u8) {
     print_title(path);
     let fd = os::open_read(path);
     if fd < 0 {
@@ -29,18 +45,18 @@ fn show(path: &[u8], whole: bool) {
     }
     let mut bytes = [0u8; 60001];
     let n = io::read_full(fd, &mut bytes);
-    list_trace(&bytes[..n], whole);
+    print_trace(&bytes[..n], view);
     libc::close(fd);
 }
 
 // Each of some files, whose names have a space after them.
-fn show_all(names: &[u8], whole: bool) {
+fn show_all(names: &[u8], view: u8) {
     let mut from: usize = 0;
     let mut i: usize = 0;
     while i < names.len() {
         if names[i] == b' ' {
             if from <= i {
-                show(&names[from..i], whole);
+                show(&names[from..i], view);
             }
             from = i + 1;
         }
@@ -129,7 +145,7 @@ fn write_all_cases() {
     step_into_60001(59988);
 }
 
-// Every refusal of the trace reader, on a damaged trace each; then the traces of a plant.
+// Every refusal of the trace reader, on a damaged trace each; then the traces of a plant, and accounts.
 fn main() {
     show_all(
         b"11-empty.trace \
@@ -146,10 +162,11 @@ fn main() {
         14-nine-references.trace \
         14-no-thread.trace \
         15-one-byte-more-than-60000.trace ",
-        false,
+        STEPS,
     );
     show_all(
         b"batch-mailbox.trace \
+        dosing-account.trace \
         event-valves.trace \
         filler-two-stations.trace \
         label-queue.trace \
@@ -157,11 +174,15 @@ fn main() {
         sleep-until.trace \
         timeout-against-signal.trace \
         tote-pool.trace ",
-        false,
+        STEPS,
     );
     show_all(
         b"two-flags-one-wait.trace whole-line.trace words-on-the-screen.trace ",
-        true,
+        TABLES,
+    );
+    show_all(
+        b"batch-mailbox.trace dosing-account.trace tote-pool.trace whole-line.trace ",
+        ACCOUNT,
     );
     write_all_cases();
 }

@@ -27,7 +27,7 @@ use Rattle.promises.specs.Runs.OneStep.{sizes-after, flags-of}
 use Rattle.promises.specs.Runs.Moments.{momentOf, moments, Going, host, going-on, no-bit}
 
 -- only the message 0 is 0
-not-zero : (m : ℤ) → m ≢ pos 0 → isZero m ≡ false
+pub not-zero : (m : ℤ) → m ≢ pos 0 → isZero m ≡ false
 not-zero (pos zero) n = absurd (n refl)
 not-zero (pos (suc m)) n = refl
 not-zero (negsuc m) n = refl

@@ -104,15 +104,15 @@ pipesRan t (c ∷ cs) = pipesRan (pipeMoment t c .after) cs
 
 -- ---- lists of values
 
-length-listed : (f : ℕ → ℕ) (k : ℕ) → length (listed f k) ≡ k
+pub length-listed : (f : ℕ → ℕ) (k : ℕ) → length (listed f k) ≡ k
 length-listed f zero = refl
 length-listed f (suc k) = length-append (listed f k) (f k ∷ []) ∙ omega (arith, length-listed f k)
 
-listed-same : (f g : ℕ → ℕ) (k : ℕ) → ((j : ℕ) → j < k → f j ≡ g j) → listed f k ≡ listed g k
+pub listed-same : (f g : ℕ → ℕ) (k : ℕ) → ((j : ℕ) → j < k → f j ≡ g j) → listed f k ≡ listed g k
 listed-same f g zero h = refl
 listed-same f g (suc k) h = rw (listed-same f g k (λ j l. h j (omega arith)), h k (omega arith))
 
-listed-more : (f : ℕ → ℕ) (a k : ℕ) → listed f (a + k) ≡ listed f a ++ listed (λ j. f (a + j)) k
+pub listed-more : (f : ℕ → ℕ) (a k : ℕ) → listed f (a + k) ≡ listed f a ++ listed (λ j. f (a + j)) k
 listed-more f a zero = rw (add-zero a) (sym (append-nil (listed f a)))
 listed-more f a (suc k) =
     rw (add-suc a k, listed-more f a k) (append-assoc (listed f a) (listed (λ j. f (a + j)) k) (f (a + k) ∷ []))

@@ -4,11 +4,11 @@ use native.Mathlib.Omega.{arith}
 use mathlib.Core.Path.{_≡_, refl, sym, ap, _∙_, subst}
 use mathlib.Core.Logic.{_≢_, inl, inr}
 use mathlib.Core.Bool.{Bool, true, false, cond, not, _&&_, true≢false}
-use mathlib.Core.List.{List}
+use mathlib.Core.List.{List, [], _∷_}
 use lib.Dec.{eqb, ltb}
-use lib.ListN.{getD}
+use lib.ListN.{length, getD}
 use lib.IntN.{ℤ, pos, negsuc, natAbs, pos-ne-negsuc}
-use borrow.Author.Tests.{eqb-true, le-ltb}
+use borrow.Author.Tests.{eqb-true, eq-eqb, le-ltb}
 use Rattle.kernel.specs.declared.records.Answer.{Answer}
 use Rattle.kernel.specs.declared.records.Thread.{Thread}
 use Rattle.kernel.specs.declared.records.Words.{Words}
@@ -24,6 +24,8 @@ use Rattle.promises.specs.Paper.Waking.{rowOf, inMask, heard, AnswerOf, 
 use Rattle.promises.specs.Paper.Flags.{awaitsFlags, FlagsAfter}
 use Rattle.promises.specs.Paper.Run.{TurnOf}
 use Rattle.promises.specs.Paper.Pipes.{pipeOf, Transfer, TransferOf}
+use Rattle.promises.specs.Paper.History.{Event, isOwn, OwnFirst}
+use Rattle.promises.specs.Paper.Ledger.{inBox, noPostings, ledger, BoxTold, Standing, standing}
 use Rattle.promises.specs.Runs.Pipes.{smaller-le, numbered}
 
 -- -1 and -2 are not 0
@@ -144,3 +146,55 @@ transfer-moves-most (TransferOf.in-reset p w a r) z = absurd (pos-ne-negsuc _ 1 
 transfer-moves-most {x = x} (TransferOf.moves p w j s y u v o) z =
     let same : j ≡ _ = ap natAbs (sym v ∙ z) in
     subst (λ (k : ℕ). (k ≤ x .wanted) × (k ≤ x .possible)) same (smaller-le s)
+
+-- ---- ledgers
+
+-- an event on object 0
+abbrev happens : ℕ → ℕ → ℕ → ℕ → Event
+happens step who kind value = record { step = step; who = who; kind = kind; object = 0; value = value }
+
+-- two lists of one number
+one-number : {a b : ℕ} → _≡_ {A = List ℕ} (a ∷ []) (b ∷ []) → a ≡ b
+one-number e = ap (λ (l : List ℕ). getD l 0 0) e
+
+-- no interrupt's call, and no reset, free or add, comes after another call of its step
+pub never-second : {e f : Event} {es : List Event} → OwnFirst (e ∷ f ∷ es) → isOwn f ≡ false
+never-second {f = f} (OwnFirst.first e h) = split (isOwn f) (λ p. absurd (omega (arith, ap length (rw p at h)))) (λ p. p)
+
+-- nothing is fetched where nothing was posted
+pub nothing-invented : {n i x : ℕ} {w : World} → let e = happens n i 17 x in BoxTold 0 noPostings (e ∷ []) (ledger 0 noPostings (e ∷ [])) w → ⊥
+nothing-invented b = omega (arith, ap length (b .handed))
+
+-- no message is fetched before the one that was posted first
+pub first-first : {n m k i j r x y z : ℕ} {w : World} → let es = happens n i 15 x ∷ happens m j 15 y ∷ happens k r 17 z ∷ [] in
+    BoxTold 0 noPostings es (ledger 0 noPostings es) w → z ≡ x
+first-first b = sym (one-number (b .handed))
+
+-- but the one that was posted ahead is
+pub ahead-first : {n m k i j r x y z : ℕ} {w : World} → let es = happens n i 15 x ∷ happens m j 16 y ∷ happens k r 17 z ∷ [] in
+    BoxTold 0 noPostings es (ledger 0 noPostings es) w → z ≡ y
+ahead-first b = sym (one-number (b .handed))
+
+-- a message that was fetched, or lost at a reset, is in the mailbox no more
+pub fetched-gone : {n m i j x y : ℕ} {w : World} → let es = happens n i 15 x ∷ happens m j 17 y ∷ [] in
+    BoxTold 0 noPostings es (ledger 0 noPostings es) w → inBox w 0 ≡ []
+fetched-gone b = sym (b .present)
+
+pub reset-empties : {n m i j x y : ℕ} {w : World} → let es = happens n i 15 x ∷ happens m j 18 y ∷ [] in
+    BoxTold 0 noPostings es (ledger 0 noPostings es) w → (inBox w 0 ≡ []) × (y ≡ 1)
+reset-empties b = (sym (b .present), omega (arith, b .lost))
+
+-- an object that is out is handed over to nobody else, and one that is free is not freed
+pub one-taker : (n m i j o : ℕ) (x : Standing) → x ≢ Standing.mistaken
+    → standing 0 o x (happens n i 20 o ∷ happens m j 20 o ∷ []) ≡ Standing.mistaken
+one-taker n m i j o Standing.absent d = rw (eq-eqb o o refl)
+one-taker n m i j o Standing.free d = rw (eq-eqb o o refl)
+one-taker n m i j o (Standing.out a b) d = rw (eq-eqb o o refl)
+one-taker n m i j o Standing.mistaken d = absurd (d refl)
+
+pub freed-once : (n m i j o : ℕ) (x : Standing) → x ≢ Standing.mistaken
+    → standing 0 o x (happens n i 21 o ∷ happens m j 21 o ∷ []) ≡ Standing.mistaken
+freed-once n m i j o Standing.absent d = rw (eq-eqb o o refl)
+freed-once n m i j o Standing.free d = rw (eq-eqb o o refl)
+freed-once n m i j o (Standing.out a b) d = rw (eq-eqb o o refl)
+freed-once n m i j o Standing.mistaken d = absurd (d refl)

@@ -6,10 +6,10 @@ use Rattle.recorded.proofs.show_all.Statement.{statement}
 use Rattle.recorded.proofs.show_all.Tie as tie
 
 abbrev Inv-loop : tie.InvT-loop
-Inv-loop names whole from₀ i₀ from i = i ≤ length names
+Inv-loop names view from₀ i₀ from i = i ≤ length names
 
 abbrev μ-loop : tie.MeasureT-loop
-μ-loop names whole from₀ i₀ from i = length names - i
+μ-loop names view from₀ i₀ from i = length names - i
 
 pub show-all-spec : {M : Type 1} → statement M
 show-all-spec =

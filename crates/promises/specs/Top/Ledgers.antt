@@ -1,0 +1,95 @@
+-- DOCUMENT 02, 5/13: NOTHING LOST, NOTHING INVENTED. From any tables that hang together, over any steps, refused ones included: what is in each
+-- mailbox, and where each object of each pool is, follows from the history of the steps; and from fresh tables the plain sentences.
+use Prim.Native.Nat.{ℕ, _+_, _≤_, _<_}
+use native.Mathlib.Nat.{zero-add}
+use native.Mathlib.Omega.{arith}
+use mathlib.Core.Path.{_≡_, sym, _∙_, subst}
+use mathlib.Core.Logic.{_≢_}
+use mathlib.Core.List.{List}
+use Rattle.kernel.specs.declared.clock.Clock.{Clock}
+use Rattle.kernel.specs.declared.units.Rate.{Rate}
+use Rattle.library.specs.declared.calls.Step.{Step}
+use Rattle.library.specs.declared.sizes.Sizes.{Sizes}
+use Rattle.library.specs.declared.tables.Tables.{Tables}
+use Rattle.library.specs.Fresh.{made}
+use Rattle.accounts.specs.Account.{freshAccount}
+use Rattle.promises.specs.Paper.World.{found}
+use Rattle.promises.specs.Paper.Fresh.{FreshTables, MadeOf}
+use Rattle.promises.specs.Paper.Host.{HostSteps}
+use Rattle.promises.specs.Paper.Together.{number}
+use Rattle.promises.specs.Paper.Run.{Moment}
+use Rattle.promises.specs.Paper.History.{Event, shownIn, total, posted, fetched, added, each, lostAt}
+use Rattle.promises.specs.Paper.Ledger.{Ledger, noPostings, opened, ledger, times, Standing, standing, standingIn, isOut, markIn, freeIn, Accounted, AccountOf}
+use Rattle.promises.specs.Meant.Fresh.{made-is}
+use Rattle.promises.specs.Runs.Run.{ran}
+use Rattle.promises.specs.Runs.Moments.{moments, Going}
+use Rattle.promises.specs.Runs.Ledgers.{accounted, accounted-fresh}
+use Rattle.promises.specs.Runs.Tallied.{tallied}
+use Rattle.promises.specs.Runs.Takers.{before-run, never-added, printed}
+use Rattle.promises.specs.Top.Demands.{fresh-going, run-going}
+
+-- from any tables that hang together: "messages present count as posted, objects free and out as added, those out as handed over"
+pub nothing-lost : (t : Tables) (c : Clock) → Going t c → (ss : List Step) → HostSteps ss
+    → Accounted (t .sizes) (opened t) (standingIn t) (moments t c ss) (ran t c ss .tables)
+nothing-lost t c g ss hs = accounted ss hs t c g (run-going ss hs t c g)
+
+-- and what is printed of it is the account of this history
+pub account-printed : (t : Tables) (c : Clock) (g : Going t c) (ss : List Step) (hs : HostSteps ss)
+    → AccountOf (tallied 1 freshAccount (moments t c ss)) (t .sizes) (standingIn t) (moments t c ss) (nothing-lost t c g ss hs .events)
+account-printed t c g ss hs =
+    let a = nothing-lost t c g ss hs in
+    printed ss hs t c g (standingIn t) (λ q o. before-run (markIn (found t) q o)) (a .events) (a .history) (a .object-right)
+
+-- ---- what follows of a run
+
+module _ {z : Sizes} {l : ℕ → Ledger} {st : ℕ → ℕ → Standing} {ms : List Moment} {u : Tables} (a : Accounted z l st ms u) (b : ℕ) (there : b < z .mailboxes) where
+  -- "each posting handed over at most once"
+  pub handed-once : (p : Event) → times p (ledger b (l b) (a .events) .given) ≤ 1
+  handed-once p = let x = a .box-once b there in omega (arith, x .kept p, x .once p)
+
+  -- what was handed over is neither lost nor in the mailbox
+  pub handed-gone : (p : Event) → times p (ledger b (l b) (a .events) .given) ≢ 0
+      → (times p (ledger b (l b) (a .events) .lost) ≡ 0) × (times p (ledger b (l b) (a .events) .present) ≡ 0)
+  handed-gone p h = let x = a .box-once b there in (omega (arith, x .kept p, x .once p, h), omega (arith, x .kept p, x .once p, h))
+
+-- ---- from fresh tables, where nothing was posted and no object added
+
+module _ (y : Sizes) (r : Rate) (legal : made y r .code ≡ 0) (ss : List Step) (hs : HostSteps ss) where
+  abbrev pub run : List Moment
+  run = moments (made y r .tables) (made y r .clock) ss
+
+  abbrev pub end : Tables
+  end = ran (made y r .tables) (made y r .clock) ss .tables
+
+  fresh : FreshTables y (made y r .tables)
+  fresh = by (made-is y r)
+    where
+      by : MadeOf y r (made y r) → FreshTables y (made y r .tables)
+      by (MadeOf.no-size n m) = absurd (omega (arith, m .code, legal))
+      by (MadeOf.no-frequency f n m) = absurd (omega (arith, m .code, legal))
+      by (MadeOf.fresh f p m) = m .tables
+
+  pub nothing-lost-fresh : Accounted y (λ b. noPostings) (λ q o. Standing.absent) run end
+  nothing-lost-fresh =
+      accounted-fresh y (made y r .tables) fresh (nothing-lost (made y r .tables) (made y r .clock) (fresh-going y r legal) ss hs)
+
+  -- "for each mailbox, messages whose post finished with 0, less those whose fetch finished with 0, less those present at each reset, equal
+  -- those in the mailbox now"
+  pub messages-sum : (b : ℕ) → b < y .mailboxes
+      → total (each (posted b)) (shownIn 1 run)
+      ≡ found end .box b .positions .count + total (each (fetched b)) (shownIn 1 run) + total (lostAt b) (shownIn 1 run)
+  messages-sum b there = omega (arith, nothing-lost-fresh .box-sum b there)
+
+  -- "For each pool, objects ever added equal those free plus those out"
+  pub objects-sum : (q : ℕ) → q < y .pools
+      → total (each (added q)) (shownIn 1 run)
+      ≡ freeIn (found end) q + number (λ o. isOut (standing q o Standing.absent (nothing-lost-fresh .events))) 32
+  objects-sum q there = sym (zero-add (total (each (added q)) (shownIn 1 run))) ∙ nothing-lost-fresh .pool-sum q there
+
+  -- and what `./account` prints is the account of this history
+  pub account-printed-fresh : AccountOf (tallied 1 freshAccount run) y (λ q o. Standing.absent) run (nothing-lost-fresh .events)
+  account-printed-fresh =
+      let a = nothing-lost-fresh in
+      subst (λ (z : Sizes). AccountOf (tallied 1 freshAccount run) z (λ q o. Standing.absent) run (a .events)) (fresh .sizes)
+      (printed ss hs (made y r .tables) (made y r .clock) (fresh-going y r legal) (λ q o. Standing.absent) (λ q o. never-added) (a .events) (a .history)
+      (λ q o there. a .object-right q o (rw (fresh .sizes) at there)))
