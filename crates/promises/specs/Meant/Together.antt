@@ -366,7 +366,7 @@ fits-queue : (c : ℤ) (n : ℕ) → QueueFits c n → QueueCounter c n
 fits-queue c zero (QueueFits.none e) = record { waiters = λ l. absurd (omega arith); none = λ q. e }
 fits-queue c (suc n) (QueueFits.waiters e) = record { waiters = λ l. e ∙ sym (minus-is n); none = λ q. absurd (omega arith) }
 
-zero-same : (m : ℤ) → isZero m ≡ same m (pos 0)
+pub zero-same : (m : ℤ) → isZero m ≡ same m (pos 0)
 zero-same (pos zero) = refl
 zero-same (pos (suc m)) = rw (lt-ltb 0 (suc m) (omega arith), le-ltb (suc m) 0 (omega arith))
 zero-same (negsuc m) = refl

@@ -5,9 +5,9 @@ use native.Mathlib.Omega.{arith}
 use mathlib.Core.Path.{_≡_, refl, sym, ap, _∙_, subst}
 use mathlib.Core.Logic.{_≢_, _⊎_, inl, inr}
 use mathlib.Core.Bool.{Bool, false, cond, _&&_, and-false}
-use mathlib.Core.List.{List, [], _∷_, _++_, append-assoc, append-nil}
+use mathlib.Core.List.{List, [], _∷_, _++_, append-assoc, append-nil, head-eq-of-cons-eq, tail-eq-of-cons-eq}
 use lib.Dec.{eqb}
-use lib.ListN.{length, getD, drop, length-append}
+use lib.ListN.{length, getD, length-append}
 use borrow.Author.Tests.{eq-eqb, ne-eqb}
 use Rattle.kernel.proofs.Cases.{split, same-or}
 use Rattle.library.specs.declared.sizes.Sizes.{Sizes}
@@ -134,13 +134,7 @@ dealt-as w y x es z b p h =
 
 -- ---- one event on a mailbox
 
--- the first of two equal lists, and the rest
-heads : {a c : ℕ} {y z : List ℕ} → (a ∷ y) ≡ (c ∷ z) → a ≡ c
-heads e = ap (λ (l : List ℕ). getD l 0 0) e
-
-tails : {a c : ℕ} {y z : List ℕ} → (a ∷ y) ≡ (c ∷ z) → y ≡ z
-tails e = ap (drop 1) e
-
+-- an empty list has no first
 no-head : {A : Type 0} {a : ℕ} {y : List ℕ} → [] ≡ (a ∷ y) → A
 no-head e = absurd (omega (arith, ap length e))
 
@@ -239,8 +233,8 @@ module _ (w x : World) (e : Event) (same-sizes : x .sizes ≡ w .sizes) (same-po
       told [] g l z = no-head z
       told (p ∷ ps) g l z =
           record {
-            present = tails z;
-            handed = values-append g (p ∷ []) ∙ rw (only .fetched-is, heads z);
+            present = tail-eq-of-cons-eq z;
+            handed = values-append g (p ∷ []) ∙ rw (only .fetched-is, head-eq-of-cons-eq z);
             lost = omega (arith, only .lost-is);
           }
 

@@ -19,7 +19,7 @@ use Rattle.library.specs.declared.sizes.Sizes.{Sizes}
 use Rattle.library.specs.declared.tables.Mailbox.{Mailbox}
 use Rattle.library.specs.declared.tables.Pool.{Pool}
 use Rattle.library.specs.declared.tables.Tables.{Tables}
-use Rattle.promises.specs.Paper.World.{World, put, threadTo, boxTo, poolTo, readyWith, madeReady, callEnded, ended, asleep, fallAsleep}
+use Rattle.promises.specs.Paper.World.{World, threadTo, boxTo, poolTo, readyWith, madeReady, callEnded, ended, asleep, fallAsleep}
 use Rattle.promises.specs.Paper.Rows.{
   TickOf,
   Ticks,
@@ -48,7 +48,7 @@ use Rattle.promises.specs.Paper.Together.{PositionsFit, isZero}
 use Rattle.promises.specs.Paper.Waking.{IsPost}
 use Rattle.promises.specs.Paper.History.{Event, isCounted, eventsOf}
 use Rattle.promises.specs.Paper.Ledger.{inBox, markIn}
-use Rattle.promises.specs.Runs.Keeping.{put-same, put-other}
+use Rattle.promises.specs.Runs.Keeping.{put-same, put-other, put-part}
 use Rattle.promises.specs.Runs.OneRow.{ended-other, ended-unfinished, ended-own, ended-finished}
 use Rattle.promises.specs.Runs.Boxes.{content, content-behind, content-ahead, content-taken}
 use Rattle.promises.specs.Runs.Dealing.{
@@ -93,22 +93,14 @@ calm-on a b =
     }
 
 -- one record changes, but neither its call nor its last answer
-put-call : (f : ℕ → Thread) (i : ℕ) (u : Thread) → u .call ≡ f i .call → (j : ℕ) → put f i u j .call ≡ f j .call
-put-call f i u e j =
-    same-or j i (λ x. rw x (ap (λ (v : Thread). v .call) (put-same f i u) ∙ e)) (λ d. ap (λ (v : Thread). v .call) (put-other f i j u d))
-
-put-answer : (f : ℕ → Thread) (i : ℕ) (u : Thread) → u .answer ≡ f i .answer → (j : ℕ) → put f i u j .answer ≡ f j .answer
-put-answer f i u e j =
-    same-or j i (λ x. rw x (ap (λ (v : Thread). v .answer) (put-same f i u) ∙ e)) (λ d. ap (λ (v : Thread). v .answer) (put-other f i j u d))
-
 pub calm-thread : (w : World) (i : ℕ) (u : Thread) → u .call ≡ w .thread i .call → u .answer ≡ w .thread i .answer → Calm w (threadTo w i u)
 calm-thread w i u c a =
     record {
       sizes = refl;
       boxes = refl;
       pools = refl;
-      calls = put-call (w .thread) i u c;
-      answers = put-answer (w .thread) i u a;
+      calls = put-part (λ (v : Thread). v .call) (w .thread) i u c;
+      answers = put-part (λ (v : Thread). v .answer) (w .thread) i u a;
       finished = λ j. refl;
       answer = refl;
     }
@@ -119,8 +111,8 @@ calm-ready w i m =
       sizes = refl;
       boxes = refl;
       pools = refl;
-      calls = put-call (w .thread) i (readyWith (w .thread i) m) refl;
-      answers = put-answer (w .thread) i (readyWith (w .thread i) m) refl;
+      calls = put-part (λ (v : Thread). v .call) (w .thread) i (readyWith (w .thread i) m) refl;
+      answers = put-part (λ (v : Thread). v .answer) (w .thread) i (readyWith (w .thread i) m) refl;
       finished = λ j. refl;
       answer = refl;
     }

@@ -17,24 +17,7 @@ use Rattle.library.specs.declared.calls.Step.{Step}
 use Rattle.library.specs.declared.tables.Tables.{Tables}
 use Rattle.library.specs.Tables.{opened}
 use Rattle.steps.specs.Stepping.{stepped}
-use Rattle.promises.specs.Paper.World.{
-  World,
-  found,
-  put,
-  counterTo,
-  boxTo,
-  poolTo,
-  threadTo,
-  readyWith,
-  madeReady,
-  callEnded,
-  ended,
-  asleep,
-  fallAsleep,
-  kept,
-  First,
-  Running,
-}
+use Rattle.promises.specs.Paper.World.{World, found, counterTo, boxTo, poolTo, threadTo, readyWith, madeReady, callEnded, ended, asleep, fallAsleep, kept, First, Running}
 use Rattle.promises.specs.Paper.Host.{Host}
 use Rattle.promises.specs.Paper.Rows.{
   TickOf,
@@ -54,7 +37,7 @@ use Rattle.promises.specs.Paper.Settling.{Continued, Settles}
 use Rattle.promises.specs.Paper.Step.{StepOf}
 use Rattle.promises.specs.Paper.Waking.{rowOf, inMask}
 use Rattle.promises.specs.Paper.Flags.{awaitsFlags}
-use Rattle.promises.specs.Runs.Keeping.{put-same, put-other, KeepsAct, act-keeps}
+use Rattle.promises.specs.Runs.Keeping.{put-same, put-other, put-part, KeepsAct, act-keeps}
 use Rattle.promises.specs.Runs.OneRow.{ended-other, ended-unfinished, ended-own, took-other, took-unfinished}
 use Rattle.promises.specs.Runs.OneStep.{bit-in, accepted, unbroken, held, someone}
 use Rattle.promises.specs.Meant.Callers.{caller-runs}
@@ -72,14 +55,9 @@ first-stays : (w x : World) (i : ℕ) → x .sizes ≡ w .sizes → ((j : ℕ) �
 first-stays w x i z h f =
     record { thread = rw z (f .thread); is-ready = h i ∙ f .is-ready; first = λ j l e. f .first j l (sym (h j) ∙ e) }
 
--- one record changes, but not its state
-put-state : (f : ℕ → Thread) (i : ℕ) (u : Thread) → u .state ≡ f i .state → (j : ℕ) → put f i u j .state ≡ f j .state
-put-state f i u e j =
-    same-or j i (λ x. rw x (ap (λ (v : Thread). v .state) (put-same f i u) ∙ e)) (λ d. ap (λ (v : Thread). v .state) (put-other f i j u d))
-
 -- a call that ends leaves all states
 ended-state : (w : World) (i : ℕ) (m : ℤ) (d j : ℕ) → ended w i m d .thread j .state ≡ w .thread j .state
-ended-state w i m d j = split (eqb i 255) (λ e. rw e) (λ e. rw e (put-state (w .thread) i (callEnded (w .thread i) m d) refl j))
+ended-state w i m d j = split (eqb i 255) (λ e. rw e) (λ e. rw e (put-part (λ (v : Thread). v .state) (w .thread) i (callEnded (w .thread i) m d) refl j))
 
 module _ (i : ℕ) (someone : i ≢ 255) where
   -- who was first, and whose call ended, is first and has none
@@ -97,7 +75,7 @@ module _ (i : ℕ) (someone : i ≢ 255) where
   took-goes : (w : World) (a : ℕ) → First w i → Goes (tookFlags w i a)
   took-goes w a f =
       ended-goes (threadTo w i _) (pos 0) _
-      (first-stays w (threadTo w i (pendingTo (w .thread i) _)) i refl (put-state (w .thread) i (pendingTo (w .thread i) _) refl) f)
+      (first-stays w (threadTo w i (pendingTo (w .thread i) _)) i refl (put-part (λ (v : Thread). v .state) (w .thread) i (pendingTo (w .thread i) _) refl) f)
 
   -- ---- an event wait of thread i that is not finished yet
 

@@ -11,6 +11,7 @@ use borrow.Author.Tests.{eq-eqb, ne-eqb}
 use Rattle.kernel.specs.declared.time.SystemTime.{SystemTime}
 use Rattle.kernel.specs.declared.records.Call.{Call}
 use Rattle.kernel.specs.declared.records.Thread.{Thread}
+use Rattle.kernel.proofs.Cases.{same-or}
 use Rattle.library.specs.declared.calls.Step.{Step}
 use Rattle.library.specs.declared.tables.Mailbox.{Mailbox}
 use Rattle.library.specs.declared.tables.Pool.{Pool}
@@ -58,6 +59,10 @@ put-same f i a = rw (eq-eqb i i refl)
 
 pub put-other : {A : Type 0} (f : ℕ → A) (i j : ℕ) (a : A) → j ≢ i → put f i a j ≡ f j
 put-other f i j a d = rw (ne-eqb j i d)
+
+-- one entry changes, but not this part of it: so it does of none
+pub put-part : {A B : Type 0} (g : A → B) (f : ℕ → A) (i : ℕ) (a : A) → g a ≡ g (f i) → (j : ℕ) → g (put f i a j) ≡ g (f j)
+put-part g f i a e j = same-or j i (λ x. rw x (ap g (put-same f i a) ∙ e)) (λ d. ap g (put-other f i j a d))
 
 -- who is queued is not ready
 pub queued-asleep : {n : ℕ} → n ≡ 3 → n ≢ 0

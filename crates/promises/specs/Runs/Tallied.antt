@@ -4,10 +4,9 @@ use native.Mathlib.Nat.{mod-add-mod, mod-eq-of-lt, mod-lt, add-zero, zero-add, a
 use native.Mathlib.Omega.{arith}
 use mathlib.Core.Path.{_≡_, refl, sym, ap, _∙_}
 use mathlib.Core.Logic.{_≢_}
-use mathlib.Core.Bool.{Bool, true, false, cond, _&&_, _||_, and-false}
+use mathlib.Core.Bool.{Bool, false, cond, _&&_, _||_, and-false}
 use mathlib.Core.List.{List, [], _∷_, _++_, append-nil}
 use lib.Dec.{eqb}
-use lib.IntN.{ℤ, pos, negsuc}
 use lib.ListN.{length, getD, replicate, length-set}
 use lib.Seq.{getD-set-same, getD-set-other}
 use borrow.Author.Tests.{eq-eqb, ne-eqb, lt-ltb, le-ltb}
@@ -15,7 +14,7 @@ use Rattle.kernel.specs.declared.clock.Clock.{Clock}
 use Rattle.kernel.specs.declared.records.Answer.{Answer}
 use Rattle.kernel.specs.declared.records.Call.{Call}
 use Rattle.kernel.specs.Walk.{each as eachOf}
-use Rattle.kernel.proofs.Cases.{split, same-or, in-or-out, contrary}
+use Rattle.kernel.proofs.Cases.{split, same-or, in-or-out}
 use Rattle.library.specs.declared.calls.Step.{Step}
 use Rattle.library.specs.declared.tables.Tables.{Tables}
 use Rattle.library.specs.Signs.{same}
@@ -52,8 +51,9 @@ use Rattle.promises.specs.Paper.History.{
 use Rattle.promises.specs.Runs.Moments.{momentOf, moments, Going, host, going-on}
 use Rattle.promises.specs.Runs.Histories.{finished-within}
 use Rattle.promises.specs.Runs.Counting.{total-same}
+use Rattle.promises.specs.Meant.Together.{zero-same}
 use Rattle.promises.specs.Together.Hanging.{all-blank}
-use Rattle.promises.specs.Together.Tests.{same-means, neither-means}
+use Rattle.promises.specs.Together.Tests.{neither-means}
 
 -- what a result reports of finished calls
 abbrev pub reportOf : Outcome → Report
@@ -89,17 +89,6 @@ entered-none a n e h =
     let x21 = neither-means (eqb (e .kind) 21) _ (x20 .1) in
     rw (x15 .0, x16 .0, x17 .0, x18 .0, x20 .0, x21 .1)
 
--- 0 is the message of a call that finished with 0
-is-zero : (m : ℤ) → isZero m ≡ true → m ≡ pos 0
-is-zero (pos zero) e = refl
-is-zero (pos (suc n)) e = contrary e refl
-is-zero (negsuc n) e = contrary e refl
-
-zero-same : (m : ℤ) → same m (pos 0) ≡ isZero m
-zero-same m =
-    split (isZero m) (λ z. rw (is-zero m z))
-    (λ z. split (same m (pos 0)) (λ e. contrary (ap isZero (same-means m (pos 0) e)) z) (λ e. e ∙ sym z))
-
 module _ (n : ℕ) (t : Tables) where
   value-same : (c : Call) (r : Answer) → enteredValue (t .mailboxes) c (r .datum) ≡ valueOf t c r
   value-same c r =
@@ -112,12 +101,12 @@ module _ (n : ℕ) (t : Tables) where
       let entry : ℕ → Entry = λ k. record { who = i; kind = k; object = c .object; value = enteredValue (t .mailboxes) c (r .datum) } in
       split (isZero (r .message))
       (λ z.
-      let is : entryOf (t .mailboxes) i c r ≡ entry (c .kind) = rw (zero-same (r .message), z) in
+      let is : entryOf (t .mailboxes) i c r ≡ entry (c .kind) = rw (← zero-same (r .message), z) in
       split (isCounted (c .kind))
       (λ k. ap (entered a n) is ∙ rw (k, z, value-same c r))
       (λ k. ap (entered a n) is ∙ rw k (entered-none a n (entry (c .kind)) k)))
       (λ z.
-      let is : entryOf (t .mailboxes) i c r ≡ entry 0 = rw (zero-same (r .message), z) in
+      let is : entryOf (t .mailboxes) i c r ≡ entry 0 = rw (← zero-same (r .message), z) in
       ap (entered a n) is ∙ rw (z, and-false (isCounted (c .kind))) (entered-none a n (entry 0) refl))
 
 -- ---- a step enters what its result shows

@@ -4,7 +4,7 @@ use native.Mathlib.Omega.{arith}
 use mathlib.Core.Path.{_≡_, refl, sym, ap, _∙_, subst}
 use mathlib.Core.Logic.{_≢_, inl, inr}
 use mathlib.Core.Bool.{Bool, true, false, cond, not, _&&_, true≢false}
-use mathlib.Core.List.{List, [], _∷_}
+use mathlib.Core.List.{List, [], _∷_, head-eq-of-cons-eq}
 use lib.Dec.{eqb, ltb}
 use lib.ListN.{length, getD}
 use lib.IntN.{ℤ, pos, negsuc, natAbs, pos-ne-negsuc}
@@ -153,10 +153,6 @@ transfer-moves-most {x = x} (TransferOf.moves p w j s y u v o) z =
 abbrev happens : ℕ → ℕ → ℕ → ℕ → Event
 happens step who kind value = record { step = step; who = who; kind = kind; object = 0; value = value }
 
--- two lists of one number
-one-number : {a b : ℕ} → _≡_ {A = List ℕ} (a ∷ []) (b ∷ []) → a ≡ b
-one-number e = ap (λ (l : List ℕ). getD l 0 0) e
-
 -- no interrupt's call, and no reset, free or add, comes after another call of its step
 pub never-second : {e f : Event} {es : List Event} → OwnFirst (e ∷ f ∷ es) → isOwn f ≡ false
 never-second {f = f} (OwnFirst.first e h) = split (isOwn f) (λ p. absurd (omega (arith, ap length (rw p at h)))) (λ p. p)
@@ -168,12 +164,12 @@ nothing-invented b = omega (arith, ap length (b .handed))
 -- no message is fetched before the one that was posted first
 pub first-first : {n m k i j r x y z : ℕ} {w : World} → let es = happens n i 15 x ∷ happens m j 15 y ∷ happens k r 17 z ∷ [] in
     BoxTold 0 noPostings es (ledger 0 noPostings es) w → z ≡ x
-first-first b = sym (one-number (b .handed))
+first-first b = sym (head-eq-of-cons-eq (b .handed))
 
 -- but the one that was posted ahead is
 pub ahead-first : {n m k i j r x y z : ℕ} {w : World} → let es = happens n i 15 x ∷ happens m j 16 y ∷ happens k r 17 z ∷ [] in
     BoxTold 0 noPostings es (ledger 0 noPostings es) w → z ≡ y
-ahead-first b = sym (one-number (b .handed))
+ahead-first b = sym (head-eq-of-cons-eq (b .handed))
 
 -- a message that was fetched, or lost at a reset, is in the mailbox no more
 pub fetched-gone : {n m i j x y : ℕ} {w : World} → let es = happens n i 15 x ∷ happens m j 17 y ∷ [] in
