@@ -4,10 +4,11 @@
  * read and written back through the archive too, and with one step on each of
  * TABLES damaged tables, of which both say which rule is broken first; and for
  * each of these the nine functions of time. A damage that is an event wait has
- * further steps, until the wait has gone on. At each step the archive also says
- * for a screen who is ready and who waits where. Then STEPS calls on byte pipes
- * that live, and one on each of TABLES pipes from outside. It stops at the
- * first answer or byte that differs.
+ * further steps, until the wait has gone on; one that takes a semaphore near
+ * the top has signals there. At each step the archive also says for a screen
+ * who is ready and who waits where. Then STEPS calls on byte pipes that live,
+ * and one on each of TABLES pipes from outside. It stops at the first answer or
+ * byte that differs.
  *
  * Seeds count up from SEED: one for each trace, then one for each plant whose
  * tables are damaged, and then those of the pipes.
@@ -119,7 +120,8 @@ static uint32_t some_way(struct random *r)
 }
 
 /* The step is chosen for the good tables; the damaged ones must refuse it or
-   make it just as the second program does. An event wait then goes on. */
+   make it just as the second program does. An event wait then goes on, and a
+   semaphore near the top is signalled. */
 static void step_on_damaged(struct random *r, struct where at,
                             const struct plant *good, const struct step *s)
 {
@@ -131,6 +133,9 @@ static void step_on_damaged(struct random *r, struct where at,
     code = both_step(at, &damaged, s);
     expect(spoil_allows(way, code), at, "a damage was judged wrongly");
     table_codes[way][code]++;
+    if (way == SEMAPHORE_TOP) {
+        signal_tops(r, at, &damaged);
+    }
     if (way >= WAIT_NO_FLAG && code != BROKEN_TABLES) {
         let_go_on(r, at, &damaged);
     }
@@ -272,9 +277,21 @@ static void report(void)
     print_met("fresh pipes asked for", "code", pipe_fresh_codes, CODES);
     print_met("broken first", "rule", broken_rules, RULES);
     print_waits();
+    printf("  ");
+    print_signals(&top_signals);
     printf("  conversions: %llu made, %llu refused\n",
            (unsigned long long)conversions[0],
            (unsigned long long)conversions[1]);
+}
+
+static void expect_signals_met(struct where at)
+{
+    expect(top_signals.by_threads > 0 && top_signals.by_interrupts > 0
+           && top_signals.below > 0, at,
+           "no signal came at the top, or none one below it");
+    expect(table_codes[SEMAPHORE_TOP][0] > 0
+           && table_codes[POOL_TOP][BROKEN_TABLES] > 0, at,
+           "no counter came near the top");
 }
 
 static bool read_number(const char *text, uint64_t *number)
@@ -302,6 +319,7 @@ int main(int argc, char **argv)
     end = run_odd_pipes(odd, given[1]);
     /* a short run need not meet all */
     if (given[0] >= MANY && given[1] >= MANY) {
+        expect_signals_met((struct where){ end - 1, 0 });
         expect_pipes_met((struct where){ end - 1, 0 });
     }
     printf("compare: seeds %llu to %llu: traces, from %llu on plants, from "

@@ -15,8 +15,8 @@
 #include <string.h>
 
 enum { PRINTER, FILLER_A, FILLER_B, THREADS };
-enum { BOTTLES }; /* semaphores */
-enum { LABELS };  /* mailboxes */
+enum { BOTTLES, TANK }; /* semaphores */
+enum { LABELS };        /* mailboxes */
 
 /* In ticks: the play, bottles' coming, work, and a filler's wait. */
 enum {
@@ -169,6 +169,22 @@ static void show_damage(const struct plant *p)
            (unsigned)nil_row(broken));
 }
 
+/* A sensor has signalled "tank present" for weeks, without a waiter: the last
+   signal that counts, and one that the counter has no room for. */
+static void show_top(struct plant *p)
+{
+    nil_result last, more;
+
+    step(p, NIL_SEMAPHORE_RESET, NIL_INTERRUPT, TANK, 2147483646, 0);
+    last = step(p, NIL_SIGNAL, NIL_INTERRUPT, TANK, 0, 0);
+    more = step(p, NIL_SIGNAL, NIL_INTERRUPT, TANK, 0, 0);
+    printf("tank present: message %d; once more: code %u, message %d%s; "
+           "counter %d\n", (int)last.message, (unsigned)more.code,
+           (int)more.message,
+           more.message == NIL_NOT_COUNTED ? ", not counted" : "",
+           (int)p->tables.counters[NIL_SEMAPHORE_PLACE + TANK]);
+}
+
 /* What an operators' screen polls: how many are ready, and who waits where, bit
    i for thread i. */
 static void show_screen(const struct plant *p)
@@ -199,7 +215,7 @@ static void show_time(const struct plant *p)
 
 int main(void)
 {
-    static const nil_sizes sizes = { THREADS, 1, 0, 0, 1, 0, { 1, 0, 0, 0 } };
+    static const nil_sizes sizes = { THREADS, 2, 0, 0, 1, 0, { 1, 0, 0, 0 } };
     static struct plant plant; /* every thread's first call is what it ASKS */
     uint32_t code;
 
@@ -222,6 +238,7 @@ int main(void)
     show_screen(&plant);
     show_refusal(&plant);
     show_damage(&plant);
+    show_top(&plant);
     show_time(&plant);
     return 0;
 }

@@ -52,6 +52,10 @@ enum { NIL_IDLE = 255, NIL_INTERRUPT = 255, NIL_NOBODY = 255 };
 /* MSG_OK, MSG_TIMEOUT and MSG_RESET of the manual. */
 enum { NIL_OK = 0, NIL_TIMEOUT = -1, NIL_RESET = -2 };
 
+/* The answer of a NIL_SIGNAL at counter 2147483647, which stays there. It is no
+   error: nothing was lost but the count. */
+enum { NIL_NOT_COUNTED = 1 };
+
 /*
  * Timeouts, in ticks. The manual's TIME_IMMEDIATE is -1 and its TIME_INFINITE
  * is 0; here it is the other way round. Compiled firmware passes the manual's
@@ -80,7 +84,8 @@ enum {
     NIL_TICK = 1,
     /* T, semaphore, timeout. Takes 1 off the counter, or waits. */
     NIL_SEMAPHORE_WAIT = 2,
-    /* Semaphore. Adds 1 to the counter; wakes the first waiter with 0. */
+    /* Semaphore. Adds 1 to the counter; wakes the first waiter with 0. At
+       2147483647 it leaves the counter; the answer is NIL_NOT_COUNTED. */
     NIL_SIGNAL = 3,
     /* Semaphore, a: the counter to be. Wakes all waiters with NIL_RESET. */
     NIL_SEMAPHORE_RESET = 4,

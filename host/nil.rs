@@ -37,6 +37,9 @@ pub const OK: i32 = 0;
 pub const TIMEOUT: i32 = -1;
 pub const RESET: i32 = -2;
 
+/// The answer of a [`kind::SIGNAL`] at counter 2147483647, which stays there. It is no error: nothing was lost but the count.
+pub const NOT_COUNTED: i32 = 1;
+
 /// Timeouts, in ticks. The manual's `TIME_IMMEDIATE` is -1 and its `TIME_INFINITE` is 0; here it is the other way round.
 /// Compiled firmware passes the manual's numbers: the host translates them, by [`timeout`].
 pub const IMMEDIATE: u32 = 0;

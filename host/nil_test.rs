@@ -7,7 +7,7 @@
 #[path = "nil.rs"]
 mod nil;
 
-use nil::kind::{SEMAPHORE_WAIT, SIGNAL, TICK};
+use nil::kind::{SEMAPHORE_RESET, SEMAPHORE_WAIT, SIGNAL, TICK};
 use nil::{Clock, Found, Outcome, Pipe, Pipes, Request, Sizes, Tables, Transfer, NOBODY};
 
 const SIZES: Sizes = Sizes {
@@ -223,6 +223,31 @@ fn refuses_wrong_words() {
     assert_eq!(nil::waiting(&tables, 1), 65535);
 }
 
+/// At the top a signal answers that it did not count. A thread's leaves its answer in the thread's row, an interrupt's nothing.
+fn signals_at_the_top() {
+    let (mut tables, mut clock) = (Tables::NONE, Clock::default());
+    nil::fresh(&mut tables, &mut clock, &SIZES, nil::FREQUENCY).unwrap();
+    let reset = Request {
+        a: 2147483646,
+        ..request(SEMAPHORE_RESET, NOBODY, 0)
+    };
+    nil::step(&mut tables, &mut clock, &reset);
+    let signal = request(SIGNAL, NOBODY, 0);
+    assert_eq!(nil::step(&mut tables, &mut clock, &signal).message, nil::OK);
+    let mut top = tables;
+    assert_eq!(top.counters[0], 2147483647);
+    let mut not_counted = Outcome {
+        message: nil::NOT_COUNTED,
+        ..Outcome::default()
+    };
+    let answer = nil::step(&mut tables, &mut clock, &signal);
+    assert_eq!((answer, tables), (not_counted, top));
+    top.threads[0].answer.message = nil::NOT_COUNTED;
+    not_counted.finished = 1;
+    let answer = nil::step(&mut tables, &mut clock, &request(SIGNAL, 0, 0));
+    assert_eq!((answer, tables), (not_counted, top));
+}
+
 /// The paper's own numbers, and a refusal each way.
 fn tells_the_time() {
     assert_eq!(nil::time_add(4294967295, 1), 0);
@@ -325,6 +350,7 @@ pub extern "C" fn main() -> i32 {
     knows_its_archive();
     shows_who_is_ready_and_who_waits();
     refuses_wrong_words();
+    signals_at_the_top();
     tells_the_time();
     pipes_bytes();
     resets_and_resumes_pipes();

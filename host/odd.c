@@ -1,6 +1,7 @@
 /*
  * A wait that is to go on belongs to a thread that is ready and does not run:
- * so there has to be one that runs above it.
+ * so there has to be one that runs above it. Where good tables have no row of a
+ * kind that is asked for they get one, which is fresh.
  */
 #include "odd.h"
 
@@ -59,8 +60,68 @@ static void stand_up(nil_tables *t, nil_thread *th)
     th->call = (nil_call){ 0, 0, 0, 0 };
 }
 
+/* ---- counters near the top -------------------------------------------- */
+
+static int32_t near_top(struct random *r)
+{
+    return COUNTER_TOP - (int32_t)random_below(r, 2);
+}
+
+/* Whoever waited at the semaphore stands up first. */
+static void spoil_semaphore(struct random *r, nil_tables *t)
+{
+    uint32_t s;
+
+    if (t->sizes.semaphores == 0) {
+        t->sizes.semaphores = 1;
+    }
+    s = random_below(r, t->sizes.semaphores);
+    for (uint32_t i = 0; i < t->sizes.threads; i++) {
+        nil_thread *th = &t->threads[i];
+
+        if (th->state == NIL_QUEUED && th->place == NIL_SEMAPHORE_PLACE + s) {
+            stand_up(t, th);
+        }
+    }
+    t->counters[NIL_SEMAPHORE_PLACE + s] = near_top(r);
+}
+
+static void spoil_pool(struct random *r, nil_tables *t)
+{
+    uint32_t p;
+
+    if (t->sizes.pools == 0) {
+        t->sizes.pools = 1;
+    }
+    p = random_below(r, t->sizes.pools);
+    t->counters[NIL_POOL_PLACE + p] = near_top(r);
+}
+
+static void signal_one(struct random *r, struct where at, struct plant *p,
+                       uint32_t semaphore)
+{
+    struct step s = { SIGNAL, INTERRUPT, (uint8_t)semaphore, 0, 0 };
+
+    if (random_chance(r, 50)) {
+        s.caller = (uint8_t)nil_first_ready(&p->tables);
+    }
+    expect(both_step(at, p, &s) == 0, at, "a signal near the top was refused");
+}
+
+void signal_tops(struct random *r, struct where at, struct plant *p)
+{
+    for (uint32_t s = 0; s < p->tables.sizes.semaphores; s++) {
+        if (p->tables.counters[NIL_SEMAPHORE_PLACE + s] >= COUNTER_TOP - 1) {
+            signal_one(r, at, p, s);
+            signal_one(r, at, p, s);
+        }
+    }
+}
+
+/* ---- event waits ------------------------------------------------------ */
+
 /* A thread below the running one. Where there is none a thread above the last
-   gets to run; of one thread alone a second one is made, whose row is fresh. */
+   gets to run; of one thread alone a second one is made. */
 static nil_thread *some_slow(struct random *r, nil_tables *t)
 {
     uint32_t running = nil_first_ready(t);
@@ -111,7 +172,7 @@ static void spoil_flags(struct random *r, uint32_t way, nil_thread *th)
     }
 }
 
-void spoil_wait(struct random *r, uint32_t way, nil_tables *t)
+static void spoil_wait(struct random *r, uint32_t way, nil_tables *t)
 {
     nil_thread *th = some_slow(r, t);
     uint32_t mask = way == WAIT_MASK_0 ? 0 : some_flags(r);
@@ -127,6 +188,21 @@ void spoil_wait(struct random *r, uint32_t way, nil_tables *t)
     spoil_flags(r, way, th);
     if (way == WAIT_OTHER_MASK) {
         th->awaited ^= some_flags(r);
+    }
+}
+
+void spoil_oddly(struct random *r, uint32_t way, nil_tables *t)
+{
+    switch (way) {
+    case SEMAPHORE_TOP:
+        spoil_semaphore(r, t);
+        break;
+    case POOL_TOP:
+        spoil_pool(r, t);
+        break;
+    default:
+        spoil_wait(r, way, t);
+        break;
     }
 }
 

@@ -1,14 +1,19 @@
-/* Event waits as tables from outside may have them, and no step leaves some of
-   them: how they get into good tables, and how they go on there. */
+/* Counters near the top, and event waits, as tables from outside may have them,
+   and no step leaves some of them: how they get into good tables, and how they
+   go on there. */
 #ifndef ODD_H
 #define ODD_H
 
 #include "pair.h"
 #include "random.h"
 
-/* Gives a thread of good tables an event wait, by one of spoil.h's ways. The
-   words are left to be mended. */
-void spoil_wait(struct random *r, uint32_t way, nil_tables *t);
+/* Takes a counter of good tables near the top, or gives a thread an event wait,
+   by one of spoil.h's ways. The words are left to be mended. */
+void spoil_oddly(struct random *r, uint32_t way, nil_tables *t);
+
+/* Each semaphore at the top or one below it is signalled twice, by the running
+   thread or an interrupt. All steps are made by both sides. */
+void signal_tops(struct random *r, struct where at, struct plant *plant);
 
 /* Whoever runs sleeps, until every event wait that was ready has gone on.
    Threads are signalled meanwhile. All steps are made by both sides. */

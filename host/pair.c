@@ -141,12 +141,23 @@ static void follow_flags(struct where at, const struct moment *m)
     note_flags(&event_waits, m);
 }
 
+struct signals_seen top_signals;
+
+static void follow_signals(struct where at, const struct moment *m)
+{
+    const char *wrong = unlike_signals(m);
+
+    expect(wrong == NULL, at, wrong);
+    note_signals(&top_signals, m);
+}
+
 uint32_t both_step(struct where at, struct plant *plant, const struct step *s)
 {
     nil_request request = nil_request_of(s);
     struct plant before = *plant;
     struct tables t, old;
     struct result q;
+    struct moment m;
     nil_result r;
     bool broken;
 
@@ -165,8 +176,10 @@ uint32_t both_step(struct where at, struct plant *plant, const struct step *s)
     expect(r.code == 0 || memcmp(&before, plant, sizeof before) == 0, at,
            "a refused step changed a byte");
     try_screen(at, plant, &t, broken);
+    m = (struct moment){ &old, s, &q, &t };
+    follow_signals(at, &m);
     if (r.code == 0) {
-        follow_flags(at, &(struct moment){ &old, s, &q, &t });
+        follow_flags(at, &m);
     }
     return r.code;
 }

@@ -8,6 +8,7 @@
 #include "bridge.h"
 #include "broken.h"
 #include "flags.h"
+#include "signals.h"
 
 /* What a host keeps of one plant, in one piece and without padding. */
 struct plant {
@@ -38,7 +39,8 @@ uint32_t both_fresh(struct where at, const struct sizes *z, uint32_t frequency,
    say which rule the tables break first: one exactly if the code is 1. Before
    and after it the archive says for a screen who is ready and who waits: what
    the words say, and where no rule is broken what a walk over the records
-   says. An accepted step loses no event flag and makes none up. */
+   says. A signal answers whether it counted, and an accepted step loses no
+   event flag and makes none up. */
 uint32_t both_step(struct where at, struct plant *plant, const struct step *s);
 
 /* How often each rule was the first to be broken; 0 for none. */
@@ -47,5 +49,8 @@ extern uint64_t broken_rules[RULES];
 /* Event waits that went on in all these steps. They are not of one run: which
    flags were late is not known. */
 extern struct flags_seen event_waits;
+
+/* Signals near the top in all these steps. */
+extern struct signals_seen top_signals;
 
 #endif

@@ -337,6 +337,7 @@ const char *spoil_name(uint32_t way)
         "nearly good", "two rows exchanged", "random, sizes good",
         "all bytes random", "a word's bit missing", "a word's bit too many",
         "a word's bit from T on", "another word", "words not in use",
+        "semaphore near the top", "pool near the top",
         "event wait, no flag", "event wait, flags", "event wait, not with 0",
         "event wait, mask 0", "awaited flag pending", "awaited not the mask"
     };
@@ -351,10 +352,12 @@ bool spoil_allows(uint32_t way, uint32_t code)
     case BIT_TOO_MANY:
     case BIT_BEYOND:
     case OTHER_WORD:
+    case POOL_TOP:
     case WAIT_AWAITED:
     case WAIT_OTHER_MASK:
         return code == BROKEN_TABLES;
     case UNUSED_WORDS:
+    case SEMAPHORE_TOP:
     case WAIT_NO_FLAG:
     case WAIT_FLAGS:
     case WAIT_MESSAGE:
@@ -403,15 +406,15 @@ static void spoil_tables(struct random *r, uint32_t way, struct plant *p)
     }
 }
 
-/* Event waits, and half of the other damages to records, go without wrong words:
-   these would refuse many tables that are odd and no more. */
+/* What comes from outside, and half of the other damages to records, go without
+   wrong words: these would refuse many tables that are odd and no more. */
 void spoil(struct random *r, uint32_t way, struct plant *p)
 {
     if (fields_number == 0) {
         find_fields();
     }
-    if (way >= WAIT_NO_FLAG) {
-        spoil_wait(r, way, &p->tables);
+    if (way >= SEMAPHORE_TOP) {
+        spoil_oddly(r, way, &p->tables);
         mend_words(p);
         return;
     }

@@ -1,5 +1,6 @@
 /* Damages to a plant's tables: one field, a few, a stretch, or all of them; to
-   the words of good tables; and event waits that come from outside. */
+   the words of good tables; and what comes from outside, counters near the top
+   and event waits. */
 #ifndef SPOIL_H
 #define SPOIL_H
 
@@ -21,6 +22,9 @@ enum spoil_way {
     BIT_BEYOND,   /* one that there is not */
     OTHER_WORD,   /* some other word */
     UNUSED_WORDS, /* words of places not in use, and what fills the struct */
+    /* a counter at 2147483647 or one below it: */
+    SEMAPHORE_TOP, /* of a semaphore where nobody waits */
+    POOL_TOP,      /* of a pool, whose free list never is so long */
     /* a ready thread that does not run gets an event wait: */
     WAIT_NO_FLAG, /* woken with 0, and none of its flags is pending */
     WAIT_FLAGS,   /* woken with 0; flags in its mask are pending, and others */
@@ -35,8 +39,9 @@ enum spoil_way {
 const char *spoil_name(uint32_t way);
 
 /* Whether the code of a step on good tables that were spoilt so can be: a wrong
-   word is always refused with 1, and words not in use never are; event waits as
-   their ways say. */
+   word is always refused with 1, and words not in use never are; a semaphore
+   near the top never is, and a pool there always; event waits as their ways
+   say. */
 bool spoil_allows(uint32_t way, uint32_t code);
 
 void spoil(struct random *r, uint32_t way, struct plant *plant);

@@ -16,6 +16,13 @@ static void tick(struct work *w)
     }
 }
 
+/* Document 02, 6/13: at the top it "answers message 1 in place of 0". */
+static int32_t plain_signal(struct work *w, uint32_t s)
+{
+    return signal_at(w, (struct place){ AT_SEMAPHORE, s }) ? MSG_OK
+                                                           : MSG_NOT_COUNTED;
+}
+
 /* "Counter becomes a; all waiters are made ready with -2." */
 static void reset_semaphore(struct work *w, const struct step *s)
 {
@@ -23,11 +30,12 @@ static void reset_semaphore(struct work *w, const struct step *s)
     w->t->semaphore[s->object] = (int32_t)s->a;
 }
 
-/* "As 3 if the counter is below 1, else nothing." */
+/* "As 3 if the counter is below 1, else nothing." Below 1 it counts: it is told
+   so, and has nothing to answer. */
 static void binary_signal(struct work *w, uint32_t s)
 {
     if (w->t->semaphore[s] < 1) {
-        signal_at(w, (struct place){ AT_SEMAPHORE, s });
+        (void)signal_at(w, (struct place){ AT_SEMAPHORE, s });
     }
 }
 
@@ -69,17 +77,19 @@ static void reset_mailbox(struct work *w, uint32_t m)
     release_all(w, (struct place){ AT_READERS, m }, MSG_RESET);
 }
 
-/* "Free and add put the object on top and signal." */
+/* "Free and add put the object on top and signal." What the signal tells is
+   dropped: "a pool never gets there", since its counter is at most its list's
+   length. */
 static void give_object(struct work *w, uint32_t p, uint32_t object)
 {
     struct pool *pool = &w->t->pool[p];
 
     pool->list[pool->length++] = object;
     pool->mark[object] = FREE;
-    signal_at(w, (struct place){ AT_POOL, p });
+    (void)signal_at(w, (struct place){ AT_POOL, p });
 }
 
-void act(struct work *w, const struct step *s)
+int32_t act(struct work *w, const struct step *s)
 {
     struct place queue = { AT_QUEUE, s->object };
 
@@ -88,8 +98,7 @@ void act(struct work *w, const struct step *s)
         tick(w);
         break;
     case SIGNAL:
-        signal_at(w, (struct place){ AT_SEMAPHORE, s->object });
-        break;
+        return plain_signal(w, s->object);
     case SEMAPHORE_RESET:
         reset_semaphore(w, s);
         break;
@@ -118,4 +127,5 @@ void act(struct work *w, const struct step *s)
         give_object(w, s->object, s->a);
         break;
     }
+    return MSG_OK;
 }

@@ -98,6 +98,7 @@ void ticks(uint32_t n)
 int main(void)
 {
     check_waits();
+    check_signals();
     check_times();
     check_events();
     check_mailboxes();

@@ -46,6 +46,7 @@ void ticks(uint32_t n);
 
 /* The cases, a file each. */
 void check_waits(void);
+void check_signals(void);
 void check_times(void);
 void check_events(void);
 void check_mailboxes(void);

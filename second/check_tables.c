@@ -102,6 +102,10 @@ static void check_damaged_objects(void)
     BREAKS(t.mailbox[0].writers = -1);
     BREAKS(t.mailbox[0].readers = 0);
     BREAKS(t.pool[0].counter = 0);
+    BREAKS(t.pool[0].counter = 2147483646);
+    BREAKS(t.pool[0].counter = 2147483647);
+    BREAKS(t.thread[7] = t.thread[0]; t.pool[0].counter = 2147483647;
+           make_words(&t));
     BREAKS(t.pool[0].length = 0);
     BREAKS(t.pool[0].length = 33);
     BREAKS(t.pool[0].list[0] = 32);

@@ -187,11 +187,11 @@ static uint32_t some_marked(struct random *r, const struct pool *p,
     return start;
 }
 
-/* Low counters keep waiters coming; the highest is there for refusal 7. */
+/* Low counters keep waiters coming; at the top signals do not count. */
 static uint32_t some_counter(struct random *r)
 {
-    if (random_chance(r, 6)) {
-        return UINT32_C(0x7fffffff) - random_below(r, 2);
+    if (random_chance(r, 10)) {
+        return COUNTER_TOP - random_below(r, 2);
     }
     return random_below(r, 3);
 }
@@ -409,13 +409,39 @@ static struct step mixed_step(struct director *d, const struct tables *t)
     return complete(d, t, kind, caller, some_timeout(d->random));
 }
 
-/* Around events a slow waiter is signalled in between, whatever the mood. */
+/* Whether the mood is around a semaphore that a reset took to the top. */
+static bool near_top(const struct director *d, const struct tables *t)
+{
+    return d->family == SEMAPHORES
+        && t->semaphore[d->object] > COUNTER_TOP - MAX_THREADS;
+}
+
+/* Signals that count up to the top and no further, waits after which they count
+   again; and a reset, mostly to where threads wait again. */
+static struct step top_step(struct director *d, const struct tables *t)
+{
+    static const struct kinds kinds = {
+        5, { SIGNAL, SIGNAL, SIGNAL, SEMAPHORE_WAIT, SEMAPHORE_RESET }
+    };
+    uint32_t kind = one_of(d->random, &kinds);
+    uint32_t caller = some_caller(d, t, kind == SEMAPHORE_WAIT ? 100 : 85);
+    struct step s = complete(d, t, kind, caller, some_timeout(d->random));
+
+    s.object = (uint8_t)d->object;
+    return s;
+}
+
+/* Around events a slow waiter is signalled in between, and a semaphore near the
+   top gets its steps there, whatever the mood. */
 static struct step mood_step(struct director *d, const struct tables *t)
 {
     uint32_t slow = d->family == EVENTS ? slow_waiter(t) : NOBODY;
 
     if (slow != NOBODY && random_chance(d->random, 40)) {
         return signal_slow(d, t, slow);
+    }
+    if (near_top(d, t) && random_chance(d->random, 70)) {
+        return top_step(d, t);
     }
     switch (d->mood) {
     case GATHER:
@@ -516,26 +542,11 @@ static void spoil_field(struct random *r, struct step *s)
     }
 }
 
-static uint32_t highest_semaphore(const struct tables *t)
-{
-    uint32_t highest = 0;
-
-    for (uint32_t s = 1; s < t->sizes.semaphores; s++) {
-        if (t->semaphore[s] > t->semaphore[highest]) {
-            highest = s;
-        }
-    }
-    return highest;
-}
-
 /* A value for refusal 6 or 7, where the kind has one. */
 static void almost_right(struct random *r, const struct tables *t,
                          struct step *s)
 {
     switch (s->kind) {
-    case SIGNAL:
-        s->object = (uint8_t)highest_semaphore(t);
-        break;
     case SEMAPHORE_RESET:
         s->a = UINT32_C(0x80000000) + random_below(r, 2);
         break;

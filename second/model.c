@@ -70,7 +70,7 @@ struct result do_told_step(struct tables *t, const struct step *s,
     if (may_sleep(s->kind)) {
         answered = make_call(&w, s, &answer);
     } else {
-        act(&w, s);
+        answer.message = act(&w, s);
     }
     if (answered) {
         finish_own(&w, s, answer);

@@ -30,8 +30,12 @@ enum {
    empty reference. */
 enum { IDLE = 255, INTERRUPT = 255, NOBODY = 255 };
 
-/* "OK 0, TIMEOUT -1, RESET -2." */
-enum { MSG_OK = 0, MSG_TIMEOUT = -1, MSG_RESET = -2 };
+/* "OK 0, TIMEOUT -1, RESET -2." Document 02, 6/13: a plain signal that does not
+   count "answers message 1 in place of 0". */
+enum { MSG_OK = 0, MSG_NOT_COUNTED = 1, MSG_TIMEOUT = -1, MSG_RESET = -2 };
+
+/* "Counters run from -2147483648 to 2147483647": the top. */
+enum { COUNTER_TOP = 2147483647 };
 
 /* "Interval 0 is immediate, 4294967295 infinite, 4294967294 the longest." */
 #define IMMEDIATE UINT32_C(0)

@@ -72,7 +72,7 @@ static bool wrong_value(const struct tables *t, const struct step *s)
 {
     switch (s->kind) {
     case SEMAPHORE_RESET:
-        return s->a > INT32_MAX;
+        return s->a > COUNTER_TOP;
     case POOL_FREE:
     case POOL_ADD:
         return s->a >= POOL_OBJECTS;
@@ -87,13 +87,12 @@ static bool wrong_value(const struct tables *t, const struct step *s)
     }
 }
 
-/* 7: "3 at counter 2147483647; suspend on a held reference; free of an object
-   not out; add of one not absent". */
+/* 7: "suspend on a held reference; free of an object not out; add of one not
+   absent". Document 02, 6/13: "the first case of 7 is struck out", which was a
+   signal at the top. */
 static bool wrong_moment(const struct tables *t, const struct step *s)
 {
     switch (s->kind) {
-    case SIGNAL:
-        return t->semaphore[s->object] == INT32_MAX;
     case SUSPEND:
         return t->reference[s->object] != NOBODY;
     case POOL_FREE:

@@ -8,6 +8,8 @@
  *   - where it does not, it stays (but for a size's, since the director has
  *     an object in mind), and "accepted steps keep it so";
  *   - no accepted step loses an event flag or makes one up;
+ *   - a plain signal answers 1 exactly at the top, where it leaves all else;
+ *     every other signal answers 0, and no pool gets to the top;
  *   - none loses a message or an object or makes one up. The ledger begins
  *     anew where a change of the tables made it untrue.
  */
@@ -15,6 +17,7 @@
 #include "cases.h"
 #include "director.h"
 #include "flags.h"
+#include "signals.h"
 
 #include <inttypes.h>
 #include <stddef.h>
@@ -39,6 +42,7 @@ static struct {
     uint64_t stocked;
     uint64_t begun; /* ledgers, from tables as a change left them */
     struct flags_seen flags;
+    struct signals_seen signals;
     struct cases_seen cases;
 } seen;
 
@@ -169,7 +173,16 @@ static void stock_pool(struct random *r, struct pool *pool)
     }
 }
 
-/* Messages and objects that no step brought, in tables that hang together. */
+/* At the top or one below it, where nobody waits. */
+static void stock_semaphore(struct random *r, int32_t *counter)
+{
+    if (*counter >= 0) {
+        *counter = COUNTER_TOP - (int32_t)random_below(r, 2);
+    }
+}
+
+/* Messages, objects and counts that no step brought, in tables that hang
+   together. */
 static void change_stock(struct random *r, uint64_t seed, uint32_t step,
                          struct tables *t)
 {
@@ -181,8 +194,11 @@ static void change_stock(struct random *r, uint64_t seed, uint32_t step,
         uint32_t m = random_below(r, t->sizes.mailboxes);
 
         stock_box(r, &t->mailbox[m], t->sizes.slots[m]);
-    } else {
+    } else if (random_chance(r, 80)) {
         stock_pool(r, &t->pool[random_below(r, t->sizes.pools)]);
+    } else {
+        stock_semaphore(r, &t->semaphore[random_below(r,
+                                                      t->sizes.semaphores)]);
     }
     expect(tables_hang_together(t), seed, step, "other stock does not hang");
 }
@@ -194,6 +210,15 @@ static void go_on_with_account(const struct tables *t)
         seen.begun++;
         begin_account(&account, t);
     }
+}
+
+static void expect_signals(uint64_t seed, uint32_t step,
+                           const struct moment *m)
+{
+    const char *wrong = unlike_signals(m);
+
+    expect(wrong == NULL, seed, step, wrong);
+    note_signals(&seen.signals, m);
 }
 
 static void expect_account(uint64_t seed, uint32_t step,
@@ -217,6 +242,7 @@ static void shaken_step(struct director *d, uint64_t seed, uint32_t step,
 
     expect(tables_hang_together(t), seed, step, "tables do not hang");
     expect(r.code != BROKEN_TABLES, seed, step, "refusal 1");
+    expect_signals(seed, step, &m);
     if (r.code == ACCEPTED) {
         seen.accepted++;
         expect(flags_add_up(&m), seed, step, "flags lost or made up");
@@ -275,6 +301,7 @@ int main(int argc, char **argv)
            seen.flags.kept);
     printf("stocks changed %" PRIu64 ", ledgers begun on changed tables %"
            PRIu64 "\n", seen.stocked, seen.begun);
+    print_signals(&seen.signals);
     print_cases(&seen.cases);
     return fflush(stdout) == 0 ? 0 : 1;
 }

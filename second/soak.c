@@ -8,6 +8,8 @@
  *   - a call that slept is finished by being continued, and in no other way;
  *   - no event flag is lost, none is made up, and an event wait that goes on
  *     with 0 answers one at least;
+ *   - a plain signal answers 1 exactly at the top, where it leaves all else;
+ *     every other signal answers 0, and no pool gets to the top;
  *   - no message and no object is lost, and none is made up: the ledger of
  *     account.c is run over every step;
  *   - a refused step keeps all bytes and gives masks, message and datum 0;
@@ -17,6 +19,7 @@
 #include "cases.h"
 #include "flags.h"
 #include "scenario.h"
+#include "signals.h"
 #include "trace.h"
 
 #include <inttypes.h>
@@ -41,6 +44,7 @@ static struct {
     uint32_t most_woken;
     uint32_t tightest_percent; /* of the budget */
     struct flags_seen flags;
+    struct signals_seen signals;
     struct cases_seen cases;
 } seen;
 
@@ -178,6 +182,15 @@ static void expect_flags(uint64_t seed, uint32_t record,
     expect(seen.flags.empty == 0, seed, record, "woken by events, no flag");
 }
 
+static void expect_signals(uint64_t seed, uint32_t record,
+                           const struct moment *m)
+{
+    const char *wrong = unlike_signals(m);
+
+    expect(wrong == NULL, seed, record, wrong);
+    note_signals(&seen.signals, m);
+}
+
 static void expect_account(uint64_t seed, uint32_t record,
                            const struct moment *m,
                            const struct finished_calls *told)
@@ -216,6 +229,7 @@ static void run_step(uint64_t seed, uint32_t record, struct tables *t,
     expect(r.running == running_thread(t), seed, record, "wrong running");
     expect(word_tells(t, r.running), seed, record, "wrong ready word");
     expect(((r.woken | r.finished) & ~all) == 0, seed, record, "stray bits");
+    expect_signals(seed, record, &m);
     if (r.code == ACCEPTED) {
         expect(finished_by_settling(s, &r), seed, record,
                "a call that slept was finished and not continued");
@@ -317,6 +331,7 @@ static void print_seen(void)
     printf("steps leaving a ready thread unfinished %" PRIu64 "\n",
            seen.unfinished_ready);
     print_flags();
+    print_signals(&seen.signals);
     print_cases(&seen.cases);
     printf("most continued %" PRIu32 " (%" PRIu32 "%% of a budget), "
            "most woken %" PRIu32 "\n",

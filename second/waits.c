@@ -66,7 +66,8 @@ static int32_t *counter_at(struct tables *t, struct place at)
     }
 }
 
-/* Refusal 7 and the tables' rules keep the sum within 32 bits. */
+/* A signal stops at the top, and the tables' rules do the rest: the sum is
+   within 32 bits. */
 void add_to(int32_t *counter, int by)
 {
     *counter = (int32_t)((int64_t)*counter + by);
@@ -101,16 +102,21 @@ void release_all(struct work *w, struct place at, int32_t message)
 }
 
 /* "Counter +1; if it was below 0, the highest-priority waiter is made ready
-   with 0." */
-void signal_at(struct work *w, struct place at)
+   with 0." Document 02, 6/13: at the top it "leaves the counter, wakes nobody",
+   and "the basic signal tells its callers ... whether it counted". */
+bool signal_at(struct work *w, struct place at)
 {
     int32_t *counter = counter_at(w->t, at);
 
+    if (*counter == COUNTER_TOP) {
+        return false;
+    }
     if (*counter < 0) {
         release_first(w, at, MSG_OK);
     } else {
         add_to(counter, +1);
     }
+    return true;
 }
 
 /* "At 0 the thread is taken off its queue (counter +1) or reference (emptied)

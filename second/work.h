@@ -26,7 +26,8 @@ void tell(struct work *w, struct finished_call c);
 void add_to(int32_t *counter, int by);
 void release_first(struct work *w, struct place at, int32_t message);
 void release_all(struct work *w, struct place at, int32_t message);
-void signal_at(struct work *w, struct place at);
+/* Whether it counted. */
+bool signal_at(struct work *w, struct place at);
 void time_out(struct work *w, uint32_t i);
 void put_to_sleep(struct work *w, uint32_t i, struct call c);
 
@@ -37,7 +38,8 @@ bool make_call(struct work *w, const struct step *s, struct answer *out);
 /* Goes on with the unfinished call of a thread that has come to run. */
 void continue_call(struct work *w, uint32_t i);
 
-/* acts.c: the kinds that never wait. */
-void act(struct work *w, const struct step *s);
+/* acts.c: the kinds that never wait. Returns the message that they answer;
+   their datum is 0. */
+int32_t act(struct work *w, const struct step *s);
 
 #endif

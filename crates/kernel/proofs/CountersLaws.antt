@@ -8,8 +8,9 @@ use lib.ListN.{length}
 use lib.Seq.{set-out}
 use lib.IntN.{ℤ, pos, negsuc, _+ℤ_, _-ℤ_, +ℤ-one, -ℤ-one}
 use lib.Signed.{ltZ}
-use borrow.Author.Tests.{eq-eqb, ne-eqb, ltb-false, lt-ltb, le-ltb}
+use borrow.Author.Tests.{eq-eqb, ne-eqb, ltb-true, ltb-false, lt-ltb, le-ltb}
 use Rattle.kernel.specs.declared.records.Kernel.{Kernel}
+use Rattle.kernel.specs.Numbers.{top}
 use Rattle.kernel.specs.Walk.{bit}
 use Rattle.kernel.specs.Counters.{up, down}
 use Rattle.kernel.specs.Tables.{counterAt, withCounter}
@@ -45,6 +46,19 @@ debt-exact (negsuc n) e h = absurd (omega arith)
 pub above-not-below : (c : ℤ) → ltZ (pos 0) c ≡ true → ltZ c (pos 0) ≡ false
 above-not-below (pos n) e = le-ltb n 0 (omega arith)
 above-not-below (negsuc n) e = contrary e refl
+
+-- what is below a number is below a larger one
+pub below-more : (c : ℤ) (m n : ℕ) → m ≤ n → ltZ c (pos m) ≡ true → ltZ c (pos n) ≡ true
+below-more (pos a) m n l e = lt-ltb a n (omega (arith, ltb-true a m e))
+below-more (negsuc a) m n l e = refl
+
+-- below 0, or below 1, is below the top
+pub below-top : (c : ℤ) (m : ℕ) → m ≤ 1 → ltZ c (pos m) ≡ true → ltZ c top ≡ true
+below-top c m l = below-more c m 2147483647 (omega arith)
+
+-- the top is not below 0
+pub top-not-below : (c : ℤ) → ltZ c top ≡ false → ltZ c (pos 0) ≡ false
+top-not-below c e = split (ltZ c (pos 0)) (λ b. contrary (below-top c 0 (omega arith) b) e) (λ b. b)
 
 -- "counter +1", below the top
 pub up-exact : (c : ℤ) → ltZ c (pos 2147483647) ≡ true → up c ≡ c +ℤ pos 1

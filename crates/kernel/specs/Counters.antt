@@ -2,9 +2,10 @@
 use mathlib.Core.Bool.{cond}
 use lib.IntN.{ℤ, pos, negsuc, _+ℤ_, _-ℤ_}
 use lib.Signed.{ltZ}
+use Rattle.kernel.specs.Numbers.{top}
 
 abbrev pub up : ℤ → ℤ
-up c = cond (ltZ c (pos 2147483647)) (c +ℤ pos 1) c
+up c = cond (ltZ c top) (c +ℤ pos 1) c
 
 abbrev pub down : ℤ → ℤ
 down c = cond (ltZ (negsuc 2147483647) c) (c -ℤ pos 1) c

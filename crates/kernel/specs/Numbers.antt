@@ -40,6 +40,14 @@ timedOut = negsuc 0
 abbrev pub wasReset : ℤ
 wasReset = negsuc 1
 
+-- what a signal answers that did not count
+abbrev pub notCounted : ℤ
+notCounted = pos 1
+
+-- the top of a counter
+abbrev pub top : ℤ
+top = pos 2147483647
+
 -- intervals
 abbrev pub immediate : ℕ
 immediate = 0

@@ -5,7 +5,8 @@ use lib.IntN.{ℤ, pos}
 use lib.Signed.{ltZ}
 use Rattle.kernel.specs.declared.records.Call.{Call}
 use Rattle.kernel.specs.declared.records.Kernel.{Kernel}
-use Rattle.kernel.specs.Numbers.{ok, wasReset}
+use Rattle.kernel.specs.declared.semaphore.Signalled.{Signalled}
+use Rattle.kernel.specs.Numbers.{ok, wasReset, top}
 use Rattle.kernel.specs.Counters.{up, down}
 use Rattle.kernel.specs.Tables.{counterAt, withCounter}
 use Rattle.kernel.specs.Moves.{finished}
@@ -19,10 +20,14 @@ taken k p = withCounter k p (down (counterAt k p))
 unfoldable pub waited : Kernel → ℕ → ℕ → Call → Kernel
 waited k i p call = cond (ltZ (pos 0) (counterAt k p)) (finished (taken k p) i ok 0) (enqueued k i p call)
 
--- "counter +1; if it was below 0, the highest-priority waiter is made ready with 0": being made ready raises the counter
-unfoldable pub signalled : Kernel → ℕ → Kernel
+-- "counter +1; if it was below 0, the highest-priority waiter is made ready with 0": being made ready raises the counter. Of document 02: at
+-- the top it "leaves the counter, wakes nobody", and it "tells its callers .. whether it counted"
+unfoldable pub signalled : Kernel → ℕ → Signalled
 signalled k p =
-    cond (ltZ (counterAt k p) (pos 0)) (releasedFirst k p ok) (withCounter k p (up (counterAt k p)))
+    record {
+      kernel = cond (ltZ (counterAt k p) (pos 0)) (releasedFirst k p ok) (withCounter k p (up (counterAt k p)));
+      counted = ltZ (counterAt k p) top;
+    }
 
 -- "counter becomes a; all waiters are made ready with -2"
 unfoldable pub resetTo : Kernel → ℕ → ℤ → Kernel

@@ -25,6 +25,11 @@ pub const OK: i32 = 0;
 pub const TIMED_OUT: i32 = -1;
 
 pub const WAS_RESET: i32 = -2;
+// What a signal answers that did not count.
+pub const NOT_COUNTED: i32 = 1;
+
+// The top of a counter.
+pub const TOP: i32 = 2147483647;
 
 // Intervals: TIME_IMMEDIATE and TIME_INFINITE, with document 01's numbers.
 pub const IMMEDIATE: u32 = 0;

@@ -3,6 +3,7 @@ use crate::counters::count_down;
 use crate::counters::count_up;
 use crate::moves::finish;
 use crate::numbers::OK;
+use crate::numbers::TOP;
 use crate::numbers::WAS_RESET;
 use crate::queue::enqueue;
 use crate::queue::release_all;
@@ -13,6 +14,12 @@ use crate::tables::counter_at;
 use crate::tables::set_counter;
 ghost use mathlib.Core.Path.{_≡_};
 ghost use Rattle.kernel.specs.Semaphore.{taken, waited, signalled, resetTo};
+
+// The tables after a signal, and whether it counted.
+pub struct Signalled {
+    pub kernel: Kernel,
+    pub counted: bool,
+}
 
 // One is taken off the counter, whatever it is: chSemFastWaitI.
 pub fn take(k: Kernel, place: u16) -> Kernel
@@ -35,16 +42,21 @@ pub fn wait(k: Kernel, i: u8, place: u16, call: Call) -> Kernel
 }
 
 // Below 0 the highest waiter is made ready with 0, which raises the counter; else the counter is raised: chSemSignalI.
-// At 2147483647 the counter stays: a step refuses that signal before it gets here.
-pub fn signal(k: Kernel, place: u16) -> Kernel
+// At the top it stays, nobody is woken, and the signal has not counted.
+pub fn signal(k: Kernel, place: u16) -> Signalled
     ensures { λ r. ⌜ r ≡ signalled k place ⌝ }
 {
     let counters = k.counters;
     let c = counter_at(counters, place);
-    if c < 0 {
+    let counted = c < TOP;
+    let after = if c < 0 {
         release_first(k, place, OK)
     } else {
         set_counter(k, place, count_up(c))
+    };
+    Signalled {
+        kernel: after,
+        counted: counted,
     }
 }
 

@@ -6,7 +6,7 @@ use mir.Syntax.{w32}
 use mir.Val.{toZ}
 use Rattle.kernel.specs.declared.time.SystemTime.{SystemTime}
 use Rattle.kernel.specs.declared.records.Kernel.{Kernel}
-use Rattle.kernel.specs.Numbers.{ok}
+use Rattle.kernel.specs.Numbers.{ok, notCounted}
 use Rattle.kernel.specs.Places.{semaphorePlace, queuePlace}
 use Rattle.kernel.specs.Moves.{finished}
 use Rattle.kernel.specs.Queue.{enqueued, releasedFirst, releasedAll}
@@ -27,35 +27,46 @@ use Rattle.library.specs.Tables.{withKernel}
 abbrev pub messageOf : Step → lib.IntN.ℤ
 messageOf s = toZ w32 (s .a)
 
--- 2, 6, 9, 11, 12, 14: the calls of the kernel part that may sleep
-unfoldable pub waitBegun : Kernel → SystemTime → Step → Kernel
-waitBegun k now s =
+-- 3: a plain signal at the top "answers message 1 in place of 0"
+abbrev pub signalMessage : Bool → lib.IntN.ℤ
+signalMessage counted = cond counted ok notCounted
+
+unfoldable pub signalActed : Kernel → ℕ → ℕ → Kernel
+signalActed k i p = finished (signalled k p .kernel) i (signalMessage (signalled k p .counted)) 0
+
+-- 2, 3, 6, 9, 11, 12, 14: the calls of the kernel part that have an answer of their own; all but 3 may sleep
+unfoldable pub callMade : Kernel → SystemTime → Step → Kernel
+callMade k now s =
     cond (eqb (s .kind) 2) (waited k (s .caller) (semaphorePlace (s .object)) (callOf s))
+    (cond (eqb (s .kind) 3) (signalActed k (s .caller) (semaphorePlace (s .object)))
     (cond (eqb (s .kind) 6) (enqueued k (s .caller) (queuePlace (s .object)) (callOf s))
     (cond (eqb (s .kind) 9) (suspendedOn k (s .caller) (s .object) (callOf s))
     (cond (eqb (s .kind) 11) (sleptFor k (s .caller) (record { 0 = s .timeout }))
     (cond (eqb (s .kind) 12) (sleptUntil k (s .caller) now (record { 0 = s .a }))
-    (eventWaited k (s .caller) (callOf s))))))
+    (eventWaited k (s .caller) (callOf s)))))))
 
--- 1, 3, 4, 5, 7, 8, 10, 13: those that never sleep
+-- 1, 4, 5, 7, 8, 10, 13: those that answer 0 and 0
 unfoldable pub effected : Kernel → ℕ → Step → Kernel
 effected k n s =
     cond (eqb (s .kind) 1) (ticked k n)
-    (cond (eqb (s .kind) 3) (signalled k (semaphorePlace (s .object)))
     (cond (eqb (s .kind) 4) (resetTo k (semaphorePlace (s .object)) (messageOf s))
     (cond (eqb (s .kind) 5) (binarySignalled k (semaphorePlace (s .object)))
     (cond (eqb (s .kind) 7) (releasedFirst k (queuePlace (s .object)) (messageOf s))
     (cond (eqb (s .kind) 8) (releasedAll k (queuePlace (s .object)) (messageOf s))
-    (cond (eqb (s .kind) 10) (resumed k (s .object) (messageOf s)) (eventSignalled k (s .object) (s .a))))))))
+    (cond (eqb (s .kind) 10) (resumed k (s .object) (messageOf s)) (eventSignalled k (s .object) (s .a)))))))
 
+-- those that may sleep
 abbrev pub kernelWaits : ℕ → Bool
 kernelWaits kind =
     eqb kind 2 || (eqb kind 6 || (eqb kind 9 || (eqb kind 11 || (eqb kind 12 || eqb kind 14))))
 
+abbrev pub answersItself : ℕ → Bool
+answersItself kind = eqb kind 3 || kernelWaits kind
+
 -- 1 to 14: "A thread's call that doesn't sleep finishes at once"
 unfoldable pub actedOnKernel : Kernel → ℕ → SystemTime → Step → Kernel
 actedOnKernel k n now s =
-    cond (kernelWaits (s .kind)) (waitBegun k now s) (finished (effected k n s) (s .caller) ok 0)
+    cond (answersItself (s .kind)) (callMade k now s) (finished (effected k n s) (s .caller) ok 0)
 
 -- 18, 19, 21, 22: the calls of the library part that never sleep
 unfoldable pub boxEffected : Plant → Step → Plant

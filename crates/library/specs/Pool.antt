@@ -67,7 +67,7 @@ allocTried p i call =
     (handedOver (withKernel p (taken (p .kernel) (poolPlace (call .object)))) i (call .object))
     (withKernel p (enqueued (p .kernel) i (poolPlace (call .object)) call))
 
--- "Free and add put the object on top and signal"
+-- "Free and add put the object on top and signal"; whether that counted is dropped: "a pool never gets there"
 unfoldable pub putBack : Plant → ℕ → ℕ → Plant
 putBack p n o =
-    withPool (withKernel p (signalled (p .kernel) (poolPlace n))) n (pushed (poolAt p n) o)
+    withPool (withKernel p (signalled (p .kernel) (poolPlace n) .kernel)) n (pushed (poolAt p n) o)

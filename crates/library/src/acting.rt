@@ -36,6 +36,7 @@ use kernel::kinds::SLEEP_UNTIL;
 use kernel::kinds::SUSPEND;
 use kernel::kinds::TICK;
 use kernel::moves::finish;
+use kernel::numbers::NOT_COUNTED;
 use kernel::numbers::OK;
 use kernel::places::queue_place;
 use kernel::places::semaphore_place;
@@ -52,17 +53,33 @@ use kernel::ticking::tick;
 use kernel::time::Interval;
 use kernel::time::SystemTime;
 ghost use mathlib.Core.Path.{_≡_};
-ghost use Rattle.library.specs.Acting.{waitBegun, effected, kernelWaits, actedOnKernel, boxEffected, actedOnBox};
+ghost use Rattle.library.specs.Acting.{signalMessage, signalActed, callMade, effected, kernelWaits, answersItself, actedOnKernel, boxEffected, actedOnBox};
 
-// The kernel part's calls that may sleep: 2, 6, 9, 11, 12 and 14.
-fn begin_wait(k: Kernel, now: SystemTime, s: Step) -> Kernel
-    ensures { λ r. ⌜ r ≡ waitBegun k now s ⌝ }
+// What a plain signal answers, by whether it counted.
+fn signal_message(counted: bool) -> i32
+    ensures { λ r. ⌜ r ≡ signalMessage counted ⌝ }
+{
+    if counted { OK } else { NOT_COUNTED }
+}
+
+// 3: a signal at the top is answered with 1, any other with 0: chSemSignal, chSemSignalI.
+fn act_signal(k: Kernel, i: u8, place: u16) -> Kernel
+    ensures { λ r. ⌜ r ≡ signalActed k i place ⌝ }
+{
+    let done = signal(k, place);
+    finish(done.kernel, i, signal_message(done.counted), 0)
+}
+
+// The kernel part's calls that have an answer of their own: 2, 3, 6, 9, 11, 12 and 14. All but 3 may sleep.
+fn make_call(k: Kernel, now: SystemTime, s: Step) -> Kernel
+    ensures { λ r. ⌜ r ≡ callMade k now s ⌝ }
 {
     let kind = s.kind;
     let object = s.object as u16;
     let call = call_of(s);
     match kind {
         SEMAPHORE_WAIT => wait(k, s.caller, semaphore_place(object), call),
+        SIGNAL => act_signal(k, s.caller, semaphore_place(object)),
         QUEUE_WAIT => enqueue(k, s.caller, queue_place(object), call),
         SUSPEND => suspend(k, s.caller, object, call),
         SLEEP_FOR => sleep_for(k, s.caller, Interval(s.timeout)),
@@ -71,7 +88,7 @@ fn begin_wait(k: Kernel, now: SystemTime, s: Step) -> Kernel
     }
 }
 
-// The kernel part's calls that never sleep: 1, 3, 4, 5, 7, 8, 10 and 13.
+// The kernel part's calls that answer 0 and 0: 1, 4, 5, 7, 8, 10 and 13.
 fn effect(k: Kernel, n: u16, s: Step) -> Kernel
     ensures { λ r. ⌜ r ≡ effected k n s ⌝ }
 {
@@ -79,7 +96,6 @@ fn effect(k: Kernel, n: u16, s: Step) -> Kernel
     let object = s.object as u16;
     match kind {
         TICK => tick(k, n),
-        SIGNAL => signal(k, semaphore_place(object)),
         SEMAPHORE_RESET => reset(k, semaphore_place(object), as_signed(s.a)),
         BINARY_SIGNAL => binary_signal(k, semaphore_place(object)),
         RELEASE_FIRST => release_first(k, queue_place(object), as_signed(s.a)),
@@ -103,12 +119,19 @@ pub fn is_kernel_wait(kind: u8) -> bool
     )
 }
 
+// Whether a kind of 1 to 14 has an answer of its own.
+fn answers_itself(kind: u8) -> bool
+    ensures { λ r. ⌜ r ≡ answersItself kind ⌝ }
+{
+    either(kind == SIGNAL, is_kernel_wait(kind))
+}
+
 // An accepted step of kinds 1 to 14 acts. `now` is the time before the step.
 pub fn act_on_kernel(k: Kernel, n: u16, now: SystemTime, s: Step) -> Kernel
     ensures { λ r. ⌜ r ≡ actedOnKernel k n now s ⌝ }
 {
-    if is_kernel_wait(s.kind) {
-        begin_wait(k, now, s)
+    if answers_itself(s.kind) {
+        make_call(k, now, s)
     } else {
         finish(effect(k, n, s), s.caller, OK, 0)
     }

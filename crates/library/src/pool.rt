@@ -126,11 +126,12 @@ pub fn try_alloc(p: Plant, i: u8, call: Call) -> Plant
 }
 
 // An object is put on top of a pool, and the pool's semaphore is signalled: chGuardedPoolFreeI, chGuardedPoolAddI.
+// A pool's counter is at most 32, so that the signal counts: whether it did is dropped.
 pub fn put_back(p: Plant, number: u16, o: u8) -> Plant
     ensures { λ r. ⌜ r ≡ putBack p number o ⌝ }
 {
     let pools = p.pools;
     let x = pool_at(pools, number);
-    let signalled = signal(p.kernel, pool_place(number));
-    set_pool(set_kernel(p, signalled), number, push(x, o))
+    let done = signal(p.kernel, pool_place(number));
+    set_pool(set_kernel(p, done.kernel), number, push(x, o))
 }

@@ -18,3 +18,4 @@ pub mod Run
 pub mod Flags
 pub mod History
 pub mod Ledger
+pub mod Signals

@@ -27,3 +27,4 @@ pub mod Objects
 pub mod Ledgers
 pub mod Tallied
 pub mod Takers
+pub mod Signals

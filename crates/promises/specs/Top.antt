@@ -3,9 +3,11 @@ pub mod Demands
 pub mod RuledOut
 pub mod Pipes
 pub mod Ledgers
+pub mod Signals
 pub mod Facts
 pub mod Shown
 pub mod ShownArms
 pub mod ShownRest
 pub mod ShownPipes
 pub mod ShownLedgers
+pub mod ShownSignals

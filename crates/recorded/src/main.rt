@@ -171,11 +171,11 @@ fn main() {
         filler-two-stations.trace \
         label-queue.trace \
         sixteen-on-one-semaphore.trace \
-        sleep-until.trace \
-        timeout-against-signal.trace \
-        tote-pool.trace ",
+        sleep-until.trace ",
         STEPS,
     );
+    show_all(b"tank-present.trace ", TABLES);
+    show_all(b"timeout-against-signal.trace tote-pool.trace ", STEPS);
     show_all(
         b"two-flags-one-wait.trace whole-line.trace words-on-the-screen.trace ",
         TABLES,

@@ -429,6 +429,22 @@ fn binary_signal() {
     run(b"binary signal\n", sizes, &steps);
 }
 
+// Nothing is lost but the count: the wait after it takes one, and the next signal counts again.
+fn signal_at_the_top() {
+    let sizes = [2, 1, 0, 0, 0, 0, 0];
+    let steps = [
+        [SEMAPHORE_RESET, 0, 0, 2147483646, 0],
+        [SIGNAL, INTERRUPT, 0, 0, 0],
+        [SIGNAL, INTERRUPT, 0, 0, 0],
+        [SIGNAL, 0, 0, 0, 0],
+        [BINARY_SIGNAL, 0, 0, 0, 0],
+        [SEMAPHORE_WAIT, 0, 0, 0, 0],
+        [SIGNAL, 0, 0, 0, 0],
+        [SIGNAL, 0, 0, 0, 0],
+    ];
+    run(b"signal at the top\n", sizes, &steps);
+}
+
 fn main() {
     six_lines();
     highest_not_longest();
@@ -447,4 +463,5 @@ fn main() {
     queues();
     post_ahead_and_order();
     binary_signal();
+    signal_at_the_top();
 }

@@ -3,14 +3,11 @@ use Prim.Native.Nat.{ℕ, _%_}
 use mathlib.Core.Bool.{Bool, true, false, cond, not, _&&_, _||_}
 use mathlib.Core.List.{List}
 use lib.Dec.{eqb, leb, ltb}
-use lib.IntN.{ℤ, pos}
-use lib.Signed.{ltZ}
 use Rattle.kernel.specs.declared.time.SystemTime.{SystemTime}
 use Rattle.kernel.specs.declared.clock.Clock.{Clock}
 use Rattle.kernel.specs.Numbers.{nobody, immediate, infinite}
 use Rattle.kernel.specs.Time.{differed}
-use Rattle.kernel.specs.Places.{semaphorePlace}
-use Rattle.kernel.specs.Tables.{counterIn, holderIn}
+use Rattle.kernel.specs.Tables.{holderIn}
 use Rattle.library.specs.declared.calls.Step.{Step}
 use Rattle.library.specs.declared.sizes.Sizes.{Sizes}
 use Rattle.library.specs.declared.tables.Plant.{Plant}
@@ -60,13 +57,12 @@ valueFits now s =
     (cond (eqb (s .kind) 14) (leb 1 (s .a))
     (cond (eqb (s .kind) 21) (leb (s .a) 31) (cond (eqb (s .kind) 22) (leb (s .a) 31) true)))))
 
--- 7: "3 at counter 2147483647; suspend on a held reference; free of an object not out; add of one not absent"
-abbrev pub stateFits : List ℤ → List ℕ → List Pool → Step → Bool
-stateFits counters references pools s =
-    cond (eqb (s .kind) 3) (ltZ (counterIn counters (semaphorePlace (s .object))) (pos 2147483647))
-    (cond (eqb (s .kind) 9) (eqb (holderIn references (s .object)) nobody)
+-- 7: "suspend on a held reference; free of an object not out; add of one not absent"; of document 02: "the first case of 7 is struck out"
+abbrev pub stateFits : List ℕ → List Pool → Step → Bool
+stateFits references pools s =
+    cond (eqb (s .kind) 9) (eqb (holderIn references (s .object)) nobody)
     (cond (eqb (s .kind) 21) (eqb (markAt (poolIn pools (s .object)) (s .a % 256)) out)
-    (cond (eqb (s .kind) 22) (eqb (markAt (poolIn pools (s .object)) (s .a % 256)) absent) true)))
+    (cond (eqb (s .kind) 22) (eqb (markAt (poolIn pools (s .object)) (s .a % 256)) absent) true))
 
 -- "Refusal numbers, in the order of checking": that of the first test that fails, of the fifth where it holds; 0 is an accepted step
 abbrev pub firstFailing : Bool → Bool → Bool → Bool → Bool → Bool → Bool → ℕ
@@ -78,4 +74,4 @@ unfoldable pub refusalOf : Plant → Clock → Step → ℕ
 refusalOf p c s =
     firstFailing (hangsTogether p c) (kindFits (s .kind)) (callerFits (runningIn p) (s .caller)) (contextFits s)
     (leb (objectLimit (p .sizes) (s .kind)) (s .object)) (valueFits (c .time) s)
-    (stateFits (p .kernel .counters) (p .kernel .references) (p .pools) s)
+    (stateFits (p .kernel .references) (p .pools) s)

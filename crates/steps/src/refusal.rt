@@ -9,7 +9,6 @@ use kernel::kinds::MAILBOX_RESUME;
 use kernel::kinds::RELEASE_ALL;
 use kernel::kinds::RESUME;
 use kernel::kinds::SEMAPHORE_RESET;
-use kernel::kinds::SIGNAL;
 use kernel::kinds::SLEEP_FOR;
 use kernel::kinds::SLEEP_UNTIL;
 use kernel::kinds::SUSPEND;
@@ -17,8 +16,6 @@ use kernel::kinds::TICK;
 use kernel::numbers::IMMEDIATE;
 use kernel::numbers::INFINITE;
 use kernel::numbers::NOBODY;
-use kernel::places::semaphore_place;
-use kernel::tables::counter_at;
 use kernel::tables::holder_at;
 use kernel::time::SystemTime;
 use kernel::time::difference;
@@ -121,13 +118,12 @@ fn value_fits(now: SystemTime, s: Step) -> bool
 }
 
 // 7: the object is in the state that the step needs.
-fn state_fits(counters: [i32; 36], references: [u8; 8], pools: [Pool; 4], s: Step) -> bool
-    ensures { λ r. ⌜ r ≡ stateFits counters references pools s ⌝ }
+fn state_fits(references: [u8; 8], pools: [Pool; 4], s: Step) -> bool
+    ensures { λ r. ⌜ r ≡ stateFits references pools s ⌝ }
 {
     let kind = s.kind;
     let object = s.object as u16;
     match kind {
-        SIGNAL => counter_at(counters, semaphore_place(object)) < 2147483647,
         SUSPEND => holder_at(references, object) == NOBODY,
         FREE => mark_at(pool_at(pools, object), (s.a % 256) as u8) == OUT,
         ADD => mark_at(pool_at(pools, object), (s.a % 256) as u8) == ABSENT,
@@ -171,7 +167,6 @@ pub fn refuse(t: Tables, clock: Clock, s: Step) -> u8
     ensures { λ r. ⌜ r ≡ refusalOf (opened t) clock s ⌝ }
 {
     let words = t.kernel.words;
-    let counters = t.kernel.counters;
     let references = t.kernel.references;
     let pools = t.pools;
     let hangs = hangs_together(t, clock);
@@ -180,6 +175,6 @@ pub fn refuse(t: Tables, clock: Clock, s: Step) -> u8
     let context = context_fits(s);
     let outside = object_limit(t.sizes, s.kind) <= s.object as u16;
     let value = value_fits(clock.time, s);
-    let state = state_fits(counters, references, pools, s);
+    let state = state_fits(references, pools, s);
     first_failing(hangs, kind, caller, context, outside, value, state)
 }

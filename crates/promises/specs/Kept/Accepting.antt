@@ -31,7 +31,7 @@ pub record Accepted (p : Plant) (c : Clock) (s : Step) : Type 0 where
   -- 6: a value out of its range
   pub value : valueFits (c .time) s ≡ true
   -- 7: a state in which the step cannot be done
-  pub state : stateFits (p .kernel .counters) (p .kernel .references) (p .pools) s ≡ true
+  pub state : stateFits (p .kernel .references) (p .pools) s ≡ true
 
 -- a choice that comes to 0 was made by its test, where the other side is not 0
 passed : (b : Bool) (x y : ℕ) → y ≢ 0 → cond b x y ≡ 0 → (b ≡ true) × (x ≡ 0)
@@ -54,7 +54,7 @@ module _ (p : Plant) (c : Clock) (s : Step) where
       let f = passed (contextFits s) _ 4 (λ z. omega arith) (d .1) in
       let g = not-failed (leb (objectLimit (p .sizes) (s .kind)) (s .object)) 5 _ (λ z. omega arith) (f .1) in
       let h = passed (valueFits (c .time) s) _ 6 (λ z. omega arith) (g .1) in
-      let i = passed (stateFits (p .kernel .counters) (p .kernel .references) (p .pools) s) 0 7 (λ z. omega arith) (h .1) in
+      let i = passed (stateFits (p .kernel .references) (p .pools) s) 0 7 (λ z. omega arith) (h .1) in
       record {
         hangs = a .0;
         kind = b .0;

@@ -7,7 +7,7 @@ use mathlib.Core.Bool.{Bool, true, false, cond, _||_}
 use mathlib.Core.List.{List, [], _∷_}
 use lib.Dec.{eqb, leb, ltb}
 use lib.Bits.{bitAnd}
-use lib.IntN.{pos}
+use lib.IntN.{ℤ, pos}
 use lib.Signed.{ltZ}
 use mir.Syntax.{w32}
 use mir.Val.{toZ}
@@ -29,12 +29,13 @@ use Rattle.kernel.specs.Reference.{suspendedOn, resumed}
 use Rattle.kernel.specs.Delay.{sleptFor, sleptUntil}
 use Rattle.kernel.proofs.Cases.{split, chosen, contrary, both-means}
 use Rattle.kernel.proofs.WaitersLaws.{TellsAt, first-ready-cases}
+use Rattle.kernel.proofs.SemaphoreLaws.{signal-top}
 use Rattle.library.specs.declared.calls.Step.{Step}
 use Rattle.library.specs.declared.sizes.Sizes.{Sizes}
 use Rattle.library.specs.declared.tables.Plant.{Plant}
 use Rattle.library.specs.Binary.{binarySignalled}
 use Rattle.library.specs.Calls.{callOf, objectOf, operandOf}
-use Rattle.library.specs.Acting.{messageOf, waitBegun, effected, kernelWaits, actedOnKernel}
+use Rattle.library.specs.Acting.{messageOf, signalMessage, signalActed, callMade, effected, kernelWaits, answersItself, actedOnKernel}
 use Rattle.library.specs.Tables.{withKernel}
 use Rattle.library.proofs.Signed.{lower}
 use Rattle.rules.specs.RowRules.{callLimit, waitState, waitPlace}
@@ -47,7 +48,7 @@ use Rattle.promises.specs.Kept.CounterRule.{semaphore-place, queue-place
 use Rattle.promises.specs.Kept.WordRule.{semaphore-told, queue-told}
 use Rattle.promises.specs.Kept.Accepting.{Accepted, waits-thread}
 use Rattle.promises.specs.Kept.Rows.{Idle, CallSound}
-use Rattle.promises.specs.Kept.Chain.{Sleeper, Note, sleepOf, signalAt, takeAt, Chained, after, nil-right, countIn, isSlept}
+use Rattle.promises.specs.Kept.Chain.{Sleeper, Note, sleepOf, signalAt, takeAt, Chained, rested, after, nil-right, countIn, isSlept}
 use Rattle.promises.specs.Kept.Owed.{isSignal, isTake}
 use Rattle.promises.specs.Kept.Moving.{
   Caller,
@@ -92,17 +93,18 @@ no-pool o q h = ne-eqb o (poolPlace q) (λ e. absurd (omega arith))
 not-negative : (a : ℕ) → a ≤ 2147483647 → ltZ (toZ w32 a) (pos 0) ≡ false
 not-negative a h = rw (lower a (omega arith)) (le-ltb a 0 (omega arith))
 
--- of the kinds to 14 that never sleep, only the event signal is left
+-- of the kinds to 14 that answer 0 and 0, only the event signal is left
 next : (n m : ℕ) → n ≢ m → m ≤ n → suc m ≤ n
 next n m d h = omega arith
 
 last : (n : ℕ) → n ≢ 14 → n ≤ 14 → 13 ≤ n → n ≡ 13
 last n d h l = omega arith
 
-left-thirteen : (n : ℕ) → n ≤ 14 → 1 ≤ n → kernelWaits n ≡ false
-    → n ≢ 1 → n ≢ 3 → n ≢ 4 → n ≢ 5 → n ≢ 7 → n ≢ 8 → n ≢ 10 → n ≡ 13
-left-thirteen n h l w n1 n3 n4 n5 n7 n8 n10 =
-    let a = neither-means (eqb n 2) (eqb n 6 || (eqb n 9 || (eqb n 11 || (eqb n 12 || eqb n 14)))) w in
+left-thirteen : (n : ℕ) → n ≤ 14 → 1 ≤ n → answersItself n ≡ false
+    → n ≢ 1 → n ≢ 4 → n ≢ 5 → n ≢ 7 → n ≢ 8 → n ≢ 10 → n ≡ 13
+left-thirteen n h l w n1 n4 n5 n7 n8 n10 =
+    let s = neither-means (eqb n 3) (kernelWaits n) w in
+    let a = neither-means (eqb n 2) (eqb n 6 || (eqb n 9 || (eqb n 11 || (eqb n 12 || eqb n 14)))) (s .1) in
     let b = neither-means (eqb n 6) (eqb n 9 || (eqb n 11 || (eqb n 12 || eqb n 14))) (a .1) in
     let c = neither-means (eqb n 9) (eqb n 11 || (eqb n 12 || eqb n 14)) (b .1) in
     let d = neither-means (eqb n 11) (eqb n 12 || eqb n 14) (c .1) in
@@ -114,12 +116,12 @@ left-thirteen n h l w n1 n3 n4 n5 n7 n8 n10 =
     (next n 9 (eqb-false n 9 (c .0))
     (next n 8 n8
     (next n 7 n7
-    (next n 6 (eqb-false n 6 (b .0)) (next n 5 n5 (next n 4 n4 (next n 3 n3 (next n 2 (eqb-false n 2 (a .0)) (next n 1 n1 l))))))))))))
+    (next n 6 (eqb-false n 6 (b .0)) (next n 5 n5 (next n 4 n4 (next n 3 (eqb-false n 3 (s .0)) (next n 2 (eqb-false n 2 (a .0)) (next n 1 n1 l))))))))))))
 
--- and of those that may sleep, only the event wait
-left-fourteen : (n : ℕ) → kernelWaits n ≡ true → eqb n 2 ≡ false → eqb n 6 ≡ false → eqb n 9 ≡ false → eqb n 11 ≡ false
+-- and of the others, only the event wait
+left-fourteen : (n : ℕ) → answersItself n ≡ true → eqb n 2 ≡ false → eqb n 3 ≡ false → eqb n 6 ≡ false → eqb n 9 ≡ false → eqb n 11 ≡ false
     → eqb n 12 ≡ false → n ≡ 14
-left-fourteen n w a b c d e = eqb-true n 14 (rw (a, b, c, d, e) at w)
+left-fourteen n w a s b c d e = eqb-true n 14 (rw (a, s, b, c, d, e) at w)
 
 module _ (p : Plant) (c : Clock) (s : Step) (a : Accepted p c s) (w : Whole (p .sizes) p) where
   abbrev z : Sizes
@@ -198,12 +200,14 @@ module _ (p : Plant) (c : Clock) (s : Step) (a : Accepted p c s) (w : Whole (p .
     tally : Tallies n (s .object) k
     tally = w .kernel .rules .places (s .object) (omega (arith, low)) (semaphore-place k z g (s .object) in-range .1)
 
-  -- 3: "3 at counter 2147483647" is refused
-  signal-acts : s .kind ≡ 3 → Effects z p s (signalled k (s .object))
+  -- 3: at the top nothing happens
+  signal-acts : s .kind ≡ 3 → Effects z p s (signalled k (s .object) .kernel)
   signal-acts e =
       let l = object-of 3 e in
-      signalling (signalled k (s .object)) (low l)
-      (signal-chained z g k (s .object) (omega (arith, low l)) (told l) (tally l) (rw e at (a .state)))
+      split (ltZ (counterAt k (s .object)) (pos 2147483647))
+      (λ b. signalling (signalled k (s .object) .kernel) (low l)
+      (signal-chained z g k (s .object) (omega (arith, low l)) (told l) (tally l) b))
+      (λ b. plainly (signalled k (s .object) .kernel) (rw (signal-top k (s .object) b) rested))
 
   -- 5
   binary-acts : s .kind ≡ 5 → Effects z p s (binarySignalled k (s .object))
@@ -239,13 +243,12 @@ module _ (p : Plant) (c : Clock) (s : Step) (a : Accepted p c s) (w : Whole (p .
       (eqb (threadAt k (holderAt k (s .object)) .place) (s .object))
       (sym (r .holds (holderAt k (s .object)) (r .within d)) ∙ eq-eqb (holderAt k (s .object)) (holderAt k (s .object)) refl) .0)))
 
-  effect : s .kind ≤ 14 → kernelWaits (s .kind) ≡ false → Effects z p s (effected k n s)
+  effect : s .kind ≤ 14 → answersItself (s .kind) ≡ false → Effects z p s (effected k n s)
   unfolding effected countIn
   effect h x =
       chosen (Effects z p s) (eqb (s .kind) 1)
       (λ e. plainly (ticked k n) (tick-chained z g k))
-      (λ e1. chosen (Effects z p s) (eqb (s .kind) 3) (λ e. signal-acts (eqb-true (s .kind) 3 e))
-      (λ e3. chosen (Effects z p s) (eqb (s .kind) 4) (λ e. reset-acts (eqb-true (s .kind) 4 e))
+      (λ e1. chosen (Effects z p s) (eqb (s .kind) 4) (λ e. reset-acts (eqb-true (s .kind) 4 e))
       (λ e4. chosen (Effects z p s) (eqb (s .kind) 5) (λ e. binary-acts (eqb-true (s .kind) 5 e))
       (λ e5. chosen (Effects z p s) (eqb (s .kind) 7)
       (λ e. plainly (releasedFirst k (queuePlace (s .object)) (messageOf s))
@@ -259,11 +262,11 @@ module _ (p : Plant) (c : Clock) (s : Step) (a : Accepted p c s) (w : Whole (p .
       (λ e10.
       let is =
       left-thirteen (s .kind) h (leb-true 1 (s .kind) (both-means (leb 1 (s .kind)) (leb (s .kind) 22) (a .kind) .0)) x
-      (eqb-false (s .kind) 1 e1) (eqb-false (s .kind) 3 e3) (eqb-false (s .kind) 4 e4) (eqb-false (s .kind) 5 e5)
+      (eqb-false (s .kind) 1 e1) (eqb-false (s .kind) 4 e4) (eqb-false (s .kind) 5 e5)
       (eqb-false (s .kind) 7 e7) (eqb-false (s .kind) 8 e8) (eqb-false (s .kind) 10 e10) in
       let l = object-of 13 is in
       plainly (eventSignalled k (s .object) (s .a))
-      (event-signal-chained z g k (s .object) (s .a) (w .kernel .rules .sized) l))))))))
+      (event-signal-chained z g k (s .object) (s .a) (w .kernel .rules .sized) l)))))))
 
   -- ---- 2, 6, 9, 11, 12, 14
 
@@ -396,38 +399,43 @@ module _ (p : Plant) (c : Clock) (s : Step) (a : Accepted p c s) (w : Whole (p .
         (λ b. waiting _ (s .caller) (eqb (s .timeout) immediate) (rw b at x))
         (λ b. waiting _ (s .caller) true (rw b at x))
 
-    wait-begun : kernelWaits (s .kind) ≡ true → KernelActs z p s (waitBegun k (c .time) s)
-    unfolding waitBegun
-    wait-begun x =
-        chosen (KernelActs z p s) (eqb (s .kind) 2) (λ e. wait-acts (eqb-true (s .kind) 2 e))
-        (λ e2. chosen (KernelActs z p s) (eqb (s .kind) 6) (λ e. queue-acts (eqb-true (s .kind) 6 e))
-        (λ e6. chosen (KernelActs z p s) (eqb (s .kind) 9) (λ e. suspend-acts (eqb-true (s .kind) 9 e))
-        (λ e9. chosen (KernelActs z p s) (eqb (s .kind) 11) (λ e. sleep-for-acts (eqb-true (s .kind) 11 e))
-        (λ e11. chosen (KernelActs z p s) (eqb (s .kind) 12) (λ e. sleep-until-acts (eqb-true (s .kind) 12 e))
-        (λ e12. event-acts (left-fourteen (s .kind) x e2 e6 e9 e11 e12))))))
-
   -- "A thread's call that doesn't sleep finishes at once"
-  at-once : (h : Kernel) → Effects z p s h → KernelActs z p s (finished h (s .caller) ok 0)
-  at-once h x =
+  at-once : (m : ℤ) (h : Kernel) → Effects z p s h → KernelActs z p s (finished h (s .caller) m 0)
+  at-once answer h x =
       let m = x .acts .notes in
       let i = s .caller in
       record {
         notes = m;
         chained = rw (nil-right m) at
             (after (x .acts .chained)
-            (finish-chained z g h i ok 0
+            (finish-chained z g h i answer 0
             (stepper-caller z h i (stepper-kept z k h i m g (w .kernel) (x .acts .chained) (x .awake i) stepper))));
         takes = x .acts .takes;
         signals = x .acts .signals;
       }
 
+  -- a kind that may sleep is a thread's
+  by-thread : {m : ℕ} → s .kind ≡ m → kernelWaits m ≡ true → s .caller ≢ nobody
+  by-thread e v = waits-thread p c s a (rw e v)
+
+  -- 2, 3, 6, 9, 11, 12, 14
+  call-made : answersItself (s .kind) ≡ true → KernelActs z p s (callMade k (c .time) s)
+  unfolding callMade signalActed
+  call-made x =
+      chosen (KernelActs z p s) (eqb (s .kind) 2) (λ e. let is = eqb-true (s .kind) 2 e in wait-acts (by-thread is refl) is)
+      (λ e2. chosen (KernelActs z p s) (eqb (s .kind) 3)
+      (λ e. at-once (signalMessage (signalled k (s .object) .counted)) (signalled k (s .object) .kernel) (signal-acts (eqb-true (s .kind) 3 e)))
+      (λ e3. chosen (KernelActs z p s) (eqb (s .kind) 6) (λ e. let is = eqb-true (s .kind) 6 e in queue-acts (by-thread is refl) is)
+      (λ e6. chosen (KernelActs z p s) (eqb (s .kind) 9) (λ e. let is = eqb-true (s .kind) 9 e in suspend-acts (by-thread is refl) is)
+      (λ e9. chosen (KernelActs z p s) (eqb (s .kind) 11) (λ e. let is = eqb-true (s .kind) 11 e in sleep-for-acts (by-thread is refl) is)
+      (λ e11. chosen (KernelActs z p s) (eqb (s .kind) 12) (λ e. let is = eqb-true (s .kind) 12 e in sleep-until-acts (by-thread is refl) is)
+      (λ e12. let is = left-fourteen (s .kind) x e2 e3 e6 e9 e11 e12 in event-acts (by-thread is refl) is))))))
+
   -- an accepted step of the kernel part
   pub kernel-acts : s .kind ≤ 14 → Acts z p s (withKernel p (actedOnKernel k n (c .time) s))
   unfolding actedOnKernel
   kernel-acts h =
-      let x =
-      chosen (KernelActs z p s) (kernelWaits (s .kind)) (λ v. wait-begun (waits-thread p c s a v) v)
-      (λ v. at-once (effected k n s) (effect h v)) in
+      let x = chosen (KernelActs z p s) (answersItself (s .kind)) call-made (λ v. at-once ok (effected k n s) (effect h v)) in
       record {
         notes = x .notes;
         done = kernel-done z p (actedOnKernel k n (c .time) s) (x .notes) w (x .chained) (λ q there. x .takes q ∙ sym (x .signals q));

@@ -10,9 +10,9 @@ use lib.Dec.{eqb}
 use lib.ListN.{length, set}
 use lib.Seq.{set-set}
 use lib.Bits.{bitAnd, bitOr}
-use lib.IntN.{ℤ, pos, negsuc}
+use lib.IntN.{ℤ, pos}
 use lib.Signed.{ltZ}
-use borrow.Author.Tests.{eqb-true, eqb-false, eq-eqb, ltb-true, lt-ltb}
+use borrow.Author.Tests.{eqb-true, eqb-false, eq-eqb}
 use Rattle.kernel.specs.declared.records.Call.{Call}
 use Rattle.kernel.specs.declared.records.Thread.{Thread}
 use Rattle.kernel.specs.declared.records.Words.{Words}
@@ -28,7 +28,7 @@ use Rattle.kernel.specs.Reference.{resumed}
 use Rattle.kernel.specs.Event.{withPending, flagged, tookFlags, isMet, eventSignalled, eventWaited}
 use Rattle.kernel.specs.Ticking.{ticked}
 use Rattle.kernel.proofs.Cases.{split, same-or, contrary, both-means, both-true}
-use Rattle.kernel.proofs.CountersLaws.{debt-some}
+use Rattle.kernel.proofs.CountersLaws.{debt-some, below-top}
 use Rattle.kernel.proofs.TablesLaws.{Sized, thread-same}
 use Rattle.kernel.proofs.MovesLaws.{wake-row, wake-past, finish-interrupt}
 use Rattle.kernel.proofs.WaitersLaws.{queued-place, TellsAt, first-waiter-cases, first-waiter-counted}
@@ -50,11 +50,6 @@ pub record Free (t : Thread) : Type 0 where
 -- whose step it is: an interrupt's, or such a thread's
 abbrev pub Caller : Sizes → Kernel → ℕ → Type 0
 Caller z k i = (i ≡ nobody) ⊎ ((i < z .threads) × Free (threadAt k i))
-
--- below 1 is below the top
-pub below-top : (c : ℤ) → ltZ c (pos 1) ≡ true → ltZ c (pos 2147483647) ≡ true
-below-top (pos m) e = lt-ltb m 2147483647 (omega (arith, ltb-true m 1 e))
-below-top (negsuc m) e = refl
 
 module _ (z : Sizes) (g : GoodSizes z) where
   abbrev n : ℕ
@@ -113,7 +108,8 @@ module _ (z : Sizes) (g : GoodSizes z) where
   -- ---- semaphores
 
   module _ (k : Kernel) (p : ℕ) (semaphore : p < 20) (told : TellsAt n k p) where
-    pub signal-chained : Tallies n p k → ltZ (counterAt k p) (pos 2147483647) ≡ true → Chained z k (signalled k p) (signalAt p ∷ [])
+    pub signal-chained : Tallies n p k → ltZ (counterAt k p) (pos 2147483647) ≡ true
+        → Chained z k (signalled k p .kernel) (signalAt p ∷ [])
     unfolding signalled releasedFirst
     signal-chained t b =
         split (ltZ (counterAt k p) (pos 0))
@@ -126,7 +122,7 @@ module _ (z : Sizes) (g : GoodSizes z) where
     pub binary-chained : Tallies n p k → Chained z k (binarySignalled k p) (cond (ltZ (counterAt k p) (pos 1)) (signalAt p ∷ []) [])
     unfolding binarySignalled
     binary-chained t =
-        split (ltZ (counterAt k p) (pos 1)) (λ e. rw e (signal-chained t (below-top (counterAt k p) e))) (λ e. rw e rested)
+        split (ltZ (counterAt k p) (pos 1)) (λ e. rw e (signal-chained t (below-top (counterAt k p) 1 (omega arith) e))) (λ e. rw e rested)
 
   -- one unit taken
   pub take-chained : (k : Kernel) (p : ℕ) → p < 20 → ltZ (pos 0) (counterAt k p) ≡ true → Chained z k (taken k p) (takeAt p ∷ [])

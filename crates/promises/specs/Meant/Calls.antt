@@ -3,7 +3,7 @@ use Prim.Native.Nat.{ℕ, zero, suc, _+_, _-_, _≤_, _<_}
 use native.Mathlib.Omega.{arith}
 use mathlib.Core.Path.{_≡_, refl, sym, ap, _∙_, subst}
 use mathlib.Core.Logic.{_≢_, _⊎_, inl, inr}
-use mathlib.Core.Bool.{true, false}
+use mathlib.Core.Bool.{false}
 use lib.Bits.{bitAnd, bitOr}
 use lib.ListN.{length, getD}
 use lib.IntN.{ℤ, pos, negsuc, _+ℤ_, _-ℤ_}
@@ -24,10 +24,11 @@ use Rattle.kernel.specs.Reference.{resumed}
 use Rattle.kernel.specs.Event.{withPending, flagged, tookFlags, eventSignalled, eventWaited}
 use Rattle.kernel.proofs.Cases.{split, same-or, in-or-out, contrary}
 use Rattle.kernel.proofs.TablesLaws.{Sized, sized-kept, counter-sizes, thread-sizes, thread-same}
-use Rattle.kernel.proofs.CountersLaws.{up-exact, down-exact}
+use Rattle.kernel.proofs.CountersLaws.{down-exact, below-top}
 use Rattle.kernel.proofs.WalkLaws.{Least as FirstOf}
 use Rattle.kernel.proofs.WaitersLaws.{waits, TellsAt, first-waiter-cases}
 use Rattle.kernel.proofs.MovesLaws.{wake-sizes, wake-past}
+use Rattle.kernel.proofs.SemaphoreLaws.{signal-top}
 use Rattle.kernel.proofs.QueueLaws.{walkedOne, release-first-sizes, release-all-walk}
 use Rattle.library.specs.declared.tables.Mailbox.{Mailbox}
 use Rattle.library.specs.declared.tables.Plant.{Plant}
@@ -41,10 +42,9 @@ use Rattle.promises.specs.Together.Good.{Good}
 use Rattle.promises.specs.Kept.Tallies.{Tallies, wake-tallies}
 use Rattle.promises.specs.Kept.CounterRule.{pool-place, writers-place, readers-place}
 use Rattle.promises.specs.Kept.WordRule.{writers-told, readers-told}
-use Rattle.promises.specs.Kept.Moving.{below-top}
 use Rattle.promises.specs.Kept.RingKept.{after-mod}
 use Rattle.promises.specs.Kept.Whole.{Whole, whole-good}
-use Rattle.promises.specs.Meant.Waiters.{waiting-waits, waits-waiting, rule-below, rule-high, not-most, signal-finds}
+use Rattle.promises.specs.Meant.Waiters.{waiting-waits, waits-waiting, rule-below, rule-high, signal-finds}
 use Rattle.promises.specs.Meant.Mailboxes.{BoxThere, good-box, full-waits, room-done, empty-waits, message-done}
 use Rattle.promises.specs.Meant.Pools.{counter-stocked}
 use Rattle.promises.specs.Paper.World.{World, boxTo, poolTo, madeReady, ended}
@@ -97,7 +97,7 @@ waiter-room : (p : Plant) (q i : ℕ) → i < p .sizes .threads → InUse p q �
 waiter-room p q i h u e s =
     rw e (
       u .0,
-      not-most (counterAt (p .kernel) q)
+      below-top (counterAt (p .kernel) q) 0 (omega arith)
           (rule-below (p .kernel) (p .sizes .threads) q i (u .1) h (record { state = s; place = e })),
     )
 
@@ -138,28 +138,32 @@ module _ (p : Plant) (z : Sized (p .kernel)) where
 
   -- ---- releases
 
-  pub signal-is : n ≤ 16 → (q : ℕ) → TellsAt n k q → InUse p q → ltZ (counterAt k q) (pos 2147483647) ≡ true
-      → Signal (worldOf p) q (worldOf (withKernel p (signalled k q)))
+  pub signal-is : n ≤ 16 → (q : ℕ) → TellsAt n k q → InUse p q
+      → Signal (worldOf p) q (worldOf (withKernel p (signalled k q .kernel))) (signalled k q .counted)
   unfolding signalled releasedFirst
-  signal-is few q told u low =
+  signal-is few q told u =
       split (ltZ (counterAt k q) (pos 0))
       (λ e.
       let w = signal-finds k z n q few told (u .1) e in
       let i = firstWaiter k q in
-      Signal.wakes e i
+      rw (below-top (counterAt k q) 0 (omega arith) e)
+      (Signal.wakes e i
       (record {
         thread = w .thread;
         waits = (w .waits .state, w .waits .place);
         highest = λ j h s x. w .highest j h (record { state = s; place = x });
       })
-      (rw e (wake-world p z i (pos 0) (omega (arith, w .thread, few)) (waiter-room p q i (w .thread) u (w .waits .place)))))
-      (λ e. Signal.raises e (rw (e, up-exact (counterAt k q) low) (counter-world p z q (u .0) (counterAt k q +ℤ pos 1))))
+      (rw e (wake-world p z i (pos 0) (omega (arith, w .thread, few)) (waiter-room p q i (w .thread) u (w .waits .place))))))
+      (λ e. split (ltZ (counterAt k q) (pos 2147483647))
+      (λ b. rw b (Signal.raises e b (rw e (counter-world p z q (u .0) (counterAt k q +ℤ pos 1)))))
+      (λ b. subst (Signal (worldOf p) q (worldOf (withKernel p (signalled k q .kernel)))) (sym b)
+      (Signal.at-top b (ap (λ (x : Kernel). worldOf (withKernel p x)) (signal-top k q b)))))
 
   pub binary-is : n ≤ 16 → (q : ℕ) → TellsAt n k q → InUse p q → BinarySignal (worldOf p) q (worldOf (withKernel p (binarySignalled k q)))
   unfolding binarySignalled
   binary-is few q told u =
       split (ltZ (counterAt k q) (pos 1))
-      (λ e. BinarySignal.signals e (rw e (signal-is few q told u (below-top (counterAt k q) e))))
+      (λ e. BinarySignal.signals e (signalled k q .counted) (rw e (signal-is few q told u)))
       (λ e. BinarySignal.nothing e (rw e))
 
   -- a thread that is not there is not made ready

@@ -3,7 +3,8 @@ use Prim.Native.Nat.{ℕ, suc, _-_, _%_, _≤_, _<_}
 use native.Mathlib.Nat.{mod-eq-of-lt}
 use native.Mathlib.Omega.{arith}
 use mathlib.Core.Path.{_≡_}
-use lib.IntN.{pos, negsuc}
+use mathlib.Core.Bool.{cond}
+use lib.IntN.{ℤ, pos, negsuc}
 use borrow.Author.Tests.{lt-ltb, le-ltb}
 use Rattle.kernel.specs.declared.time.SystemTime.{SystemTime}
 use Rattle.kernel.specs.declared.records.Call.{Call}
@@ -22,15 +23,19 @@ use Rattle.library.specs.Tables.{withKernel}
 use Rattle.library.specs.Binary.{binarySignalled}
 use Rattle.library.specs.Mailbox.{postTried, fetchTried, mailboxReset, mailboxResumed}
 use Rattle.library.specs.Pool.{allocTried, putBack}
-use Rattle.library.specs.Acting.{messageOf, waitBegun, effected, actedOnKernel, boxEffected, actedOnBox, acted}
+use Rattle.library.specs.Acting.{messageOf, signalActed, callMade, effected, actedOnKernel, boxEffected, actedOnBox, acted}
 
 -- "object numbers 0 to 31" are bytes
 pub object-byte : (s : Step) → s .a ≤ 31 → s .a % 256 ≡ s .a
 object-byte s h = mod-eq-of-lt (omega arith)
 
--- "A thread's call that doesn't sleep finishes at once", and "An answer or datum not named is 0"
+-- "A thread's call that doesn't sleep finishes at once", with a message and 0
+abbrev pub atOnceWith : Plant → ℕ → ℤ → Plant
+atOnceWith p i m = withKernel p (finished (p .kernel) i m 0)
+
+-- "An answer or datum not named is 0"
 abbrev pub atOnce : Plant → ℕ → Plant
-atOnce p i = withKernel p (finished (p .kernel) i (pos 0) 0)
+atOnce p i = atOnceWith p i (pos 0)
 
 -- "unfinished call (kind, object, operand, full timeout ..)"
 abbrev pub keptCall : ℕ → ℕ → ℕ → ℕ → Call
@@ -51,7 +56,8 @@ module _ (s : Step) where
 pub record Rows (p h : Plant) (k : Kernel) (n i o : ℕ) (now : SystemTime) (s : Step) : Type 0 where
   pub tick : s .kind ≡ 1 → h ≡ atOnce (withKernel p (ticked k n)) i
   pub semaphore-wait : s .kind ≡ 2 → h ≡ withKernel p (waited k i (semaphorePlace o) (keptCall 2 o 0 (s .timeout)))
-  pub signal : s .kind ≡ 3 → h ≡ atOnce (withKernel p (signalled k (semaphorePlace o))) i
+  pub signal : s .kind ≡ 3
+      → h ≡ atOnceWith (withKernel p (signalled k (semaphorePlace o) .kernel)) i (cond (signalled k (semaphorePlace o) .counted) (pos 0) (pos 1))
   -- a reset above 2147483647 is refused
   pub reset : s .kind ≡ 4 → s .a ≤ 2147483647 → h ≡ atOnce (withKernel p (resetTo k (semaphorePlace o) (pos (s .a)))) i
   pub binary-signal : s .kind ≡ 5 → h ≡ atOnce (withKernel p (binarySignalled k (semaphorePlace o))) i
@@ -78,7 +84,7 @@ pub record Rows (p h : Plant) (k : Kernel) (n i o : ℕ) (now : SystemTime) (s :
 -- each kind is its row
 pub rows : (p : Plant) (now : SystemTime) (s : Step)
     → Rows p (acted p now s) (p .kernel) (p .sizes .threads) (s .caller) (s .object) now s
-unfolding waitBegun effected actedOnKernel boxEffected actedOnBox acted
+unfolding signalActed callMade effected actedOnKernel boxEffected actedOnBox acted
 rows p now s =
     record {
       tick = λ e. rw e;

@@ -3,6 +3,7 @@ use Prim.Native.Nat.{ℕ, zero, suc, _+_, _≤_, _<_}
 use native.Mathlib.Omega.{arith}
 use mathlib.Core.Path.{_≡_, refl, sym, ap, _∙_, subst}
 use mathlib.Core.Logic.{_≢_, _⊎_, inl, inr}
+use mathlib.Core.Bool.{Bool, cond}
 use mathlib.Core.List.{List, [], _∷_}
 use lib.ListN.{length, getD}
 use lib.IntN.{ℤ, pos, negsuc}
@@ -11,6 +12,7 @@ use Rattle.kernel.specs.declared.time.SystemTime.{SystemTime}
 use Rattle.kernel.specs.declared.records.Call.{Call}
 use Rattle.kernel.specs.declared.records.Words.{Words}
 use Rattle.kernel.proofs.Cases.{same-or, in-or-out, contrary}
+use Rattle.kernel.proofs.CountersLaws.{top-not-below}
 use Rattle.library.specs.declared.calls.Step.{Step}
 use Rattle.library.specs.declared.tables.Tables.{Tables}
 use Rattle.steps.specs.declared.stepping.Outcome.{Outcome}
@@ -108,16 +110,22 @@ ticks-only w zero x y a b = a ∙ sym b
 ticks-only w (suc n) x y a b =
     tick-of-only (b .0) n x y (subst (λ (v : World). TickOf v n x) (ticks-only w n (a .0) (b .0) (a .1) (b .1)) (a .2)) (b .2)
 
-signal-only : (w : World) (p : ℕ) (x y : World) → Signal w p x → Signal w p y → x ≡ y
-signal-only w p x y (Signal.raises a e) (Signal.raises b d) = e ∙ sym d
-signal-only w p x y (Signal.raises a e) (Signal.wakes b j g d) = contrary b a
-signal-only w p x y (Signal.wakes a i f e) (Signal.raises b d) = contrary a b
-signal-only w p x y (Signal.wakes a i f e) (Signal.wakes b j g d) = e ∙ ap (λ (k : ℕ). madeReady w k (pos 0)) (highest-only w p i j f g) ∙ sym d
+signal-only : (w : World) (p : ℕ) (x y : World) (n m : Bool) → Signal w p x n → Signal w p y m → (x ≡ y) × (n ≡ m)
+signal-only w p x y n m (Signal.raises a l e) (Signal.raises b h d) = (e ∙ sym d, refl)
+signal-only w p x y n m (Signal.raises a l e) (Signal.wakes b j g d) = contrary b a
+signal-only w p x y n m (Signal.raises a l e) (Signal.at-top b d) = contrary l b
+signal-only w p x y n m (Signal.wakes a i f e) (Signal.raises b h d) = contrary a b
+signal-only w p x y n m (Signal.wakes a i f e) (Signal.wakes b j g d) =
+    (e ∙ ap (λ (k : ℕ). madeReady w k (pos 0)) (highest-only w p i j f g) ∙ sym d, refl)
+signal-only w p x y n m (Signal.wakes a i f e) (Signal.at-top b d) = contrary a (top-not-below (w .counter p) b)
+signal-only w p x y n m (Signal.at-top a e) (Signal.raises b h d) = contrary h a
+signal-only w p x y n m (Signal.at-top a e) (Signal.wakes b j g d) = contrary b (top-not-below (w .counter p) a)
+signal-only w p x y n m (Signal.at-top a e) (Signal.at-top b d) = (e ∙ sym d, refl)
 
 binary-only : (w : World) (p : ℕ) (x y : World) → BinarySignal w p x → BinarySignal w p y → x ≡ y
-binary-only w p x y (BinarySignal.signals a e) (BinarySignal.signals b d) = signal-only w p x y e d
-binary-only w p x y (BinarySignal.signals a e) (BinarySignal.nothing b d) = contrary a b
-binary-only w p x y (BinarySignal.nothing a e) (BinarySignal.signals b d) = contrary b a
+binary-only w p x y (BinarySignal.signals a n e) (BinarySignal.signals b m d) = signal-only w p x y n m e d .0
+binary-only w p x y (BinarySignal.signals a n e) (BinarySignal.nothing b d) = contrary a b
+binary-only w p x y (BinarySignal.nothing a e) (BinarySignal.signals b m d) = contrary b a
 binary-only w p x y (BinarySignal.nothing a e) (BinarySignal.nothing b d) = e ∙ sym d
 
 waits-only : (w : World) (i s p : ℕ) (c : Call) (x y : World) → Waits w i s p c x → Waits w i s p c y → x ≡ y
@@ -242,7 +250,10 @@ module _ (t : Tables) (now : SystemTime) (s : Step) where
   act-only : (n : ℕ) (x y : World) → Act t now s x n → Act t now s y n → x ≡ y
   act-only n x y (Act.tick v a e) (Act.tick u b d) = e ∙ ap done (ticks-only w₀ (t .sizes .threads) v u a b) ∙ sym d
   act-only n x y (Act.semaphore-wait a) (Act.semaphore-wait b) = semaphore-only w₀ i o _ x y a b
-  act-only n x y (Act.signal v a e) (Act.signal u b d) = e ∙ ap done (signal-only w₀ o v u a b) ∙ sym d
+  act-only n x y (Act.signal v j a e) (Act.signal u k b d) =
+      let same = signal-only w₀ o v u j k a b in
+      e ∙ ap (λ (z : World). ended z i (cond j (pos 0) (pos 1)) 0) (same .0) ∙ ap (λ (f : Bool). ended u i (cond f (pos 0) (pos 1)) 0) (same .1)
+      ∙ sym d
   act-only n x y (Act.reset v a e) (Act.reset u b d) =
       e ∙ ap (λ (z : World). done (counterTo z o (pos (s .a)))) (release-all-only w₀ o (negsuc 1) (t .sizes .threads) v u a b) ∙ sym d
   act-only n x y (Act.binary-signal v a e) (Act.binary-signal u b d) = e ∙ ap done (binary-only w₀ o v u a b) ∙ sym d
@@ -266,10 +277,10 @@ module _ (t : Tables) (now : SystemTime) (s : Step) where
       e ∙ ap (λ (z : World). done (boxTo z o (inReset (w₀ .box o)))) second ∙ sym d
   act-only n x y (Act.mailbox-resume e) (Act.mailbox-resume d) = e ∙ sym d
   act-only n x y (Act.alloc a) (Act.alloc b) = alloc-only w₀ i _ x y a b
-  act-only n x y (Act.free v a e) (Act.free u b d) =
-      e ∙ ap (λ (z : World). done (poolTo z o (onTop (w₀ .pool o) (s .a)))) (signal-only w₀ (16 + o) v u a b) ∙ sym d
-  act-only n x y (Act.add v a e) (Act.add u b d) =
-      e ∙ ap (λ (z : World). done (poolTo z o (onTop (w₀ .pool o) (s .a)))) (signal-only w₀ (16 + o) v u a b) ∙ sym d
+  act-only n x y (Act.free v j a e) (Act.free u k b d) =
+      e ∙ ap (λ (z : World). done (poolTo z o (onTop (w₀ .pool o) (s .a)))) (signal-only w₀ (16 + o) v u j k a b .0) ∙ sym d
+  act-only n x y (Act.add v j a e) (Act.add u k b d) =
+      e ∙ ap (λ (z : World). done (poolTo z o (onTop (w₀ .pool o) (s .a)))) (signal-only w₀ (16 + o) v u j k a b .0) ∙ sym d
 
 -- ---- settling
 

@@ -141,7 +141,7 @@ module _ (t : Tables) (c : Clock) (s : Step) where
       (cond (eqb n 3) (callerFits r (s .caller))
       (cond (eqb n 4) (contextFits s)
       (cond (eqb n 5) (not (leb (objectLimit (p .sizes) (s .kind)) (s .object)))
-      (cond (eqb n 6) (valueFits (c .time) s) (cond (eqb n 7) (stateFits (p .kernel .counters) (p .kernel .references) (p .pools) s) true))))))
+      (cond (eqb n 6) (valueFits (c .time) s) (cond (eqb n 7) (stateFits (p .kernel .references) (p .pools) s) true))))))
 
   -- the refusal is the first number whose rule fails, or 0
   abbrev found : ℕ
@@ -162,7 +162,7 @@ module _ (t : Tables) (c : Clock) (s : Step) where
       (λ e5. rw e5)
       (λ e5. rw e5
       (split (valueFits (c .time) s)
-      (λ e6. rw e6 (split (stateFits (p .kernel .counters) (p .kernel .references) (p .pools) s) (λ e7. rw e7) (λ e7. rw e7)))
+      (λ e6. rw e6 (split (stateFits (p .kernel .references) (p .pools) s) (λ e7. rw e7) (λ e7. rw e7)))
       (λ e6. rw e6)))))
       (λ e4. rw e4)))
       (λ e3. rw e3)))
@@ -190,7 +190,6 @@ module _ (t : Tables) (c : Clock) (s : Step) where
   broken-fails good (Broken.mask e z) = rw (e, z)
   broken-fails good (Broken.sleep-for e d) = rw (e, no-span (s .timeout) d)
   broken-fails good (Broken.sleep-until e d) = rw (e, no-span (differed (c .time) (record { 0 = s .a }) .0) d)
-  broken-fails good (Broken.signal e h) = rw (e, h)
   broken-fails good (Broken.suspend e d) = rw (e, ne-eqb (holderAt (p .kernel) (s .object)) 255 d)
   broken-fails good (Broken.free e h d) = rw (e, object-byte s h, ne-eqb (markAt (poolAt p (s .object)) (s .a)) out d)
   broken-fails good (Broken.add e h d) = rw (e, object-byte s h, ne-eqb (markAt (poolAt p (s .object)) (s .a)) absent d)
@@ -248,11 +247,10 @@ module _ (t : Tables) (c : Clock) (s : Step) where
       none : s .a < 1 → s .a ≡ 0
       none l = omega arith
 
-  state-broken : valueFits (c .time) s ≡ true → stateFits (p .kernel .counters) (p .kernel .references) (p .pools) s ≡ false → Broken t c s 7
+  state-broken : valueFits (c .time) s ≡ true → stateFits (p .kernel .references) (p .pools) s ≡ false → Broken t c s 7
   state-broken v h =
       let k = s .kind in
-      same-or k 3 (λ e. Broken.signal e (rw e at h))
-      (λ n3. same-or k 9 (λ e. Broken.suspend e (eqb-false (holderAt (p .kernel) (s .object)) nobody (rw e at h)))
+      same-or k 9 (λ e. Broken.suspend e (eqb-false (holderAt (p .kernel) (s .object)) nobody (rw e at h)))
       (λ n9. same-or k 21
       (λ e.
       let l = leb-true (s .a) 31 (rw e at v) in
@@ -261,7 +259,7 @@ module _ (t : Tables) (c : Clock) (s : Step) where
       (λ e.
       let l = leb-true (s .a) 31 (rw e at v) in
       Broken.add e l (eqb-false (markAt (poolAt p (s .object)) (s .a)) absent (rw (e, object-byte s l) at h)))
-      (λ n22. contrary refl (rw (ne-eqb k 3 n3, ne-eqb k 9 n9, ne-eqb k 21 n21, ne-eqb k 22 n22) at h)))))
+      (λ n22. contrary refl (rw (ne-eqb k 9 n9, ne-eqb k 21 n21, ne-eqb k 22 n22) at h))))
 
   -- the rule of a number whose test is the first to fail
   rule-broken : length (t .kernel .threads) ≡ 16 → s .object < 256 → (n : ℕ) → n ≢ 0 → n < 8 → passes n ≡ false → ((m : ℕ) → m < n → passes m ≡ true) → Broken t c s n

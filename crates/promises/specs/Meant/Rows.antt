@@ -3,10 +3,9 @@ use Prim.Native.Nat.{ℕ, zero, suc, _+_, _-_, _%_, _≤_, _<_}
 use native.Mathlib.Omega.{arith}
 use mathlib.Core.Path.{_≡_, refl, sym, ap, _∙_, subst}
 use mathlib.Core.Logic.{_≢_, inl, inr}
-use mathlib.Core.Bool.{true, false}
+use mathlib.Core.Bool.{true, false, cond}
 use lib.Dec.{eqb, leb}
-use lib.ListN.{length}
-use lib.IntN.{pos, negsuc}
+use lib.IntN.{ℤ, pos, negsuc}
 use lib.Signed.{ltZ}
 use borrow.Author.Tests.{eqb-true, eq-eqb, ne-eqb, leb-true, lt-ltb, le-ltb}
 use Rattle.kernel.specs.declared.clock.Clock.{Clock}
@@ -23,6 +22,7 @@ use Rattle.kernel.specs.Event.{eventSignalled}
 use Rattle.kernel.specs.Ticking.{countedOff, tickedOne, ticked}
 use Rattle.kernel.proofs.Cases.{next, split, same-or, in-or-out, chosen, contrary, both-means}
 use Rattle.kernel.proofs.TablesLaws.{Sized, SameSizes, sizes-refl, used-all, sized-kept}
+use Rattle.kernel.proofs.CountersLaws.{below-top}
 use Rattle.kernel.proofs.WaitersLaws.{TellsAt}
 use Rattle.kernel.proofs.QueueLaws.{release-first-sizes, release-all-sizes}
 use Rattle.kernel.proofs.SemaphoreLaws.{signal-sizes, reset-sizes}
@@ -47,11 +47,11 @@ use Rattle.promises.specs.Kept.CounterRule.{semaphore-place, queue-place
 use Rattle.promises.specs.Kept.WordRule.{semaphore-told, queue-told, pool-told, readers-told}
 use Rattle.promises.specs.Kept.Moving.{release-all-chained}
 use Rattle.promises.specs.Kept.Chain.{queueing-place, chain-sound}
-use Rattle.promises.specs.Kept.PoolKept.{stock-below, good-length, push-is}
+use Rattle.promises.specs.Kept.PoolKept.{push-is}
 use Rattle.promises.specs.Kept.Whole.{Whole}
 use Rattle.promises.specs.Kept.Accepting.{Accepted, refusal-none, waits-thread}
-use Rattle.promises.specs.Meant.Waiters.{rule-below, not-most}
-use Rattle.promises.specs.Meant.Kinds.{object-byte, message-up, message-down, Rows, rows, atOnce}
+use Rattle.promises.specs.Meant.Waiters.{rule-below}
+use Rattle.promises.specs.Meant.Kinds.{object-byte, message-up, message-down, Rows, rows, atOnceWith, atOnce}
 use Rattle.promises.specs.Meant.Callers.{caller-runs}
 use Rattle.promises.specs.Paper.World.{World, found, boxTo, poolTo, ended, fallAsleep, signed, kept}
 use Rattle.promises.specs.Paper.Rows.{
@@ -171,7 +171,7 @@ module _ (p : Plant) (z : Sized (p .kernel)) (few : p .sizes .threads ≤ 16) (g
       (λ e.
       let x = queued-at n h e in (
         x .0,
-        not-most (counterAt (ticked k n) (threadAt k n .place))
+        below-top (counterAt (ticked k n) (threadAt k n .place)) 0 (omega arith)
             (rule-below (ticked k n) (p .sizes .threads) (threadAt k n .place) n (rule-at n (omega arith) (threadAt k n .place) (x .0) (x .1)) h
             (record { state = rw (next-row n (omega arith)) e; place = rw (next-row n (omega arith)) refl })),
       ))
@@ -304,8 +304,11 @@ module _ (t : Tables) (c : Clock) (s : Step) (w : Whole (t .sizes) (opened t)) (
   from P x = subst P (found-is t) x
 
   -- an effect, and the end of the call
+  at-once-with : (m : ℤ) (x : Plant) → Sized (x .kernel) → h ≡ atOnceWith x (s .caller) m → worldOf h ≡ ended (worldOf x) (s .caller) m 0
+  at-once-with m x y b = ap worldOf b ∙ finish-world x y (s .caller) m 0 who
+
   at-once : (x : Plant) → Sized (x .kernel) → h ≡ atOnce x (s .caller) → worldOf h ≡ ended (worldOf x) (s .caller) (pos 0) 0
-  at-once x y b = ap worldOf b ∙ finish-world x y (s .caller) (pos 0) 0 who
+  at-once = at-once-with (pos 0)
 
   kernel-at-once : (x : Kernel) → SameSizes kern x → h ≡ atOnce (withKernel p x) (s .caller)
       → worldOf h ≡ ended (worldOf (withKernel p x)) (s .caller) (pos 0) 0
@@ -330,10 +333,11 @@ module _ (t : Tables) (c : Clock) (s : Step) (w : Whole (t .sizes) (opened t)) (
 
   row-3 : s .kind ≡ 3 → Row 3
   row-3 k =
-      Act.signal (worldOf (withKernel p (signalled kern o)))
-      (from (λ v. Signal v o (worldOf (withKernel p (signalled kern o))))
-      (signal-is p z low o (told-semaphore (rw k at (accepts .object))) (semaphore (rw k at (accepts .object))) (rw k at (accepts .state))))
-      (kernel-at-once (signalled kern o) (signal-sizes kern o) (row .signal k))
+      let done = signalled kern o in
+      Act.signal (worldOf (withKernel p (done .kernel))) (done .counted)
+      (from (λ v. Signal v o (worldOf (withKernel p (signalled kern o .kernel))) (signalled kern o .counted))
+      (signal-is p z low o (told-semaphore (rw k at (accepts .object))) (semaphore (rw k at (accepts .object)))))
+      (at-once-with (cond (done .counted) (pos 0) (pos 1)) (withKernel p (done .kernel)) (sized-kept (signal-sizes kern o) z) (row .signal k))
 
   row-4 : s .kind ≡ 4 → Row 4
   unfolding resetTo
@@ -505,24 +509,22 @@ module _ (t : Tables) (c : Clock) (s : Step) (w : Whole (t .sizes) (opened t)) (
   module _ (l : o < t .sizes .pools) (small : s .a ≤ 31) (unlisted : markAt (poolAt p o) (s .a) ≢ free)
       (puts : h ≡ atOnce (putBack p o (s .a)) (s .caller)) where
     abbrev after : World
-    after = worldOf (withKernel p (signalled kern (16 + o)))
+    after = worldOf (withKernel p (signalled kern (16 + o) .kernel))
 
-    put-signals : Signal (found t) (16 + o) after
+    put-signals : Signal (found t) (16 + o) after (signalled kern (16 + o) .counted)
     put-signals =
-        let g = good p w .pools o l in
-        from (λ v. Signal v (16 + o) (worldOf (withKernel p (signalled kern (16 + o)))))
+        from (λ v. Signal v (16 + o) (worldOf (withKernel p (signalled kern (16 + o) .kernel))) (signalled kern (16 + o) .counted))
         (signal-is p z low (16 + o)
-        (subst (TellsAt n kern) (at-pool p w o l) (pool-told kern (t .sizes) (w .sizes) (w .kernel .rules .words) o l)) (pool-used p w o l)
-        (stock-below (counterAt kern (16 + o)) (omega (arith, rw (at-pool p w o l) at (good-length g), g .length))))
+        (subst (TellsAt n kern) (at-pool p w o l) (pool-told kern (t .sizes) (w .sizes) (w .kernel .rules .words) o l)) (pool-used p w o l))
 
     put-is : worldOf h ≡ ended (poolTo after o (onTop (poolAt p o) (s .a))) (s .caller) (pos 0) 0
     unfolding putBack
     put-is =
-        at-once (withPool (withKernel p (signalled kern (16 + o))) o (onTop (poolAt p o) (s .a)))
+        at-once (withPool (withKernel p (signalled kern (16 + o) .kernel)) o (onTop (poolAt p o) (s .a)))
         (sized-kept (signal-sizes kern (16 + o)) z)
         (puts ∙ rw (at-pool p w o l, push-is (poolAt p o) (w .pools .listed o l) (w .pools .sized o l) (s .a) (omega arith) unlisted))
         ∙ ap (λ (q : World). ended q (s .caller) (pos 0) 0)
-        (pool-world (withKernel p (signalled kern (16 + o))) o (onTop (poolAt p o) (s .a)) (pool-row p w o l))
+        (pool-world (withKernel p (signalled kern (16 + o) .kernel)) o (onTop (poolAt p o) (s .a)) (pool-row p w o l))
 
   row-21 : s .kind ≡ 21 → Row 21
   row-21 k =
@@ -531,7 +533,7 @@ module _ (t : Tables) (c : Clock) (s : Step) (w : Whole (t .sizes) (opened t)) (
       let mark = eqb-true (markAt (poolAt p o) (s .a)) out (rw (k, object-byte s small) at (accepts .state)) in
       let puts = row .free k small in
       let not-free : markAt (poolAt p o) (s .a) ≢ free = λ x. absurd (omega (arith, mark, x)) in
-      Act.free (after l small not-free puts) (put-signals l small not-free puts) (put-is l small not-free puts)
+      Act.free (after l small not-free puts) _ (put-signals l small not-free puts) (put-is l small not-free puts)
 
   row-22 : s .kind ≡ 22 → Row 22
   row-22 k =
@@ -540,7 +542,7 @@ module _ (t : Tables) (c : Clock) (s : Step) (w : Whole (t .sizes) (opened t)) (
       let mark = eqb-true (markAt (poolAt p o) (s .a)) absent (rw (k, object-byte s small) at (accepts .state)) in
       let puts = row .add k small in
       let not-free : markAt (poolAt p o) (s .a) ≢ free = λ x. absurd (omega (arith, mark, x)) in
-      Act.add (after l small not-free puts) (put-signals l small not-free puts) (put-is l small not-free puts)
+      Act.add (after l small not-free puts) _ (put-signals l small not-free puts) (put-is l small not-free puts)
 
   -- each kind is its row
   pub act-is : Row (s .kind)

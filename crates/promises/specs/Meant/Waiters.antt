@@ -6,7 +6,7 @@ use mathlib.Core.Bool.{true}
 use lib.Dec.{eqb}
 use lib.IntN.{ℤ, pos, negsuc}
 use lib.Signed.{ltZ}
-use borrow.Author.Tests.{eqb-true, eq-eqb, lt-ltb, ltb-true}
+use borrow.Author.Tests.{eqb-true, eq-eqb, lt-ltb}
 use Rattle.kernel.specs.declared.records.Kernel.{Kernel}
 use Rattle.kernel.specs.Numbers.{queued}
 use Rattle.kernel.specs.Tables.{threadAt, counterAt}
@@ -54,11 +54,6 @@ rule-high k n p few g = high (counterAt k p) (omega (arith, g .tally, count-le (
 -- where one waits the counter is below 0
 pub rule-below : (k : Kernel) (n p i : ℕ) → Tallies n p k → i < n → Waiting k p i → ltZ (counterAt k p) (pos 0) ≡ true
 rule-below k n p i g h w = debt-below (counterAt k p) (omega (arith, g .tally, count-some (waits k p) n i h (waiting-waits w)))
-
--- a counter below 0 is below the top
-pub not-most : (c : ℤ) → ltZ c (pos 0) ≡ true → ltZ c (pos 2147483647) ≡ true
-not-most (pos n) e = absurd (omega (arith, ltb-true n 0 e))
-not-most (negsuc n) e = refl
 
 module _ (k : Kernel) (z : Sized k) (n p : ℕ) where
   -- there is one: "with n > 0 threads queued has counter -n; with none, a semaphore is at least 0"

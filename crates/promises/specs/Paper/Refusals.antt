@@ -2,10 +2,8 @@
 use Prim.Native.Nat.{ℕ, _+_, _-_, _%_, _≤_, _<_}
 use mathlib.Core.Path.{_≡_}
 use mathlib.Core.Logic.{_≢_, _⊎_}
-use mathlib.Core.Bool.{false}
 use lib.ListN.{getD}
 use lib.IntN.{pos}
-use lib.Signed.{ltZ}
 use Rattle.kernel.specs.declared.clock.Clock.{Clock}
 use Rattle.library.specs.declared.calls.Step.{Step}
 use Rattle.library.specs.declared.tables.Tables.{Tables}
@@ -51,8 +49,8 @@ pub data Broken (t : Tables) (c : Clock) (s : Step) : ℕ → Type 0 where
   mask : s .kind ≡ 14 → s .a ≡ 0 → Broken t c s 6
   sleep-for : s .kind ≡ 11 → NoSpan (s .timeout) → Broken t c s 6
   sleep-until : s .kind ≡ 12 → NoSpan ((s .a + (4294967296 - c .time .0)) % 4294967296) → Broken t c s 6
-  -- "3 at counter 2147483647; suspend on a held reference; free of an object not out; add of one not absent": out is mark 2, absent 0
-  signal : s .kind ≡ 3 → ltZ (found t .counter (s .object)) (pos 2147483647) ≡ false → Broken t c s 7
+  -- "suspend on a held reference; free of an object not out; add of one not absent": out is mark 2, absent 0. Of document 02: "the first
+  -- case of 7 is struck out"
   suspend : s .kind ≡ 9 → found t .holder (s .object) ≢ 255 → Broken t c s 7
   free : s .kind ≡ 21 → s .a ≤ 31 → getD (found t .pool (s .object) .marks) (s .a) 0 ≢ 2 → Broken t c s 7
   add : s .kind ≡ 22 → s .a ≤ 31 → getD (found t .pool (s .object) .marks) (s .a) 0 ≢ 0 → Broken t c s 7

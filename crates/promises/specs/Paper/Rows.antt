@@ -2,7 +2,7 @@
 use Prim.Native.Nat.{ℕ, zero, suc, _+_, _-_, _%_, _≤_, _<_}
 use mathlib.Core.Path.{_≡_}
 use mathlib.Core.Logic.{_≢_, _⊎_}
-use mathlib.Core.Bool.{true, false, cond}
+use mathlib.Core.Bool.{Bool, true, false, cond}
 use lib.Dec.{eqb}
 use lib.Bits.{bitAnd, bitOr}
 use lib.ListN.{length, getD, set}
@@ -55,15 +55,19 @@ abbrev pub Ticks : World → ℕ → World → Type 0
 Ticks w zero x = x ≡ w
 Ticks w (suc n) x = (v : World) × Ticks w n v × TickOf v n x
 
--- "counter +1; if it was below 0, the highest-priority waiter is made ready with 0", at the place p
-pub data Signal (w : World) (p : ℕ) (x : World) : Type 0 where
-  raises : ltZ (w .counter p) (pos 0) ≡ false → x ≡ counterTo w p (w .counter p +ℤ pos 1) → Signal w p x
+-- "counter +1; if it was below 0, the highest-priority waiter is made ready with 0", at the place p. Of document 02: "the basic signal tells
+-- its callers .. whether it counted"
+pub data Signal (w : World) (p : ℕ) (x : World) : Bool → Type 0 where
+  raises : ltZ (w .counter p) (pos 0) ≡ false → ltZ (w .counter p) (pos 2147483647) ≡ true → x ≡ counterTo w p (w .counter p +ℤ pos 1)
+      → Signal w p x true
   -- being taken off the queue is the counter's +1
-  wakes : ltZ (w .counter p) (pos 0) ≡ true → (i : ℕ) → Highest w p i → x ≡ madeReady w i (pos 0) → Signal w p x
+  wakes : ltZ (w .counter p) (pos 0) ≡ true → (i : ℕ) → Highest w p i → x ≡ madeReady w i (pos 0) → Signal w p x true
+  -- "at counter 2147483647 .. leaves the counter, wakes nobody"
+  at-top : ltZ (w .counter p) (pos 2147483647) ≡ false → x ≡ w → Signal w p x false
 
--- "5: as 3 if the counter is below 1, else nothing"
+-- "5: as 3 if the counter is below 1, else nothing"; whether it counted is dropped
 pub data BinarySignal (w : World) (p : ℕ) (x : World) : Type 0 where
-  signals : ltZ (w .counter p) (pos 1) ≡ true → Signal w p x → BinarySignal w p x
+  signals : ltZ (w .counter p) (pos 1) ≡ true → (counted : Bool) → Signal w p x counted → BinarySignal w p x
   nothing : ltZ (w .counter p) (pos 1) ≡ false → x ≡ w → BinarySignal w p x
 
 -- "a timeout of 0 answers -1 at once, changing nothing else"; otherwise thread i sleeps in a state, at a place
@@ -235,7 +239,9 @@ pub data Act (t : Tables) (now : SystemTime) (s : Step) (x : World) : ℕ → Ty
   -- "A thread's call that doesn't sleep finishes at once", and so does an interrupt's step, with 0 and 0
   tick : (v : World) → Ticks (found t) (t .sizes .threads) v → x ≡ ended v (s .caller) (pos 0) 0 → Act t now s x 1
   semaphore-wait : SemaphoreWait (found t) (s .caller) (s .object) (kept 2 (s .object) 0 (s .timeout)) x → Act t now s x 2
-  signal : (v : World) → Signal (found t) (s .object) v → x ≡ ended v (s .caller) (pos 0) 0 → Act t now s x 3
+  -- "answers message 1 in place of 0", where it did not count
+  signal : (v : World) (counted : Bool) → Signal (found t) (s .object) v counted → x ≡ ended v (s .caller) (cond counted (pos 0) (pos 1)) 0
+      → Act t now s x 3
   -- "counter becomes a; all waiters are made ready with -2"
   reset : (v : World) → ReleaseAll (found t) (s .object) (negsuc 1) (t .sizes .threads) v
       → x ≡ ended (counterTo v (s .object) (pos (s .a))) (s .caller) (pos 0) 0 → Act t now s x 4
@@ -262,8 +268,8 @@ pub data Act (t : Tables) (now : SystemTime) (s : Step) (x : World) : ℕ → Ty
       → x ≡ ended (boxTo u (s .object) (inReset (found t .box (s .object)))) (s .caller) (pos 0) 0 → Act t now s x 18
   mailbox-resume : x ≡ ended (boxTo (found t) (s .object) (atWork (found t .box (s .object)))) (s .caller) (pos 0) 0 → Act t now s x 19
   alloc : Alloc (found t) (s .caller) (kept 20 (s .object) 0 (s .timeout)) x → Act t now s x 20
-  -- "Free and add put the object on top and signal"
-  free : (v : World) → Signal (found t) (16 + s .object) v
+  -- "Free and add put the object on top and signal"; whether it counted is dropped
+  free : (v : World) (counted : Bool) → Signal (found t) (16 + s .object) v counted
       → x ≡ ended (poolTo v (s .object) (onTop (found t .pool (s .object)) (s .a))) (s .caller) (pos 0) 0 → Act t now s x 21
-  add : (v : World) → Signal (found t) (16 + s .object) v
+  add : (v : World) (counted : Bool) → Signal (found t) (16 + s .object) v counted
       → x ≡ ended (poolTo v (s .object) (onTop (found t .pool (s .object)) (s .a))) (s .caller) (pos 0) 0 → Act t now s x 22

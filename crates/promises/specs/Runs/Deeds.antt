@@ -152,12 +152,13 @@ counter-calm w x z b p t f a =
       answer = a;
     }
 
-pub signal-calm : {w : World} {p : ℕ} {x : World} → Signal w p x → Calm w x
-signal-calm {w} {p} (Signal.raises a e) = calm-to e (counter-calm w _ refl refl refl refl refl refl)
+pub signal-calm : {w : World} {p : ℕ} {x : World} {b : Bool} → Signal w p x b → Calm w x
+signal-calm {w} {p} (Signal.raises a l e) = calm-to e (counter-calm w _ refl refl refl refl refl refl)
 signal-calm {w} (Signal.wakes a i h e) = calm-to e (calm-ready w i (pos 0))
+signal-calm {w} (Signal.at-top a e) = calm-to e (calm-same w)
 
 pub binary-calm : {w : World} {p : ℕ} {x : World} → BinarySignal w p x → Calm w x
-binary-calm (BinarySignal.signals a h) = signal-calm h
+binary-calm (BinarySignal.signals a n h) = signal-calm h
 binary-calm {w} (BinarySignal.nothing a e) = calm-to e (calm-same w)
 
 pub resume-calm : {w : World} {r : ℕ} {m : ℤ} {x : World} → Resume w r m x → Calm w x

@@ -15,7 +15,6 @@ use Rattle.kernel.specs.declared.records.Thread.{Thread}
 use Rattle.kernel.proofs.Cases.{split, same-or, contrary}
 use Rattle.library.specs.declared.calls.Step.{Step}
 use Rattle.library.specs.declared.tables.Tables.{Tables}
-use Rattle.library.specs.Tables.{opened}
 use Rattle.steps.specs.Stepping.{stepped}
 use Rattle.promises.specs.Paper.World.{World, found, counterTo, boxTo, poolTo, threadTo, readyWith, madeReady, callEnded, ended, asleep, fallAsleep, kept, First, Running}
 use Rattle.promises.specs.Paper.Host.{Host}
@@ -39,10 +38,9 @@ use Rattle.promises.specs.Paper.Waking.{rowOf, inMask}
 use Rattle.promises.specs.Paper.Flags.{awaitsFlags}
 use Rattle.promises.specs.Runs.Keeping.{put-same, put-other, put-part, KeepsAct, act-keeps}
 use Rattle.promises.specs.Runs.OneRow.{ended-other, ended-unfinished, ended-own, took-other, took-unfinished}
-use Rattle.promises.specs.Runs.OneStep.{bit-in, accepted, unbroken, held, someone}
-use Rattle.promises.specs.Meant.Callers.{caller-runs}
+use Rattle.promises.specs.Runs.OneStep.{bit-in, unbroken, caller-first, held, someone}
 use Rattle.promises.specs.Meant.Only.{first-only, running-only}
-use Rattle.promises.specs.Meant.Step.{hangs, step-is}
+use Rattle.promises.specs.Meant.Step.{step-is}
 
 -- settling ends where the first ready thread has no unfinished call
 settled-there : {x w : World} (i : ℕ) → Settles x w → First w i → w .thread i .call .kind ≡ 0 → x ≡ w
@@ -51,12 +49,12 @@ settled-there {x} {w} i (Settles.goes j g n v c l) f z =
     absurd (n (subst (λ (k : ℕ). w .thread k .call .kind ≡ 0) (first-only w i j f g) z))
 
 -- the first ready thread stays so, if states stay
-first-stays : (w x : World) (i : ℕ) → x .sizes ≡ w .sizes → ((j : ℕ) → x .thread j .state ≡ w .thread j .state) → First w i → First x i
+pub first-stays : (w x : World) (i : ℕ) → x .sizes ≡ w .sizes → ((j : ℕ) → x .thread j .state ≡ w .thread j .state) → First w i → First x i
 first-stays w x i z h f =
     record { thread = rw z (f .thread); is-ready = h i ∙ f .is-ready; first = λ j l e. f .first j l (sym (h j) ∙ e) }
 
 -- a call that ends leaves all states
-ended-state : (w : World) (i : ℕ) (m : ℤ) (d j : ℕ) → ended w i m d .thread j .state ≡ w .thread j .state
+pub ended-state : (w : World) (i : ℕ) (m : ℤ) (d j : ℕ) → ended w i m d .thread j .state ≡ w .thread j .state
 ended-state w i m d j = split (eqb i 255) (λ e. rw e) (λ e. rw e (put-part (λ (v : Thread). v .state) (w .thread) i (callEnded (w .thread i) m d) refl j))
 
 module _ (i : ℕ) (someone : i ≢ 255) where
@@ -233,11 +231,7 @@ module _ (t : Tables) (c : Clock) (s : Step) (host : Host t c s) (e : stepped t 
 
   -- the caller is the first ready thread
   first-caller : s .caller ≡ i → First (found t) i
-  first-caller z =
-      elim (caller-runs (opened t) c s (hangs t c s host (accepted t c s host e) .sized .kernel) (accepted t c s host e)) [
-        | inl x ↦ absurd (me (sym z ∙ x))
-        | inr f ↦ subst (First (found t)) z (record { thread = f .thread; is-ready = f .is-ready; first = f .first })
-      ]
+  first-caller z = subst (First (found t)) z (caller-first t c s host e (rw z me))
 
   module _ (w x : World) (act : Act t (c .time) s w (s .kind)) (settles : Settles x w) (finished : x .finished i ≡ true) where
     own-first : s .caller ≡ i → s .kind ≡ 14 → First x i

@@ -39,17 +39,16 @@ use Rattle.promises.specs.Paper.Ledger.{messageAt, inBox, markIn}
 use Rattle.promises.specs.Together.Good.{CallKind}
 use Rattle.promises.specs.Kept.PoolKept.{pop-kept}
 use Rattle.promises.specs.Kept.Whole.{Whole}
-use Rattle.promises.specs.Meant.Together.{fit-paper, rules-together}
-use Rattle.promises.specs.Meant.Callers.{caller-runs}
+use Rattle.promises.specs.Meant.Together.{fit-paper}
 use Rattle.promises.specs.Meant.Pools.{promise-stocked}
 use Rattle.promises.specs.Meant.Moves.{worldOf, found-is}
 use Rattle.promises.specs.Meant.Calls.{good, few}
-use Rattle.promises.specs.Meant.Step.{settled-keeps, result-is, h, hangs, begun-whole, acted-whole, settled-whole, own}
+use Rattle.promises.specs.Meant.Step.{settled-keeps, result-is, h, begun-whole, acted-whole, settled-whole, own}
 use Rattle.promises.specs.Runs.Answers.{step-done}
 use Rattle.promises.specs.Runs.Keeping.{put-same, put-other}
 use Rattle.promises.specs.Runs.Run.{ran}
 use Rattle.promises.specs.Runs.Pipes.{length-listed}
-use Rattle.promises.specs.Runs.OneStep.{bit-in, accepted, unbroken, act}
+use Rattle.promises.specs.Runs.OneStep.{bit-in, accepted, unbroken, together, caller-first, act}
 use Rattle.promises.specs.Runs.Moments.{momentOf, moments, Going, host, going-on}
 use Rattle.promises.specs.Runs.Accounts.{not-zero}
 use Rattle.promises.specs.Runs.Dealing.{those-append, Dealt, dealt-still, dealt-none, dealt-as, dealt-both, dealt-reset, dealt-freed, dealt-added}
@@ -178,13 +177,6 @@ module _ (n : ℕ) (t : Tables) (c : Clock) (s : Step) (host : Host t c s) (e : 
   fit-found : Fit w₀
   fit-found = subst Fit (found-is t) (fit-plant (opened t) (begun-whole t c s host (accepted t c s host e)))
 
-  caller-in : j ≢ 255 → j < t .sizes .threads
-  caller-in z =
-      elim (caller-runs (opened t) c s (hangs t c s host (accepted t c s host e) .sized .kernel) (accepted t c s host e)) [
-        | inl x ↦ absurd (z x)
-        | inr f ↦ f .thread
-      ]
-
   -- 2, 6, 9, 11, 12 and 14 are a thread's
   by-thread : KernelWait (s .kind) → j ≢ 255
   by-thread k z = ok 4 (Broken.wait z k)
@@ -200,10 +192,13 @@ module _ (n : ℕ) (t : Tables) (c : Clock) (s : Step) (host : Host t c s) (e : 
   in-pools a b = in-or-out (s .object) (t .sizes .pools) (λ l. l) (λ l. absurd (ok 5 (Broken.pool a b l)))
 
   -- a row whose call does not count: it wakes, and finishes at once
+  wakes-with : (m : ℤ) {k : ℕ} → s .kind ≡ k → isCounted k ≡ false → (v x : World) → Calm w₀ v → x ≡ ended v j m 0 → Does n t j mine w₀ x
+  wakes-with m q u v x k z =
+      does-to n t j mine w₀ (ended v j m 0) x z
+      (ends-calm n t j mine w₀ v k m 0 (uncounted n t j mine (record { message = m; datum = 0 }) (rw q u)))
+
   wakes : {k : ℕ} → s .kind ≡ k → isCounted k ≡ false → (v x : World) → Calm w₀ v → x ≡ ended v j (pos 0) 0 → Does n t j mine w₀ x
-  wakes q u v x k z =
-      does-to n t j mine w₀ (ended v j (pos 0) 0) x z
-      (ends-calm n t j mine w₀ v k (pos 0) 0 (uncounted n t j mine (record { message = pos 0; datum = 0 }) (rw q u)))
+  wakes = wakes-with (pos 0)
 
   -- or is kept otherwise than the step names it
   uncounted-as : {k : ℕ} → s .kind ≡ k → isCounted k ≡ false → (d : Call) → d .kind ≡ k → (x : World) → Does n t j d w₀ x → Does n t j mine w₀ x
@@ -257,7 +252,7 @@ module _ (n : ℕ) (t : Tables) (c : Clock) (s : Step) (host : Host t c s) (e : 
   some-object : 20 ≤ s .kind → s .kind ≤ 22 → ltZ (pos 0) (w₀ .counter (16 + s .object)) ≡ true → 0 < w₀ .pool (s .object) .length
   some-object a b x =
       above (w₀ .pool (s .object) .length) (number (isPromised w₀ (s .object)) (t .sizes .threads)) (w₀ .counter (16 + s .object)) x
-      (rules-together t c (hangs t c s host (accepted t c s host e) .together) .pools (s .object) (in-pools a b) .promises)
+      (together t c s host e .pools (s .object) (in-pools a b) .promises)
     where
       above : (l k : ℕ) (m : ℤ) → ltZ (pos 0) m ≡ true → l ≡ larger m + k → 0 < l
       above l k (pos zero) x z = contrary x refl
@@ -355,7 +350,7 @@ module _ (n : ℕ) (t : Tables) (c : Clock) (s : Step) (host : Host t c s) (e : 
   act-does : {k : ℕ} → s .kind ≡ k → (x : World) → Act t (c .time) s x k → Does n t j mine w₀ x
   act-does q x (Act.tick v h z) = wakes q refl v x (ticks-calm (t .sizes .threads) w₀ v h) z
   act-does q x (Act.semaphore-wait h) = semaphore-does x q h
-  act-does q x (Act.signal v h z) = wakes q refl v x (signal-calm h) z
+  act-does q x (Act.signal v b h z) = wakes-with _ q refl v x (signal-calm h) z
   act-does q x (Act.reset v h z) =
       wakes q refl _ x
       (calm-on (release-all-calm w₀ (s .object) (negsuc 1) (t .sizes .threads) v h) (counter-calm v _ refl refl refl refl refl refl)) z
@@ -382,8 +377,8 @@ module _ (n : ℕ) (t : Tables) (c : Clock) (s : Step) (host : Host t c s) (e : 
       (release-all-calm v (32 + s .object) (negsuc 1) (t .sizes .threads) u g) z
   act-does q x (Act.mailbox-resume z) = mail-resume-does x q z
   act-does q x (Act.alloc h) = alloc-does x q h
-  act-does q x (Act.free v h z) = free-does (inl q) v (signal-calm h) x q z
-  act-does q x (Act.add v h z) = add-does (inr q) v (signal-calm h) x q z
+  act-does q x (Act.free v b h z) = free-does (inl q) v (signal-calm h) x q z
+  act-does q x (Act.add v b h z) = add-does (inr q) v (signal-calm h) x q z
 
   -- the step's own call, and then each that is continued
   abbrev Told : World → Type 0
@@ -393,7 +388,7 @@ module _ (n : ℕ) (t : Tables) (c : Clock) (s : Step) (host : Host t c s) (e : 
   act-told =
       let x = worldOf (acted (opened t) (c .time) s) in
       let d = act-does refl x (act t c s host e) in
-      (d .0, d .1 .dealt, act-seen n t s caller-in x (d .0) (d .1), own-first n t j mine w₀ x (d .0) (d .1 .own))
+      (d .0, d .1 .dealt, act-seen n t s (λ z. caller-first t c s host e z .thread) x (d .0) (d .1), own-first n t j mine w₀ x (d .0) (d .1 .own))
 
   continue-told : (p : Plant) → Whole (p .sizes) p → (i : ℕ) → First (worldOf p) i → threadAt (p .kernel) i .call .kind ≢ 0 → (x : World)
       → Continued (worldOf p) i x → Told (worldOf p) → Told x

@@ -5,6 +5,7 @@ use Prim.Native.Nat.{ℕ, zero, suc, _+_, _-_, _%_, _<_}
 use native.Mathlib.Omega.{arith}
 use mathlib.Core.Path.{_≡_, refl, sym, ap, _∙_, subst}
 use mathlib.Core.Logic.{_≢_, _⊎_, inl, inr}
+use mathlib.Core.Bool.{Bool}
 use lib.Bits.{bitAnd}
 use lib.IntN.{ℤ, pos, negsuc}
 use borrow.Author.Tests.{eq-eqb, ne-eqb}
@@ -227,12 +228,13 @@ module _ (t : Tables) (s : Step) (P : World → Type 0) (k : KeepsAct t s P) whe
       one {v} (ReleaseOf.waits a b e) h = to t s P (k .moves) e (k .moves .wakes v n m (queued-asleep a) (by (v .thread n .state) (v .thread n .place) a b) h)
       one (ReleaseOf.elsewhere a e) h = to t s P (k .moves) e h
 
-  signal-keeps : {w x : World} (p : ℕ) → Signal w p x → ((st pl : ℕ) → st ≡ 3 → pl ≡ p → CalledOut t s st pl (pos 0)) → P w → P x
-  signal-keeps {w} p (Signal.raises a e) by g = to t s P (k .moves) e (k .moves .counter w p _ g)
+  signal-keeps : {w x : World} {b : Bool} (p : ℕ) → Signal w p x b → ((st pl : ℕ) → st ≡ 3 → pl ≡ p → CalledOut t s st pl (pos 0)) → P w → P x
+  signal-keeps {w} p (Signal.raises a l e) by g = to t s P (k .moves) e (k .moves .counter w p _ g)
   signal-keeps {w} p (Signal.wakes a i h e) by g = to t s P (k .moves) e (highest-keeps t s P (k .moves) w p i (pos 0) h by g)
+  signal-keeps p (Signal.at-top a e) by g = to t s P (k .moves) e g
 
   binary-keeps : {w x : World} (p : ℕ) → BinarySignal w p x → ((st pl : ℕ) → st ≡ 3 → pl ≡ p → CalledOut t s st pl (pos 0)) → P w → P x
-  binary-keeps p (BinarySignal.signals a h) by g = signal-keeps p h by g
+  binary-keeps p (BinarySignal.signals a n h) by g = signal-keeps p h by g
   binary-keeps p (BinarySignal.nothing a e) by g = to t s P (k .moves) e g
 
   -- the step's own call waits
@@ -286,8 +288,12 @@ module _ (t : Tables) (s : Step) (P : World → Type 0) (k : KeepsAct t s P) whe
     no-wait : {n : ℕ} → s .kind ≡ n → n ≢ 14 → s .kind ≢ 14
     no-wait e a x = a (sym e ∙ x)
 
+    -- the step's own call finishes at once, with m and 0
+    done-with : (m : ℤ) {n : ℕ} → s .kind ≡ n → n ≢ 14 → {v x : World} → x ≡ ended v (s .caller) m 0 → P v → P x
+    done-with m q a {v} e h = to t s P (k .moves) e (k .ends v m 0 (λ y. absurd (no-wait q a y)) h)
+
     done : {n : ℕ} → s .kind ≡ n → n ≢ 14 → {v x : World} → x ≡ ended v (s .caller) (pos 0) 0 → P v → P x
-    done q a {v} e h = to t s P (k .moves) e (k .ends v (pos 0) 0 (λ y. absurd (no-wait q a y)) h)
+    done = done-with (pos 0)
 
     no-mail : {n : ℕ} → (n ≡ 15 → ⊥) → (n ≡ 16 → ⊥) → (n ≡ 17 → ⊥) → {o : ℕ} → IsMailing n → Tried t s n o
     no-mail a b c (inl (inl e)) = absurd (a e)
@@ -318,8 +324,8 @@ module _ (t : Tables) (s : Step) (P : World → Type 0) (k : KeepsAct t s P) whe
     act-keeps held q (Act.semaphore-wait h) =
         semaphore-keeps (kept 2 (s .object) 0 (s .timeout)) (sym q) (no-mail (λ x. omega arith) (λ x. omega arith) (λ x. omega arith)) (no-wait q (λ x. omega arith))
         (s .object) (OwnWait.semaphore q) h (start q (λ x. omega arith) (λ x. omega arith))
-    act-keeps held q (Act.signal v h e) =
-        done q (λ x. omega arith) e (signal-keeps (s .object) h (λ st pl x y. CalledOut.signal (inl q) x y) (start q (λ x. omega arith) (λ x. omega arith)))
+    act-keeps held q (Act.signal v b h e) =
+        done-with _ q (λ x. omega arith) e (signal-keeps (s .object) h (λ st pl x y. CalledOut.signal (inl q) x y) (start q (λ x. omega arith) (λ x. omega arith)))
     act-keeps held q (Act.reset v h e) =
         done q (λ x. omega arith) e
         (k .moves .counter v (s .object) (pos (s .a))
@@ -371,11 +377,11 @@ module _ (t : Tables) (s : Step) (P : World → Type 0) (k : KeepsAct t s P) whe
     act-keeps held q (Act.alloc h) =
         alloc-keeps (kept 20 (s .object) 0 (s .timeout)) (sym q) (no-mail (λ x. omega arith) (λ x. omega arith) (λ x. omega arith)) (no-wait q (λ x. omega arith))
         (OwnWait.pool q) h (start q (λ x. omega arith) (λ x. omega arith))
-    act-keeps held q (Act.free v h e) =
+    act-keeps held q (Act.free v b h e) =
         done q (λ x. omega arith) e
         (k .moves .pool v (s .object) _
         (signal-keeps (16 + s .object) h (λ st pl x y. CalledOut.object (inl q) x y) (start q (λ x. omega arith) (λ x. omega arith))))
-    act-keeps held q (Act.add v h e) =
+    act-keeps held q (Act.add v b h e) =
         done q (λ x. omega arith) e
         (k .moves .pool v (s .object) _
         (signal-keeps (16 + s .object) h (λ st pl x y. CalledOut.object (inr q) x y) (start q (λ x. omega arith) (λ x. omega arith))))

@@ -23,7 +23,7 @@ use Rattle.promises.specs.Paper.World.{World, found, First}
 use Rattle.promises.specs.Paper.Host.{Host}
 use Rattle.promises.specs.Paper.Rows.{topIn, Act}
 use Rattle.promises.specs.Paper.Settling.{Continued}
-use Rattle.promises.specs.Paper.Together.{WaitFits, TicksFit, ThreadFits}
+use Rattle.promises.specs.Paper.Together.{WaitFits, TicksFit, ThreadFits, HangTogether}
 use Rattle.promises.specs.Paper.Refusals.{Broken}
 use Rattle.promises.specs.Paper.Waking.{rowOf, inMask, SleeperAfter, ReadyAfter, WakerAfter}
 use Rattle.promises.specs.Paper.Flags.{FlagsAfter}
@@ -36,6 +36,7 @@ use Rattle.promises.specs.Runs.Wakers.{Calmly, calm-keeps, calm-after}
 use Rattle.promises.specs.Runs.Ready.{After, ready-keeps}
 use Rattle.promises.specs.Runs.Flags.{ready-flags, sleeper-flags, Flags, flags-keep, caller-flags}
 use Rattle.promises.specs.Meant.Together.{rules-together}
+use Rattle.promises.specs.Meant.Callers.{caller-runs}
 use Rattle.promises.specs.Meant.Pools.{promise-stocked}
 use Rattle.promises.specs.Meant.Refusals.{first-broken}
 use Rattle.promises.specs.Meant.Moves.{worldOf}
@@ -70,15 +71,26 @@ module _ (t : Tables) (c : Clock) (s : Step) (host : Host t c s) (e : stepped t 
   pub unbroken : (m : ℕ) → Broken t c s m → ⊥
   unbroken = first-broken t c s (host .tables .threads) (host .step .object) .none accepted
 
+  -- its tables hang together
+  pub together : HangTogether (found t) (t .kernel .words) c
+  together = rules-together t c (hangs t c s host accepted .together)
+
+  -- a calling thread is the one that runs
+  pub caller-first : s .caller ≢ 255 → First (found t) (s .caller)
+  caller-first z =
+      elim (caller-runs (opened t) c s (hangs t c s host accepted .sized .kernel) accepted) [
+        | inl x ↦ absurd (z x)
+        | inr f ↦ record { thread = f .thread; is-ready = f .is-ready; first = f .first }
+      ]
+
   -- whom a reference holds is suspended on it
   pub held : (i : ℕ) → s .kind ≡ 10 → found t .holder (s .object) ≡ i → i ≢ 255
       → (found t .thread i .state ≡ 2) × (found t .thread i .place ≡ s .object)
   held i k x d =
-      let g = rules-together t c (hangs t c s host accepted .together) in
       let there : s .object < t .sizes .references = in-use in
-      elim (g .holder (s .object) there) [
+      elim (together .holder (s .object) there) [
         | inl a ↦ absurd (d (sym x ∙ a))
-        | inr a ↦ g .holds (s .object) there i (rw x at a) .0 x
+        | inr a ↦ together .holds (s .object) there i (rw x at a) .0 x
       ]
     where
       in-use : s .object < t .sizes .references
@@ -97,7 +109,7 @@ module _ (t : Tables) (c : Clock) (s : Step) (host : Host t c s) (e : stepped t 
   kept-act = act-keeps t s (Kept t s) (kept-keeps t s .act) (c .time) held refl act
 
   -- what each continued call keeps, settling keeps
-  settle-keeps : (P : World → Type 0) → KeepsOn t s P → P x₀ → P (worldOf (h t c s host))
+  pub settle-keeps : (P : World → Type 0) → KeepsOn t s P → P x₀ → P (worldOf (h t c s host))
   settle-keeps P k q =
       settled-keeps Q continues (budgetOf (t .sizes .threads)) (acted (opened t) (c .time) s)
       (own t c s host accepted (acted-whole t c s host accepted)) (kept-act, q) .1
@@ -163,11 +175,11 @@ module _ (t : Tables) (c : Clock) (s : Step) (host : Host t c s) (e : stepped t 
     someone z = omega (arith, z, within, few)
 
     pub fits : ThreadFits (t .sizes) (rowOf t i)
-    fits = rules-together t c (hangs t c s host accepted .together) .threads i within
+    fits = together .threads i within
 
     -- a thread that sleeps is not the caller, for it does not run
     apart : rowOf t i .state ≢ 0 → i ≢ s .caller
-    apart n z = unbroken 3 (Broken.caller (rw z at someone) (λ f. n (rw z (f .is-ready))))
+    apart n z = n (rw z (caller-first (rw z at someone) .is-ready))
 
     -- what holds of it where settling has ended, holds of its record in the tables after the step, and of its bits in the result
     told : (P : Thread → Bool → Bool → Type 0) → let x = worldOf (h t c s host) in P (x .thread i) (x .woken i) (x .finished i)
@@ -202,10 +214,7 @@ module _ (t : Tables) (c : Clock) (s : Step) (host : Host t c s) (e : stepped t 
 
     -- whoever calls has no call to be continued
     no-call : s .caller ≡ i → rowOf t i .call .kind ≡ 0
-    no-call z =
-        same-or (rowOf t i .call .kind) 0 (λ x. x)
-        (λ d. absurd (unbroken 3
-        (Broken.caller (rw z someone) (λ f. d (rules-together t c (hangs t c s host accepted .together) .running i (rw z at f))))))
+    no-call z = together .running i (subst (First (found t)) z (caller-first (rw z someone)))
 
     no-place : rowOf t i .state ≡ 0 → rowOf t i .place ≡ 0
     no-place z = nowhere (fits .wait)

@@ -103,7 +103,7 @@ module _ (t : Tables) (now : SystemTime) (s : Step) (i : ℕ) (someone : i ≢ 2
     row-owned : {n : ℕ} → s .kind ≡ n → {x : World} → Act t now s x n → Owned x
     row-owned q (Act.tick v h e) = done v (pos 0) 0 e
     row-owned q (Act.semaphore-wait h) = semaphore (kept 2 (s .object) 0 (s .timeout)) (sym q) (span q (λ x. omega arith)) h
-    row-owned q (Act.signal v h e) = done v (pos 0) 0 e
+    row-owned q (Act.signal v b h e) = done v _ 0 e
     row-owned q (Act.reset v h e) = done _ (pos 0) 0 e
     row-owned q (Act.binary-signal v h e) = done v (pos 0) 0 e
     row-owned q (Act.queue-wait h) = waits (kept 6 (s .object) 0 (s .timeout)) (sym q) (span q (λ x. omega arith)) h
@@ -122,8 +122,8 @@ module _ (t : Tables) (now : SystemTime) (s : Step) (i : ℕ) (someone : i ≢ 2
     row-owned q (Act.mailbox-reset v u h g e) = done _ (pos 0) 0 e
     row-owned q (Act.mailbox-resume e) = done _ (pos 0) 0 e
     row-owned q (Act.alloc h) = alloc (kept 20 (s .object) 0 (s .timeout)) (sym q) (span q (λ x. omega arith)) h
-    row-owned q (Act.free v h e) = done _ (pos 0) 0 e
-    row-owned q (Act.add v h e) = done _ (pos 0) 0 e
+    row-owned q (Act.free v b h e) = done _ (pos 0) 0 e
+    row-owned q (Act.add v b h e) = done _ (pos 0) 0 e
 
 -- WHO FALLS ASLEEP IN A STEP OF ITS OWN
 module _ (t : Tables) (c : Clock) (s : Step) (host : Host t c s) (e : stepped t c s .outcome .code ≡ 0) where

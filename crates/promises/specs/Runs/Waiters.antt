@@ -5,28 +5,27 @@ use native.Mathlib.Omega.{arith}
 use mathlib.Core.Path.{_≡_, refl, sym, ap, _∙_, subst}
 use mathlib.Core.Logic.{_≢_, inl, inr}
 use mathlib.Core.Bool.{Bool, true, false, cond, _&&_, _||_}
-use lib.Dec.{eqb, ltb}
-use lib.IntN.{ℤ, pos, negsuc}
+use lib.Dec.{eqb}
+use lib.IntN.{ℤ, pos}
 use lib.Signed.{ltZ}
-use borrow.Author.Tests.{eqb-true, eq-eqb, ne-eqb, lt-ltb, le-ltb}
+use borrow.Author.Tests.{eqb-true, eq-eqb, ne-eqb, lt-ltb}
 use Rattle.kernel.specs.declared.clock.Clock.{Clock}
 use Rattle.kernel.specs.declared.records.Thread.{Thread}
 use Rattle.kernel.proofs.Cases.{split, same-or, in-or-out, contrary, both-means}
+use Rattle.kernel.proofs.CountersLaws.{below-more, top-not-below}
 use Rattle.library.specs.declared.calls.Step.{Step}
 use Rattle.library.specs.declared.tables.Tables.{Tables}
 use Rattle.steps.specs.Stepping.{stepped}
 use Rattle.promises.specs.Paper.World.{World, found, madeReady, Highest}
 use Rattle.promises.specs.Paper.Host.{Host}
 use Rattle.promises.specs.Paper.Rows.{Signal, BinarySignal, Act}
-use Rattle.promises.specs.Paper.Together.{WaitFits, number, isQueued, SemaphoreFits, HangTogether}
+use Rattle.promises.specs.Paper.Together.{WaitFits, number, isQueued, SemaphoreFits}
 use Rattle.promises.specs.Paper.Refusals.{Broken}
 use Rattle.promises.specs.Paper.Waking.{rowOf, inMask, IsMailing, CalledOut, WokenBy, SleeperAfter, OwnWait, WakerAfter}
 use Rattle.promises.specs.Paper.Run.{signalsAt, joinsAt, higher, TurnOf}
 use Rattle.promises.specs.Together.Tests.{either-means}
-use Rattle.promises.specs.Meant.Together.{rules-together}
-use Rattle.promises.specs.Meant.Step.{hangs}
 use Rattle.promises.specs.Runs.Keeping.{put-same, queued-asleep}
-use Rattle.promises.specs.Runs.OneStep.{accepted, unbroken, fits, x₀, act, woken-seen, sleeper-after, waker-after}
+use Rattle.promises.specs.Runs.OneStep.{unbroken, together, fits, x₀, act, woken-seen, sleeper-after, waker-after}
 
 -- ---- counting
 
@@ -60,13 +59,6 @@ owes : {c : ℤ} {n : ℕ} → SemaphoreFits c n → 1 ≤ n → ltZ c (pos 0) �
 owes (SemaphoreFits.waiters e) l = rw e
 owes (SemaphoreFits.none e) l = absurd (omega arith)
 
-below-one : (c : ℤ) → ltZ c (pos 0) ≡ true → ltZ c (pos 1) ≡ true
-below-one (pos m) e = contrary e (ltb-zero m)
-  where
-    ltb-zero : (m : ℕ) → ltb m 0 ≡ false
-    ltb-zero m = le-ltb m 0 (omega arith)
-below-one (negsuc m) e = refl
-
 -- a call of another kind is no mailbox's
 not-mail : {n k : ℕ} → n ≡ k → k ≢ 15 → k ≢ 16 → k ≢ 17 → IsMailing n → ⊥
 not-mail e x y z (inl (inl h)) = x (sym e ∙ h)
@@ -74,9 +66,6 @@ not-mail e x y z (inl (inr h)) = y (sym e ∙ h)
 not-mail e x y z (inr h) = z (sym e ∙ h)
 
 module _ (t : Tables) (c : Clock) (s : Step) (host : Host t c s) (e : stepped t c s .outcome .code ≡ 0) where
-  together : HangTogether (found t) (t .kernel .words) c
-  together = rules-together t c (hangs t c s host (accepted t c s host e) .together)
-
   abbrev n : ℕ
   n = t .sizes .threads
 
@@ -105,13 +94,14 @@ module _ (t : Tables) (c : Clock) (s : Step) (host : Host t c s) (e : stepped t 
     woken-in : (v x : World) (j : ℕ) (m : ℤ) (w : World) → v ≡ madeReady w j m → x .woken ≡ v .woken → x .woken j ≡ true
     woken-in v x j m w a b = ap (λ (f : ℕ → Bool). f j) b ∙ ap (λ (y : World). y .woken j) a ∙ put-same (w .woken) j true
 
-    of-signal : (v : World) → ltZ (found t .counter p) (pos 0) ≡ true → Signal (found t) p v → x₀ t c s host e .woken ≡ v .woken → FirstWoken
-    of-signal v below (Signal.raises a q) z = contrary below a
+    of-signal : (v : World) {b : Bool} → ltZ (found t .counter p) (pos 0) ≡ true → Signal (found t) p v b → x₀ t c s host e .woken ≡ v .woken → FirstWoken
+    of-signal v below (Signal.raises a l q) z = contrary below a
+    of-signal v below (Signal.at-top a q) z = contrary below (top-not-below (found t .counter p) a)
     of-signal v below (Signal.wakes a j h q) z = found-first j h (woken-in v (x₀ t c s host e) j (pos 0) (found t) q z)
 
     of-binary : (v : World) → ltZ (found t .counter p) (pos 0) ≡ true → BinarySignal (found t) p v → x₀ t c s host e .woken ≡ v .woken → FirstWoken
-    of-binary v below (BinarySignal.signals a h) z = of-signal v below h z
-    of-binary v below (BinarySignal.nothing a q) z = contrary (below-one (found t .counter p) below) a
+    of-binary v below (BinarySignal.signals a n h) z = of-signal v below h z
+    of-binary v below (BinarySignal.nothing a q) z = contrary (below-more (found t .counter p) 0 1 (omega arith) below) a
 
     -- the rows that signal
     data SignalRow : ℕ → Type 0 where
@@ -121,29 +111,33 @@ module _ (t : Tables) (c : Clock) (s : Step) (host : Host t c s) (e : stepped t 
       added : 16 + s .object ≡ p → s .object < t .sizes .pools → SignalRow 22
 
     low : s .object ≡ p → s .object < t .sizes .semaphores → ltZ (found t .counter p) (pos 0) ≡ true
-    low o l = owes (together .semaphores p (rw o at l)) (number-some (isQueued (found t) p) n i within waits)
+    low o l = owes (together t c s host e .semaphores p (rw o at l)) (number-some (isQueued (found t) p) n i within waits)
 
     low-pool : 16 + s .object ≡ p → s .object < t .sizes .pools → ltZ (found t .counter p) (pos 0) ≡ true
     low-pool o l =
-        owes (subst (λ (r : ℕ). SemaphoreFits (found t .counter r) (number (isQueued (found t) r) n)) o (together .pool-counters (s .object) l))
+        owes (subst (λ (r : ℕ). SemaphoreFits (found t .counter r) (number (isQueued (found t) r) n)) o (together t c s host e .pool-counters (s .object) l))
         (number-some (isQueued (found t) p) n i within waits)
 
     by-row : {k : ℕ} {x : World} → SignalRow k → Act t (c .time) s x k → x₀ t c s host e ≡ x → FirstWoken
-    by-row (SignalRow.plain o l) (Act.signal v h q) z =
-        of-signal v (low o l) (subst (λ (r : ℕ). Signal (found t) r v) o h) (ap (λ (y : World). y .woken) (z ∙ q))
+    by-row (SignalRow.plain o l) (Act.signal v b h q) z =
+        of-signal v (low o l) (subst (λ (r : ℕ). Signal (found t) r v b) o h) (ap (λ (y : World). y .woken) (z ∙ q))
     by-row (SignalRow.binary o l) (Act.binary-signal v h q) z =
         of-binary v (low o l) (subst (λ (r : ℕ). BinarySignal (found t) r v) o h) (ap (λ (y : World). y .woken) (z ∙ q))
-    by-row (SignalRow.freed o l) (Act.free v h q) z =
-        of-signal v (low-pool o l) (subst (λ (r : ℕ). Signal (found t) r v) o h) (ap (λ (y : World). y .woken) (z ∙ q))
-    by-row (SignalRow.added o l) (Act.add v h q) z =
-        of-signal v (low-pool o l) (subst (λ (r : ℕ). Signal (found t) r v) o h) (ap (λ (y : World). y .woken) (z ∙ q))
-
-    at-row : {k : ℕ} → s .kind ≡ k → SignalRow k → FirstWoken
-    at-row {k} z r = by-row r (subst (λ (m : ℕ). Act t (c .time) s (x₀ t c s host e) m) z (act t c s host e)) refl
+    by-row (SignalRow.freed o l) (Act.free v b h q) z =
+        of-signal v (low-pool o l) (subst (λ (r : ℕ). Signal (found t) r v b) o h) (ap (λ (y : World). y .woken) (z ∙ q))
+    by-row (SignalRow.added o l) (Act.add v b h q) z =
+        of-signal v (low-pool o l) (subst (λ (r : ℕ). Signal (found t) r v b) o h) (ap (λ (y : World). y .woken) (z ∙ q))
 
     semaphore-there : 2 ≤ s .kind → s .kind ≤ 5 → s .object < t .sizes .semaphores
     semaphore-there a b =
         in-or-out (s .object) (t .sizes .semaphores) (λ l. l) (λ l. absurd (unbroken t c s host e 5 (Broken.semaphore a b l)))
+
+    -- a plain signal where somebody waits finds the counter below 0
+    pub waited-low : s .object ≡ p → s .kind ≡ 3 → ltZ (found t .counter p) (pos 0) ≡ true
+    waited-low o k = low o (semaphore-there (omega (arith, k)) (omega (arith, k)))
+
+    at-row : {k : ℕ} → s .kind ≡ k → SignalRow k → FirstWoken
+    at-row {k} z r = by-row r (subst (λ (m : ℕ). Act t (c .time) s (x₀ t c s host e) m) z (act t c s host e)) refl
 
     pool-there : 20 ≤ s .kind → s .kind ≤ 22 → s .object < t .sizes .pools
     pool-there a b = in-or-out (s .object) (t .sizes .pools) (λ l. l) (λ l. absurd (unbroken t c s host e 5 (Broken.pool a b l)))
@@ -283,7 +277,7 @@ module _ (t : Tables) (c : Clock) (s : Step) (host : Host t c s) (e : stepped t 
         ))
       where
         semaphores : t .sizes .semaphores ≤ 16
-        semaphores = together .sizes .semaphores
+        semaphores = together t c s host e .sizes .semaphores
     turn-of i q x (WokenBy.call (CalledOut.release k st pl)) = absurd (omega (arith, near, pl, x))
     turn-of i q x (WokenBy.call (CalledOut.resume k st pl)) = absurd (omega (arith, q, st))
     turn-of i q x (WokenBy.call (CalledOut.post b k st pl)) = absurd (omega (arith, near, pl, x))

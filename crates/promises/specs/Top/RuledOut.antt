@@ -2,23 +2,26 @@
 use Prim.Native.Nat.{ℕ, _/_, _%_, _^_, _≤_, _<_}
 use native.Mathlib.Omega.{arith}
 use mathlib.Core.Path.{_≡_, refl, sym, ap, _∙_, subst}
-use mathlib.Core.Logic.{_≢_, inl, inr}
+use mathlib.Core.Logic.{_≢_, _⊎_, inl, inr}
 use mathlib.Core.Bool.{Bool, true, false, cond, not, _&&_, true≢false}
 use mathlib.Core.List.{List, [], _∷_, head-eq-of-cons-eq}
 use lib.Dec.{eqb, ltb}
 use lib.ListN.{length, getD}
 use lib.IntN.{ℤ, pos, negsuc, natAbs, pos-ne-negsuc}
+use lib.Signed.{ltZ}
 use borrow.Author.Tests.{eqb-true, eq-eqb, le-ltb}
+use Rattle.kernel.specs.declared.clock.Clock.{Clock}
 use Rattle.kernel.specs.declared.records.Answer.{Answer}
 use Rattle.kernel.specs.declared.records.Thread.{Thread}
 use Rattle.kernel.specs.declared.records.Words.{Words}
-use Rattle.kernel.proofs.Cases.{split}
+use Rattle.kernel.proofs.Cases.{split, same-or}
 use Rattle.kernel.proofs.WordsLaws.{and-test, less-test}
 use Rattle.library.specs.declared.calls.Step.{Step}
 use Rattle.library.specs.declared.tables.Tables.{Tables}
 use Rattle.pipes.specs.declared.table.Pipes.{Pipes}
 use Rattle.pipes.specs.declared.transfer.Moved.{Moved}
-use Rattle.promises.specs.Paper.World.{World}
+use Rattle.steps.specs.declared.stepping.Stepped.{Stepped}
+use Rattle.promises.specs.Paper.World.{World, found}
 use Rattle.promises.specs.Paper.Together.{InUse, WordOf, WordsAgree}
 use Rattle.promises.specs.Paper.Waking.{rowOf, inMask, heard, AnswerOf, SleeperAfter, ReadyAfter, WakerAfter}
 use Rattle.promises.specs.Paper.Flags.{awaitsFlags, FlagsAfter}
@@ -26,6 +29,7 @@ use Rattle.promises.specs.Paper.Run.{TurnOf}
 use Rattle.promises.specs.Paper.Pipes.{pipeOf, Transfer, TransferOf}
 use Rattle.promises.specs.Paper.History.{Event, isOwn, OwnFirst}
 use Rattle.promises.specs.Paper.Ledger.{inBox, noPostings, ledger, BoxTold, Standing, standing}
+use Rattle.promises.specs.Paper.Signals.{AtTop, SignalTold}
 use Rattle.promises.specs.Runs.Pipes.{smaller-le, numbered}
 
 -- -1 and -2 are not 0
@@ -194,3 +198,29 @@ freed-once n m i j o Standing.absent d = rw (eq-eqb o o refl)
 freed-once n m i j o Standing.free d = rw (eq-eqb o o refl)
 freed-once n m i j o (Standing.out a b) d = rw (eq-eqb o o refl)
 freed-once n m i j o Standing.mistaken d = absurd (d refl)
+
+-- ---- signals
+
+-- no answer is both 0 and 1
+zero-one : _≡_ {A = ℤ} (pos 0) (pos 1) → ⊥
+zero-one e = omega (arith, ap natAbs e)
+
+-- a signal at the top does not answer 0
+pub top-told : {t : Tables} {c : Clock} {s : Step} {r : Stepped} → AtTop t c s r → r .outcome .message ≢ pos 0
+top-told a e = zero-one (sym e ∙ a .answers .message)
+
+-- and one that answers 1 is at the top
+pub one-at-top : {t : Tables} {c : Clock} {s : Step} {r : Stepped} → SignalTold t c s r → s .kind ≡ 3 → r .outcome .message ≡ pos 1
+    → ltZ (found t .counter (s .object)) (pos 2147483647) ≡ false
+one-at-top {t} {s = s} a k e =
+    split (ltZ (found t .counter (s .object)) (pos 2147483647)) (λ l. absurd (zero-one (sym (a .counts k l .answers .message) ∙ e))) (λ l. l)
+
+-- no binary signal, free or add answers 1
+pub callers-silent : {t : Tables} {c : Clock} {s : Step} {r : Stepped} → SignalTold t c s r
+    → (s .kind ≡ 5) ⊎ (s .kind ≡ 21) ⊎ (s .kind ≡ 22) → r .outcome .message ≢ pos 1
+callers-silent a k e = zero-one (sym (a .callers k .message) ∙ e)
+
+-- a signal at the top leaves every counter
+pub top-counters : {t : Tables} {c : Clock} {s : Step} {r : Stepped} → AtTop t c s r → r .tables .kernel .counters ≡ t .kernel .counters
+top-counters {s = s} a =
+    same-or (s .caller) 255 (λ z. ap (λ (u : Tables). u .kernel .counters) (a .interrupt z)) (λ z. ap (λ (u : Tables). u .kernel .counters) (a .thread z))

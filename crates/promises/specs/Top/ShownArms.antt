@@ -28,7 +28,7 @@ use Rattle.library.specs.Binary.{binarySignalled}
 use Rattle.library.specs.Ring.{positionsFit, posted, postedAhead, fetched, emptied}
 use Rattle.library.specs.Mailbox.{postDone, postTried, fetchDone, fetchTried, bothReleased, mailboxReset, mailboxResumed}
 use Rattle.library.specs.Pool.{popped, pushed, handedOver, allocTried, putBack}
-use Rattle.library.specs.Acting.{waitBegun, effected, actedOnKernel, boxEffected, actedOnBox, acted}
+use Rattle.library.specs.Acting.{signalActed, callMade, effected, actedOnKernel, boxEffected, actedOnBox, acted}
 use Rattle.library.specs.Fresh.{made}
 use Rattle.library.specs.Settling.{continued, settled}
 use Rattle.library.specs.Sizes.{sizesFit}
@@ -106,6 +106,7 @@ kernelArms =
     ∷ met [] (by 0 2 0 5) (notAbove 0)
     ∷ met (by 0 2 0 5 ∷ []) (by 1 3 0 0) (below 0)
     ∷ met [] (by 0 3 0 0) (λ p. not (below 0 p))
+    ∷ met (by 0 4 2147483647 0 ∷ []) (by 0 3 0 0) (λ p. not (ltZ (counterAt (p .kernel) 0) (pos 2147483647)))
     ∷ met (by 0 2 0 5 ∷ []) (by 1 4 3 0) (below 0)
     ∷ met (by 0 2 0 5 ∷ []) (by 1 5 0 0) (below 0)
     ∷ met [] (by 0 5 0 0) (λ p. not (below 0 p) && notAbove 0 p)
@@ -158,6 +159,6 @@ boxArms =
     ∷ []
 
 -- all of them are
-pub arms-shown : (kernelArms ≡ replicate 30 true) × (boxArms ≡ replicate 24 true)
-unfolding firstFrom allFrom countOf wordOf firstOf firstReady firstWaiter takenOff putOn woken slept finished blocked enqueued releasedFirst releasedAll taken waited signalled resetTo suspendedOn resumed sleptFor sleptUntil tookFlags eventSignalled eventWaited ticked binarySignalled posted postedAhead fetched emptied postDone postTried fetchDone fetchTried bothReleased mailboxReset mailboxResumed popped pushed handedOver allocTried putBack sizesFit made waitBegun effected actedOnKernel boxEffected actedOnBox acted continued settled callFits waitFits ticksFit flagsFit rowFits rowsFit queuedCount countersFit readyWord waitingWord readyFits waitingFits wordsFit holderFits referencesFit positionsFit mailboxesFit promisedCount occurrences entriesFit objectsFit poolFits poolsFit hangsTogether refusalOf maskOf outcomeOf doneWith refusedWith stepped ran
+pub arms-shown : (kernelArms ≡ replicate 31 true) × (boxArms ≡ replicate 24 true)
+unfolding firstFrom allFrom countOf wordOf firstOf firstReady firstWaiter takenOff putOn woken slept finished blocked enqueued releasedFirst releasedAll taken waited signalled resetTo suspendedOn resumed sleptFor sleptUntil tookFlags eventSignalled eventWaited ticked binarySignalled posted postedAhead fetched emptied postDone postTried fetchDone fetchTried bothReleased mailboxReset mailboxResumed popped pushed handedOver allocTried putBack sizesFit made signalActed callMade effected actedOnKernel boxEffected actedOnBox acted continued settled callFits waitFits ticksFit flagsFit rowFits rowsFit queuedCount countersFit readyWord waitingWord readyFits waitingFits wordsFit holderFits referencesFit positionsFit mailboxesFit promisedCount occurrences entriesFit objectsFit poolFits poolsFit hangsTogether refusalOf maskOf outcomeOf doneWith refusedWith stepped ran
 arms-shown = (refl, refl)

@@ -9,7 +9,12 @@ unfolding signalled
 returns c =
     let read = c .before .before in
     let same = signed {z = read .counter-at .result} (read .counter-at .ok) in
-    rw (← read .counter-at .ensures, rw same at (c .before .if1 .taken)) (c .release-first .ensures)
+    rw (
+      c .release-first .ensures,
+      same,
+      ← read .counter-at .ensures,
+      rw same at (c .before .if1 .taken),
+    )
 
 returns-2 : tie.Need-returns-2
 unfolding signalled

@@ -6,14 +6,14 @@ use Rattle.library.proofs.acting.act_on_kernel.Tie as tie
 returns : tie.Need-returns
 unfolding actedOnKernel
 returns c =
-    rw (← c .before .before .is-kernel-wait .ensures, c .before .if1 .taken) (c .begin-wait .ensures)
+    rw (← c .before .before .answers-itself .ensures, c .before .if1 .taken) (c .make-call .ensures)
 
 returns-2 : tie.Need-returns-2
 unfolding actedOnKernel
 returns-2 c =
-    let at-is-kernel-wait = c .before .before .before in
+    let at-answers-itself = c .before .before .before in
     rw (
-      ← at-is-kernel-wait .is-kernel-wait .ensures,
+      ← at-answers-itself .answers-itself .ensures,
       c .before .before .if1 .left,
       c .finish .ensures,
       c .before .effect .ensures,

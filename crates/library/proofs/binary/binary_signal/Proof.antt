@@ -7,9 +7,9 @@ use Rattle.library.proofs.binary.binary_signal.Tie as tie
 returns : tie.Need-returns
 unfolding binarySignalled
 returns c =
-    let read = c .before .before in
+    let read = c .before .before .before in
     let same = signed {z = read .counter-at .result} (read .counter-at .ok) in
-    rw (← read .counter-at .ensures, rw same at (c .before .if1 .taken)) (c .signal .ensures)
+    rw (c .before .signal .ensures, ← read .counter-at .ensures, rw same at (c .before .before .if1 .taken))
 
 returns-2 : tie.Need-returns-2
 unfolding binarySignalled
