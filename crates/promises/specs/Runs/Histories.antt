@@ -48,7 +48,7 @@ use Rattle.promises.specs.Runs.Answers.{step-done}
 use Rattle.promises.specs.Runs.Keeping.{put-same, put-other}
 use Rattle.promises.specs.Runs.Run.{ran}
 use Rattle.promises.specs.Runs.Pipes.{length-listed}
-use Rattle.promises.specs.Runs.OneStep.{bit-in, accepted, unbroken, together, caller-first, act}
+use Rattle.promises.specs.Runs.OneStep.{bit-in, accepted, unbroken, together, caller-first, pool-there, act}
 use Rattle.promises.specs.Runs.Moments.{momentOf, moments, Going, host, going-on}
 use Rattle.promises.specs.Runs.Accounts.{not-zero}
 use Rattle.promises.specs.Runs.Dealing.{those-append, Dealt, dealt-still, dealt-none, dealt-as, dealt-both, dealt-reset, dealt-freed, dealt-added}
@@ -188,9 +188,6 @@ module _ (n : ℕ) (t : Tables) (c : Clock) (s : Step) (host : Host t c s) (e : 
   in-boxes : 15 ≤ s .kind → s .kind ≤ 19 → s .object < t .sizes .mailboxes
   in-boxes a b = in-or-out (s .object) (t .sizes .mailboxes) (λ l. l) (λ l. absurd (ok 5 (Broken.mailbox a b l)))
 
-  in-pools : 20 ≤ s .kind → s .kind ≤ 22 → s .object < t .sizes .pools
-  in-pools a b = in-or-out (s .object) (t .sizes .pools) (λ l. l) (λ l. absurd (ok 5 (Broken.pool a b l)))
-
   -- a row whose call does not count: it wakes, and finishes at once
   wakes-with : (m : ℤ) {k : ℕ} → s .kind ≡ k → isCounted k ≡ false → (v x : World) → Calm w₀ v → x ≡ ended v j m 0 → Does n t j mine w₀ x
   wakes-with m q u v x k z =
@@ -252,7 +249,7 @@ module _ (n : ℕ) (t : Tables) (c : Clock) (s : Step) (host : Host t c s) (e : 
   some-object : 20 ≤ s .kind → s .kind ≤ 22 → ltZ (pos 0) (w₀ .counter (16 + s .object)) ≡ true → 0 < w₀ .pool (s .object) .length
   some-object a b x =
       above (w₀ .pool (s .object) .length) (number (isPromised w₀ (s .object)) (t .sizes .threads)) (w₀ .counter (16 + s .object)) x
-      (together t c s host e .pools (s .object) (in-pools a b) .promises)
+      (together t c s host e .pools (s .object) (pool-there t c s host e a b) .promises)
     where
       above : (l k : ℕ) (m : ℤ) → ltZ (pos 0) m ≡ true → l ≡ larger m + k → 0 < l
       above l k (pos zero) x z = contrary x refl
@@ -268,7 +265,7 @@ module _ (n : ℕ) (t : Tables) (c : Clock) (s : Step) (host : Host t c s) (e : 
       by : Alloc w₀ j d x → Does n t j d w₀ x
       by (Alloc.above a z) =
           does-to n t j d w₀ _ x z
-          (take-does n t j d w₀ _ fit-found (in-pools (omega (arith, q)) (omega (arith, q))) refl (counter-calm w₀ _ refl refl refl refl refl refl)
+          (take-does n t j d w₀ _ fit-found (pool-there t c s host e (omega (arith, q)) (omega (arith, q))) refl (counter-calm w₀ _ refl refl refl refl refl refl)
           (some-object (omega (arith, q)) (omega (arith, q)) a))
       by (Alloc.not-above a h) =
           waits-does n t j d w₀ 3 (16 + s .object) x (by-thread-later (inr (inr (inr q)))) h
@@ -283,7 +280,10 @@ module _ (n : ℕ) (t : Tables) (c : Clock) (s : Step) (host : Host t c s) (e : 
 
     a-pool : s .object < t .sizes .pools
     a-pool =
-        elim puts [ inl e ↦ in-pools (omega (arith, e)) (omega (arith, e)) | inr e ↦ in-pools (omega (arith, e)) (omega (arith, e)) ]
+        elim puts [
+          | inl k ↦ pool-there t c s host e (omega (arith, k)) (omega (arith, k))
+          | inr k ↦ pool-there t c s host e (omega (arith, k)) (omega (arith, k))
+        ]
 
     abbrev topped : World
     topped = poolTo v (s .object) (onTop (w₀ .pool (s .object)) (s .a))

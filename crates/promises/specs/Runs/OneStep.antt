@@ -83,6 +83,13 @@ module _ (t : Tables) (c : Clock) (s : Step) (host : Host t c s) (e : stepped t 
         | inr f ↦ record { thread = f .thread; is-ready = f .is-ready; first = f .first }
       ]
 
+  -- the object that it names is there
+  pub semaphore-there : 2 ≤ s .kind → s .kind ≤ 5 → s .object < t .sizes .semaphores
+  semaphore-there a b = in-or-out (s .object) (t .sizes .semaphores) (λ l. l) (λ l. absurd (unbroken 5 (Broken.semaphore a b l)))
+
+  pub pool-there : 20 ≤ s .kind → s .kind ≤ 22 → s .object < t .sizes .pools
+  pool-there a b = in-or-out (s .object) (t .sizes .pools) (λ l. l) (λ l. absurd (unbroken 5 (Broken.pool a b l)))
+
   -- whom a reference holds is suspended on it
   pub held : (i : ℕ) → s .kind ≡ 10 → found t .holder (s .object) ≡ i → i ≢ 255
       → (found t .thread i .state ≡ 2) × (found t .thread i .place ≡ s .object)

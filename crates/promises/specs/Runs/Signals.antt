@@ -17,7 +17,7 @@ use Rattle.kernel.specs.declared.records.Thread.{Thread}
 use Rattle.kernel.specs.Moves.{finished}
 use Rattle.kernel.specs.Semaphore.{signalled}
 use Rattle.kernel.specs.Tables.{threadAt, counterAt}
-use Rattle.kernel.proofs.Cases.{split, same-or, in-or-out, contrary}
+use Rattle.kernel.proofs.Cases.{split, same-or, contrary}
 use Rattle.kernel.proofs.CountersLaws.{top-not-below}
 use Rattle.kernel.proofs.MovesLaws.{finish-interrupt}
 use Rattle.kernel.proofs.SemaphoreLaws.{signal-top}
@@ -34,8 +34,6 @@ use Rattle.promises.specs.Paper.World.{World, found, noCall, ended, Firs
 use Rattle.promises.specs.Paper.Host.{Host}
 use Rattle.promises.specs.Paper.Rows.{Signal, BinarySignal, Waits, Release, Post, Fetch, Act}
 use Rattle.promises.specs.Paper.Settling.{Continued}
-use Rattle.promises.specs.Paper.Together.{CallFits, AwaitedFit}
-use Rattle.promises.specs.Paper.Refusals.{Broken}
 use Rattle.promises.specs.Paper.Step.{ResultOf}
 use Rattle.promises.specs.Paper.Waking.{rowOf, inMask}
 use Rattle.promises.specs.Paper.Signals.{AnswersWith, answeredIn, AtTop, Counts, SignalTold}
@@ -44,11 +42,11 @@ use Rattle.promises.specs.Meant.Kinds.{rows}
 use Rattle.promises.specs.Meant.Settling.{settle-stops}
 use Rattle.promises.specs.Meant.Moves.{worldOf}
 use Rattle.promises.specs.Meant.Calls.{sized}
-use Rattle.promises.specs.Meant.Step.{settled-keeps, result-is, running-is, h, acted-whole, settled-whole, own}
+use Rattle.promises.specs.Meant.Step.{settled-keeps, result-is, running-is, h, hangs, acted-whole, settled-whole, own}
 use Rattle.promises.specs.Runs.Answers.{step-done}
 use Rattle.promises.specs.Runs.Keeping.{put-same, put-other, KeepsOn}
 use Rattle.promises.specs.Runs.OneRow.{ended-own, ended-finished, mail-other, Stands, RowOn, row-on}
-use Rattle.promises.specs.Runs.OneStep.{bit-in, accepted, unbroken, together, caller-first, someone, x₀, act, settle-keeps}
+use Rattle.promises.specs.Runs.OneStep.{bit-in, accepted, together, caller-first, semaphore-there, someone, x₀, act, settle-keeps}
 use Rattle.promises.specs.Runs.GoingOn.{first-stays, ended-state}
 
 -- ---- what a continued call leaves of the counters of semaphores and pools
@@ -270,26 +268,10 @@ module _ (t : Tables) (c : Clock) (s : Step) (host : Host t c s) (e : stepped t 
     no-call : j ≢ 255 → (rowOf t j .call ≡ noCall) × (rowOf t j .awaited ≡ 0)
     no-call z =
         let f = caller-first t c s host e z in
-        let kind-none = together t c s host e .running j f in
-        let fits = together t c s host e .threads j (f .thread) in
-        (none (fits .call) kind-none, nothing (fits .awaited) kind-none)
-      where
-        none : {b : Call} → CallFits (t .sizes) b → b .kind ≡ 0 → b ≡ noCall
-        none (CallFits.none q) y = q
-        none (CallFits.semaphore q a b d) y = absurd (omega arith)
-        none (CallFits.queue q a b d) y = absurd (omega arith)
-        none (CallFits.reference q a b d) y = absurd (omega arith)
-        none (CallFits.sleep-for q a b d) y = absurd (omega arith)
-        none (CallFits.sleep-until q a b) y = absurd (omega arith)
-        none (CallFits.events q a b) y = absurd (omega arith)
-        none (CallFits.post (inl q) a b) y = absurd (omega arith)
-        none (CallFits.post (inr q) a b) y = absurd (omega arith)
-        none (CallFits.fetch q a b d) y = absurd (omega arith)
-        none (CallFits.alloc q a b d) y = absurd (omega arith)
-
-        nothing : {u : Thread} → AwaitedFit u → u .call .kind ≡ 0 → u .awaited ≡ 0
-        nothing (AwaitedFit.mask q a) y = absurd (omega arith)
-        nothing (AwaitedFit.none q a) y = a
+        let none = together t c s host e .running j f in
+        let g = hangs t c s host (accepted t c s host e) .together .good .threads j (f .thread) in
+        let n = g .no-call none in
+        (λ x. record { kind = none x; object = n .0 x; operand = n .1 .0 x; timeout = n .1 .1 x }, g .awaited ∙ rw none)
 
     left-thread : j ≢ 255 → closed left ≡ answeredIn t j (pos 1)
     unfolding finished
@@ -367,11 +349,6 @@ module _ (t : Tables) (c : Clock) (s : Step) (host : Host t c s) (e : stepped t 
         at-top = at-top;
         counts = λ k.
             below-top (subst Acts k (act t c s host e))
-            (omega (arith, together t c s host e .sizes .semaphores, semaphore k));
+            (omega (arith, together t c s host e .sizes .semaphores, semaphore-there t c s host e (omega (arith, k)) (omega (arith, k))));
         callers = callers-answer;
       }
-    where
-      semaphore : s .kind ≡ 3 → s .object < t .sizes .semaphores
-      semaphore k =
-          in-or-out (s .object) (t .sizes .semaphores) (λ l. l)
-          (λ l. absurd (unbroken t c s host e 5 (Broken.semaphore (omega (arith, k)) (omega (arith, k)) l)))

@@ -20,12 +20,11 @@ use Rattle.promises.specs.Paper.World.{World, found, madeReady, Highest}
 use Rattle.promises.specs.Paper.Host.{Host}
 use Rattle.promises.specs.Paper.Rows.{Signal, BinarySignal, Act}
 use Rattle.promises.specs.Paper.Together.{WaitFits, number, isQueued, SemaphoreFits}
-use Rattle.promises.specs.Paper.Refusals.{Broken}
 use Rattle.promises.specs.Paper.Waking.{rowOf, inMask, IsMailing, CalledOut, WokenBy, SleeperAfter, OwnWait, WakerAfter}
 use Rattle.promises.specs.Paper.Run.{signalsAt, joinsAt, higher, TurnOf}
 use Rattle.promises.specs.Together.Tests.{either-means}
 use Rattle.promises.specs.Runs.Keeping.{put-same, queued-asleep}
-use Rattle.promises.specs.Runs.OneStep.{unbroken, together, fits, x₀, act, woken-seen, sleeper-after, waker-after}
+use Rattle.promises.specs.Runs.OneStep.{together, semaphore-there, pool-there, fits, x₀, act, woken-seen, sleeper-after, waker-after}
 
 -- ---- counting
 
@@ -128,19 +127,12 @@ module _ (t : Tables) (c : Clock) (s : Step) (host : Host t c s) (e : stepped t 
     by-row (SignalRow.added o l) (Act.add v b h q) z =
         of-signal v (low-pool o l) (subst (λ (r : ℕ). Signal (found t) r v b) o h) (ap (λ (y : World). y .woken) (z ∙ q))
 
-    semaphore-there : 2 ≤ s .kind → s .kind ≤ 5 → s .object < t .sizes .semaphores
-    semaphore-there a b =
-        in-or-out (s .object) (t .sizes .semaphores) (λ l. l) (λ l. absurd (unbroken t c s host e 5 (Broken.semaphore a b l)))
-
     -- a plain signal where somebody waits finds the counter below 0
     pub waited-low : s .object ≡ p → s .kind ≡ 3 → ltZ (found t .counter p) (pos 0) ≡ true
-    waited-low o k = low o (semaphore-there (omega (arith, k)) (omega (arith, k)))
+    waited-low o k = low o (semaphore-there t c s host e (omega (arith, k)) (omega (arith, k)))
 
     at-row : {k : ℕ} → s .kind ≡ k → SignalRow k → FirstWoken
     at-row {k} z r = by-row r (subst (λ (m : ℕ). Act t (c .time) s (x₀ t c s host e) m) z (act t c s host e)) refl
-
-    pool-there : 20 ≤ s .kind → s .kind ≤ 22 → s .object < t .sizes .pools
-    pool-there a b = in-or-out (s .object) (t .sizes .pools) (λ l. l) (λ l. absurd (unbroken t c s host e 5 (Broken.pool a b l)))
 
     -- "the highest-priority waiter is made ready with 0"
     pub signal-wakes : signalsAt p t s ≡ true → FirstWoken
@@ -149,19 +141,19 @@ module _ (t : Tables) (c : Clock) (s : Step) (host : Host t c s) (e : stepped t 
           | inl a ↦
               let b = both-means (eqb (s .kind) 3) (eqb (s .object) p) a in
               let k = eqb-true (s .kind) 3 (b .0) in
-              at-row k (SignalRow.plain (eqb-true (s .object) p (b .1)) (semaphore-there (omega (arith, k)) (omega (arith, k))))
+              at-row k (SignalRow.plain (eqb-true (s .object) p (b .1)) (semaphore-there t c s host e (omega (arith, k)) (omega (arith, k))))
           | inr a ↦ elim (either-means (eqb (s .kind) 5 && (eqb (s .object) p && ltZ (found t .counter p) (pos 1))) _ a) [
             | inl b ↦
                 let d = both-means (eqb (s .kind) 5) (eqb (s .object) p && ltZ (found t .counter p) (pos 1)) b in
                 let k = eqb-true (s .kind) 5 (d .0) in
                 let o = eqb-true (s .object) p (both-means (eqb (s .object) p) (ltZ (found t .counter p) (pos 1)) (d .1) .0) in
-                at-row k (SignalRow.binary o (semaphore-there (omega (arith, k)) (omega (arith, k))))
+                at-row k (SignalRow.binary o (semaphore-there t c s host e (omega (arith, k)) (omega (arith, k))))
             | inr b ↦
                 let d = both-means (eqb (s .kind) 21 || eqb (s .kind) 22) (eqb (16 + s .object) p) b in
                 let o = eqb-true (16 + s .object) p (d .1) in
                 elim (either-means (eqb (s .kind) 21) (eqb (s .kind) 22) (d .0)) [
-                  | inl x ↦ let k = eqb-true (s .kind) 21 x in at-row k (SignalRow.freed o (pool-there (omega (arith, k)) (omega (arith, k))))
-                  | inr x ↦ let k = eqb-true (s .kind) 22 x in at-row k (SignalRow.added o (pool-there (omega (arith, k)) (omega (arith, k))))
+                  | inl x ↦ let k = eqb-true (s .kind) 21 x in at-row k (SignalRow.freed o (pool-there t c s host e (omega (arith, k)) (omega (arith, k))))
+                  | inr x ↦ let k = eqb-true (s .kind) 22 x in at-row k (SignalRow.added o (pool-there t c s host e (omega (arith, k)) (omega (arith, k))))
                 ]
           ]
         ]
@@ -272,8 +264,7 @@ module _ (t : Tables) (c : Clock) (s : Step) (host : Host t c s) (e : stepped t 
           arith,
           sym pl ∙ x,
           semaphores,
-          in-or-out (s .object) (t .sizes .semaphores) (λ l. l)
-              (λ l. absurd (unbroken t c s host e 5 (Broken.semaphore (omega (arith, k)) (omega (arith, k)) l))),
+          semaphore-there t c s host e (omega (arith, k)) (omega (arith, k)),
         ))
       where
         semaphores : t .sizes .semaphores ≤ 16
