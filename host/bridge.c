@@ -74,6 +74,16 @@ SAME(NIL_SLEEPING, SLEEPING);
 SAME(NIL_SUSPENDED, SUSPENDED);
 SAME(NIL_QUEUED, QUEUED);
 SAME(NIL_AWAITING, AWAITING_EVENTS);
+SAME(NIL_CAUSE_NONE, NO_CAUSE);
+SAME(NIL_CAUSE_SIGNAL, BY_SIGNAL);
+SAME(NIL_CAUSE_RELEASE, BY_RELEASE);
+SAME(NIL_CAUSE_RESUME, BY_RESUME);
+SAME(NIL_CAUSE_EVENT, BY_EVENT);
+SAME(NIL_CAUSE_POST, BY_POST);
+SAME(NIL_CAUSE_FETCH, BY_FETCH);
+SAME(NIL_CAUSE_RESET, BY_RESET);
+SAME(NIL_CAUSE_TICK, BY_TICK);
+SAME(NIL_LAST_STEP, LAST_STEP);
 SAME(NIL_ABSENT, ABSENT);
 SAME(NIL_FREE_MARK, FREE);
 SAME(NIL_OUT, OUT);
@@ -144,6 +154,8 @@ static void thread_to_second(const nil_thread *from, struct thread *to)
     to->call.timeout = from->call.timeout;
     to->last.message = from->answer.message;
     to->last.datum = from->answer.datum;
+    to->cause = from->cause;
+    to->step = from->step;
 }
 
 static void thread_from_second(const struct thread *from, nil_thread *to)
@@ -160,6 +172,8 @@ static void thread_from_second(const struct thread *from, nil_thread *to)
     to->call.timeout = from->call.timeout;
     to->answer.message = from->last.message;
     to->answer.datum = from->last.datum;
+    to->cause = from->cause;
+    to->step = from->step;
 }
 
 static void mailbox_to_second(const nil_mailbox *from, struct mailbox *to)
@@ -284,6 +298,7 @@ void to_second(const nil_tables *from, const nil_clock *clock,
         *counter_of(to, place) = from->counters[place];
     }
     words_to_second(&from->words, &to->words);
+    to->steps = from->steps;
     to->clock.time = clock->time;
     to->clock.frequency = clock->frequency;
 }
@@ -309,6 +324,7 @@ void from_second(const struct tables *from, nil_tables *to, nil_clock *clock)
         to->counters[place] = *counter_of(&t, place);
     }
     words_from_second(t.words, &to->words);
+    to->steps = t.steps;
     clock->time = t.clock.time;
     clock->frequency = t.clock.frequency;
 }

@@ -5,10 +5,11 @@
  * TABLES damaged tables, of which both say which rule is broken first; and for
  * each of these the nine functions of time. A damage that is an event wait has
  * further steps, until the wait has gone on; one that takes a semaphore near
- * the top has signals there. At each step the archive also says for a screen
- * who is ready and who waits where. Then STEPS calls on byte pipes that live,
- * and one on each of TABLES pipes from outside. It stops at the first answer or
- * byte that differs.
+ * the top has signals there, and one that takes the step number near its end
+ * has steps beyond it. Some traces and plants begin near that end. At each step
+ * the archive also says for a screen who is ready and who waits where. Then
+ * STEPS calls on byte pipes that live, and one on each of TABLES pipes from
+ * outside. It stops at the first answer or byte that differs.
  *
  * Seeds count up from SEED: one for each trace, then one for each plant whose
  * tables are damaged, and then those of the pipes.
@@ -27,11 +28,22 @@
 
 enum { PLANT_STEPS = 60, DAMAGES = 4, MANY = 20000 };
 
+/* How many traces and plants begin late, and how near the end. */
+enum { LATE_PERCENT = 20, LATE_STEPS = 100 };
+
 /* How often each code was answered. */
 static uint64_t read_codes[CODES];
 static uint64_t fresh_codes[CODES];
 static uint64_t step_codes[CODES];
 static uint64_t table_codes[SPOIL_WAYS][CODES];
+
+/* Some fresh tables count from near the last step number on. */
+static void begin_late(struct random *r, nil_tables *t)
+{
+    if (random_chance(r, LATE_PERCENT)) {
+        t->steps = LAST_STEP - random_below(r, LATE_STEPS);
+    }
+}
 
 /* ---- random traces ---------------------------------------------------- */
 
@@ -52,6 +64,7 @@ static uint64_t run_trace(uint64_t seed, uint64_t wanted)
     code = both_open(at, &c, &z);
     if (code == 0) {
         both_fresh(at, &z, DEFAULT_FREQUENCY, &plant);
+        begin_late(&random, &plant.tables);
     }
     while (code == 0 && at.number < wanted) {
         at.number++;
@@ -120,8 +133,9 @@ static uint32_t some_way(struct random *r)
 }
 
 /* The step is chosen for the good tables; the damaged ones must refuse it or
-   make it just as the second program does. An event wait then goes on, and a
-   semaphore near the top is signalled. */
+   make it just as the second program does. An event wait then goes on, a
+   semaphore near the top is signalled, and a late step number comes to its
+   end. */
 static void step_on_damaged(struct random *r, struct where at,
                             const struct plant *good, const struct step *s)
 {
@@ -135,6 +149,9 @@ static void step_on_damaged(struct random *r, struct where at,
     table_codes[way][code]++;
     if (way == SEMAPHORE_TOP) {
         signal_tops(r, at, &damaged);
+    }
+    if (way == LAST_NUMBERS) {
+        count_to_end(at, &damaged);
     }
     if (way >= WAIT_NO_FLAG && code != BROKEN_TABLES) {
         let_go_on(r, at, &damaged);
@@ -154,6 +171,7 @@ static uint64_t run_plant(uint64_t seed, uint64_t wanted)
     memset(&plant, 0xee, sizeof plant);
     try_fresh(&random, at, z, &plant);
     both_fresh(at, &z, random_between(&random, 1, MAX_FREQUENCY), &plant);
+    begin_late(&random, &plant.tables);
     for (uint32_t k = 0; k < PLANT_STEPS && at.number < wanted; k++) {
         struct step s;
 
@@ -279,6 +297,10 @@ static void report(void)
     print_waits();
     printf("  ");
     print_signals(&top_signals);
+    printf("  ");
+    print_wakings(&wakings);
+    printf("  ");
+    print_kept(&wakings);
     printf("  conversions: %llu made, %llu refused\n",
            (unsigned long long)conversions[0],
            (unsigned long long)conversions[1]);
@@ -292,6 +314,20 @@ static void expect_signals_met(struct where at)
     expect(table_codes[SEMAPHORE_TOP][0] > 0
            && table_codes[POOL_TOP][BROKEN_TABLES] > 0, at,
            "no counter came near the top");
+}
+
+static void expect_causes_met(struct where at)
+{
+    for (uint32_t cause = BY_SIGNAL; cause < CAUSES; cause++) {
+        expect(wakings.by[cause] > 0, at, "nobody woke by some cause");
+    }
+    expect(wakings.settled > 0 && wakings.settled_none > 0, at,
+           "no continued call woke anybody");
+    expect(wakings.reached > 0 && wakings.last > 0, at,
+           "no step number came to its end");
+    expect(table_codes[CAUSE_OUTSIDE][BROKEN_TABLES] > 0
+           && table_codes[CAUSE_OTHER][0] > 0, at,
+           "no cause came from outside");
 }
 
 static bool read_number(const char *text, uint64_t *number)
@@ -320,6 +356,7 @@ int main(int argc, char **argv)
     /* a short run need not meet all */
     if (given[0] >= MANY && given[1] >= MANY) {
         expect_signals_met((struct where){ end - 1, 0 });
+        expect_causes_met((struct where){ end - 1, 0 });
         expect_pipes_met((struct where){ end - 1, 0 });
     }
     printf("compare: seeds %llu to %llu: traces, from %llu on plants, from "

@@ -199,6 +199,34 @@ static void show_screen(const struct plant *p)
            (unsigned)nil_waiting(&p->tables, labels));
 }
 
+/* What support staff ask: why each thread last went on. A bottle has just come,
+   and a label that is printed for a test. */
+static void show_why(const struct plant *p)
+{
+    static const char *const causes[] = {
+        [NIL_CAUSE_NONE] = "nothing yet",
+        [NIL_CAUSE_SIGNAL] = "a signal",
+        [NIL_CAUSE_RELEASE] = "a release",
+        [NIL_CAUSE_RESUME] = "a resume",
+        [NIL_CAUSE_EVENT] = "an event",
+        [NIL_CAUSE_POST] = "a post",
+        [NIL_CAUSE_FETCH] = "a fetch",
+        [NIL_CAUSE_RESET] = "a reset",
+        [NIL_CAUSE_TICK] = "a tick"
+    };
+    struct plant later = *p;
+
+    step(&later, NIL_SIGNAL, NIL_INTERRUPT, BOTTLES, 0, 0);
+    step(&later, NIL_POST, NIL_INTERRUPT, LABELS, 99, 0);
+    for (uint32_t i = 0; i < THREADS; i++) {
+        const nil_thread *t = &later.tables.threads[i];
+
+        printf("%s was last woken by %s, in step %u of %u\n", NAMES[i],
+               causes[t->cause], (unsigned)t->step,
+               (unsigned)later.tables.steps);
+    }
+}
+
 /* Times of the firmware in ticks of the plant's clock, and back. */
 static void show_time(const struct plant *p)
 {
@@ -239,6 +267,7 @@ int main(void)
     show_refusal(&plant);
     show_damage(&plant);
     show_top(&plant);
+    show_why(&plant);
     show_time(&plant);
     return 0;
 }

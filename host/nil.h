@@ -20,7 +20,7 @@
 
 /* The number of this header's layout: it rises with every change of a struct.
    The archive's own is nil_layout(); NIL_LAYOUT_FITS() compares them. */
-#define NIL_LAYOUT UINT32_C(2)
+#define NIL_LAYOUT UINT32_C(3)
 
 #ifdef __cplusplus
 extern "C" {
@@ -166,6 +166,25 @@ enum {
     NIL_AWAITING = 4 /* events */
 };
 
+/* Why a thread was last made ready. A pool's free and add are signals too. A
+   thread that was woken by another's call which went on only then, as a post
+   does that had waited for room, has that call's cause, whatever the step's kind
+   was. */
+enum {
+    NIL_CAUSE_NONE = 0, /* it was not yet */
+    NIL_CAUSE_SIGNAL = 1,
+    NIL_CAUSE_RELEASE = 2,
+    NIL_CAUSE_RESUME = 3,
+    NIL_CAUSE_EVENT = 4,
+    NIL_CAUSE_POST = 5,
+    NIL_CAUSE_FETCH = 6,
+    NIL_CAUSE_RESET = 7, /* of a semaphore or a mailbox */
+    NIL_CAUSE_TICK = 8   /* its ticks ran out */
+};
+
+/* The step number of the tables stays here. */
+#define NIL_LAST_STEP UINT32_C(4294967295)
+
 /* Where threads queue: the number of an object is added to its range's first
    place. The place is the index of its counter. */
 enum {
@@ -189,7 +208,7 @@ enum {
 
 /* Bytes of stack that are enough for any call, whatever the tables hold; what
    a handler takes on the same stack is not counted. */
-enum { NIL_STACK = 60416 };
+enum { NIL_STACK = 65536 };
 
 /* What nil_read found. */
 enum { NIL_FOUND_NOTHING = 0, NIL_FOUND_SIZES = 1, NIL_FOUND_STEP = 2 };
@@ -219,6 +238,8 @@ typedef struct nil_thread {
     int32_t message;    /* with which it was last made ready */
     nil_call call;
     nil_answer answer; /* of its last finished call; 0 and 0 in a sleep */
+    uint32_t cause;    /* why it was last made ready: NIL_CAUSE_.. */
+    uint32_t step;     /* the number of that step, 0 before any */
 } nil_thread;
 
 /* Who is ready and who waits where: bit i of a word stands for thread i. */
@@ -258,6 +279,7 @@ typedef struct nil_tables {
     int32_t counters[NIL_PLACES];
     uint8_t references[NIL_REFERENCES]; /* a thread, or NIL_NOBODY */
     nil_words words;
+    uint32_t steps; /* accepted since fresh tables; stays at NIL_LAST_STEP */
     nil_mailbox mailboxes[NIL_MAILBOXES];
     nil_pool pools[NIL_POOLS];
     nil_sizes sizes;
@@ -446,7 +468,7 @@ NIL_HOLDS(sizeof(nil_answer) == 8);
 NIL_AT(nil_answer, message, 0);
 NIL_AT(nil_answer, datum, 4);
 
-NIL_HOLDS(sizeof(nil_thread) == 40);
+NIL_HOLDS(sizeof(nil_thread) == 48);
 NIL_AT(nil_thread, state, 0);
 NIL_AT(nil_thread, place, 2);
 NIL_AT(nil_thread, remaining, 4);
@@ -455,6 +477,8 @@ NIL_AT(nil_thread, awaited, 12);
 NIL_AT(nil_thread, message, 16);
 NIL_AT(nil_thread, call, 20);
 NIL_AT(nil_thread, answer, 32);
+NIL_AT(nil_thread, cause, 40);
+NIL_AT(nil_thread, step, 44);
 
 NIL_HOLDS(sizeof(nil_words) == 76);
 NIL_AT(nil_words, ready, 0);
@@ -482,14 +506,15 @@ NIL_AT(nil_sizes, mailboxes, 8);
 NIL_AT(nil_sizes, pools, 10);
 NIL_AT(nil_sizes, slots, 12);
 
-NIL_HOLDS(sizeof(nil_tables) == 1440);
+NIL_HOLDS(sizeof(nil_tables) == 1572);
 NIL_AT(nil_tables, threads, 0);
-NIL_AT(nil_tables, counters, 640);
-NIL_AT(nil_tables, references, 784);
-NIL_AT(nil_tables, words, 792);
-NIL_AT(nil_tables, mailboxes, 868);
-NIL_AT(nil_tables, pools, 1156);
-NIL_AT(nil_tables, sizes, 1420);
+NIL_AT(nil_tables, counters, 768);
+NIL_AT(nil_tables, references, 912);
+NIL_AT(nil_tables, words, 920);
+NIL_AT(nil_tables, steps, 996);
+NIL_AT(nil_tables, mailboxes, 1000);
+NIL_AT(nil_tables, pools, 1288);
+NIL_AT(nil_tables, sizes, 1552);
 
 NIL_HOLDS(sizeof(nil_clock) == 8);
 NIL_AT(nil_clock, time, 0);

@@ -24,10 +24,10 @@ pub const PIPES: usize = 4;
 pub const PIPE_BYTES: usize = 256;
 
 /// The number of this file's layout, as `NIL_LAYOUT` of the header: it rises with every change of a struct.
-pub const LAYOUT: u32 = 2;
+pub const LAYOUT: u32 = 3;
 
 /// Bytes of stack that are enough for any call, whatever the tables hold.
-pub const STACK: usize = 60416;
+pub const STACK: usize = 65536;
 
 /// Idle as the running thread, an interrupt as the caller, nobody in an empty reference.
 pub const NOBODY: u8 = 255;
@@ -48,6 +48,21 @@ pub const LONGEST: u32 = 4294967294;
 
 /// Ticks a second where the firmware names none; 1 to 1,000,000 are accepted.
 pub const FREQUENCY: u32 = 1000;
+
+/// Why a thread was last made ready, in its `cause`. A pool's free and add are signals too. A thread that was woken by another's
+/// call which went on only then, as a post does that had waited for room, has that call's cause, whatever the step's kind was.
+pub const CAUSE_NONE: u32 = 0;
+pub const CAUSE_SIGNAL: u32 = 1;
+pub const CAUSE_RELEASE: u32 = 2;
+pub const CAUSE_RESUME: u32 = 3;
+pub const CAUSE_EVENT: u32 = 4;
+pub const CAUSE_POST: u32 = 5;
+pub const CAUSE_FETCH: u32 = 6;
+pub const CAUSE_RESET: u32 = 7;
+pub const CAUSE_TICK: u32 = 8;
+
+/// The step number of the tables stays here.
+pub const LAST_STEP: u32 = 4294967295;
 
 /// The kinds of step. `nil.h` says what each makes of its fields.
 pub mod kind {
@@ -120,7 +135,8 @@ pub struct Answer {
     pub datum: u32,
 }
 
-/// `place` is a counter's for a queued thread, a reference for a suspended one, else 0.
+/// `place` is a counter's for a queued thread, a reference for a suspended one, else 0. `cause` says why the thread was last made
+/// ready, `step` is the number of that step, 0 before any.
 #[repr(C)]
 #[derive(Clone, Copy, Debug, Default, PartialEq, Eq)]
 pub struct Thread {
@@ -132,6 +148,8 @@ pub struct Thread {
     pub message: i32,
     pub call: Call,
     pub answer: Answer,
+    pub cause: u32,
+    pub step: u32,
 }
 
 /// Who is ready and who waits at each place: bit i of a word stands for thread i. `unused` fills the struct; it may have any
@@ -177,6 +195,7 @@ pub struct Sizes {
     pub slots: [u16; MAILBOXES],
 }
 
+/// `steps` is the number of steps that were accepted since fresh tables; it stays at [`LAST_STEP`].
 #[repr(C)]
 #[derive(Clone, Copy, Debug, PartialEq, Eq)]
 pub struct Tables {
@@ -184,6 +203,7 @@ pub struct Tables {
     pub counters: [i32; PLACES],
     pub references: [u8; REFERENCES],
     pub words: Words,
+    pub steps: u32,
     pub mailboxes: [Mailbox; MAILBOXES],
     pub pools: [Pool; POOLS],
     pub sizes: Sizes,
@@ -364,6 +384,8 @@ impl Tables {
                 message: 0,
                 datum: 0,
             },
+            cause: 0,
+            step: 0,
         }; THREADS],
         counters: [0; PLACES],
         references: [NOBODY; REFERENCES],
@@ -372,6 +394,7 @@ impl Tables {
             waiting: [0; PLACES],
             unused: 0,
         },
+        steps: 0,
         mailboxes: [Mailbox {
             read: 0,
             write: 0,
@@ -686,6 +709,8 @@ mod layout {
         message: 6,
         call: CALL,
         answer: ANSWER,
+        cause: 7,
+        step: 8,
     };
     const WORDS: Words = Words {
         ready: 1,
@@ -733,9 +758,9 @@ mod layout {
         assert!(b[0] == 1 && b[2] == 2 && b[4] == 3 && b[8] == 4);
         let b: [u8; 8] = unsafe { transmute(ANSWER) };
         assert!(b[0] == 1 && b[4] == 2);
-        let b: [u8; 40] = unsafe { transmute(THREAD) };
+        let b: [u8; 48] = unsafe { transmute(THREAD) };
         assert!(b[0] == 1 && b[2] == 2 && b[4] == 3 && b[8] == 4 && b[12] == 5 && b[16] == 6);
-        assert!(b[20] == 1 && b[28] == 4 && b[32] == 1 && b[36] == 2);
+        assert!(b[20] == 1 && b[28] == 4 && b[32] == 1 && b[36] == 2 && b[40] == 7 && b[44] == 8);
     };
 
     const _: () = {
@@ -751,12 +776,13 @@ mod layout {
     };
 
     const _: () = {
-        let b: [u8; 1440] = unsafe {
+        let b: [u8; 1572] = unsafe {
             transmute(Tables {
                 threads: [THREAD; THREADS],
                 counters: [11; PLACES],
                 references: [12; REFERENCES],
                 words: WORDS,
+                steps: 13,
                 mailboxes: [MAILBOX; MAILBOXES],
                 pools: [POOL; POOLS],
                 sizes: SIZES,
@@ -764,21 +790,22 @@ mod layout {
         };
         assert!(
             b[0] == 1
-                && b[600] == 1
-                && b[640] == 11
-                && b[780] == 11
-                && b[784] == 12
-                && b[791] == 12
+                && b[720] == 1
+                && b[768] == 11
+                && b[908] == 11
+                && b[912] == 12
+                && b[919] == 12
         );
         assert!(
-            b[792] == 1
-                && b[866] == 3
-                && b[868] == 1
-                && b[876] == 5
-                && b[1156] == 1
-                && b[1158] == 2
-                && b[1420] == 1
-                && b[1438] == 10
+            b[920] == 1
+                && b[994] == 3
+                && b[996] == 13
+                && b[1000] == 1
+                && b[1008] == 5
+                && b[1288] == 1
+                && b[1290] == 2
+                && b[1552] == 1
+                && b[1570] == 10
         );
     };
 

@@ -219,11 +219,12 @@ fn refuses_wrong_words() {
     let odd = tables;
     assert_eq!(nil::broken(&tables, &clock), None);
     assert_eq!(nil::step(&mut tables, &mut clock, &tick).code, 0);
-    assert_eq!(tables, odd);
+    assert_eq!(tables, Tables { steps: 1, ..odd });
     assert_eq!(nil::waiting(&tables, 1), 65535);
 }
 
-/// At the top a signal answers that it did not count. A thread's leaves its answer in the thread's row, an interrupt's nothing.
+/// At the top a signal answers that it did not count. A thread's leaves its answer in the thread's row, an interrupt's nothing;
+/// both are steps, and have a number.
 fn signals_at_the_top() {
     let (mut tables, mut clock) = (Tables::NONE, Clock::default());
     nil::fresh(&mut tables, &mut clock, &SIZES, nil::FREQUENCY).unwrap();
@@ -241,11 +242,65 @@ fn signals_at_the_top() {
         ..Outcome::default()
     };
     let answer = nil::step(&mut tables, &mut clock, &signal);
+    top.steps = 3;
     assert_eq!((answer, tables), (not_counted, top));
+    top.steps = 4;
     top.threads[0].answer.message = nil::NOT_COUNTED;
     not_counted.finished = 1;
     let answer = nil::step(&mut tables, &mut clock, &request(SIGNAL, 0, 0));
     assert_eq!((answer, tables), (not_counted, top));
+}
+
+/// Thread 0 is woken by the signal of step 2 and the last tick of step 5. The sixth step is refused, and has no number.
+fn tells_why_a_thread_woke() {
+    let (mut tables, mut clock) = (Tables::NONE, Clock::default());
+    nil::fresh(&mut tables, &mut clock, &SIZES, nil::FREQUENCY).unwrap();
+    let mut told = [(0, 0, 0); 6];
+    for (step, told) in six_steps().iter().zip(told.iter_mut()) {
+        nil::step(&mut tables, &mut clock, step);
+        *told = (
+            tables.steps,
+            tables.threads[0].cause,
+            tables.threads[0].step,
+        );
+    }
+    let (signal, tick) = (nil::CAUSE_SIGNAL, nil::CAUSE_TICK);
+    assert_eq!(told[..2], [(1, nil::CAUSE_NONE, 0), (2, signal, 2)]);
+    assert_eq!(told[2..4], [(3, signal, 2), (4, signal, 2)]);
+    assert_eq!(told[4..], [(5, tick, 5), (5, tick, 5)]);
+    let row = tables.threads[1];
+    assert_eq!((row.cause, row.step), (nil::CAUSE_NONE, 0));
+}
+
+/// A cause outside the list is refused, with its rule and its thread; the step number stays at its end.
+fn refuses_wrong_causes() {
+    let (mut good, mut clock) = (Tables::NONE, Clock::default());
+    nil::fresh(&mut good, &mut clock, &SIZES, nil::FREQUENCY).unwrap();
+    let tick = request(TICK, NOBODY, 0);
+    let mut tables = good;
+    for cause in [9, 255, 65535, 65536, 4294967295] {
+        tables.threads[1].cause = cause;
+        let damaged = tables;
+        assert_eq!(
+            nil::broken(&tables, &clock),
+            Some(nil::Broken { rule: 15, row: 1 })
+        );
+        assert_eq!(nil::step(&mut tables, &mut clock, &tick).code, 1);
+        assert_eq!(tables, damaged);
+    }
+    tables = good;
+    tables.threads[1].cause = nil::CAUSE_TICK;
+    tables.threads[2].cause = 9;
+    tables.steps = nil::LAST_STEP - 1;
+    let late = Tables {
+        steps: nil::LAST_STEP,
+        ..tables
+    };
+    for _ in 0..2 {
+        assert_eq!(nil::broken(&tables, &clock), None);
+        assert_eq!(nil::step(&mut tables, &mut clock, &tick).code, 0);
+        assert_eq!(tables, late);
+    }
 }
 
 /// The paper's own numbers, and a refusal each way.
@@ -351,6 +406,8 @@ pub extern "C" fn main() -> i32 {
     shows_who_is_ready_and_who_waits();
     refuses_wrong_words();
     signals_at_the_top();
+    tells_why_a_thread_woke();
+    refuses_wrong_causes();
     tells_the_time();
     pipes_bytes();
     resets_and_resumes_pipes();

@@ -118,6 +118,70 @@ void signal_tops(struct random *r, struct where at, struct plant *p)
     }
 }
 
+/* ---- causes and step numbers ------------------------------------------ */
+
+/* From one above the list to what two bytes, or one, would take for a cause of
+   the list. */
+static uint32_t cause_outside(struct random *r)
+{
+    static const uint32_t causes[] = {
+        9, 10, 255, 256, 263, 65535, 65536, 65537, 65544, UINT32_MAX
+    };
+
+    return random_chance(r, 80)
+        ? causes[random_below(r, sizeof causes / sizeof causes[0])]
+        : random_between(r, 9, UINT32_MAX);
+}
+
+/* Near the end, or anything. */
+static uint32_t some_number(struct random *r)
+{
+    return random_chance(r, 50) ? LAST_STEP - random_below(r, 3)
+                                : random_word(r);
+}
+
+/* All rows may be in use: then none is changed. */
+static void spoil_unused_cause(struct random *r, nil_tables *t)
+{
+    for (uint32_t i = t->sizes.threads; i < NIL_THREADS; i++) {
+        t->threads[i].cause = cause_outside(r);
+        t->threads[i].step = some_number(r);
+    }
+}
+
+static void spoil_cause(struct random *r, uint32_t way, nil_tables *t)
+{
+    nil_thread *th = &t->threads[random_below(r, t->sizes.threads)];
+
+    switch (way) {
+    case CAUSE_OUTSIDE:
+        th->cause = cause_outside(r);
+        break;
+    case CAUSE_UNUSED:
+        spoil_unused_cause(r, t);
+        break;
+    case CAUSE_OTHER:
+        th->cause = random_below(r, NIL_CAUSE_TICK + 1);
+        th->step = some_number(r);
+        break;
+    default:
+        t->steps = LAST_STEP - random_below(r, 3);
+        break;
+    }
+}
+
+void count_to_end(struct where at, struct plant *p)
+{
+    static const struct step tick = { TICK, INTERRUPT, 0, 0, 0 };
+
+    while (p->tables.steps != LAST_STEP) {
+        expect(both_step(at, p, &tick) == 0, at, "a late tick was refused");
+    }
+    for (uint32_t k = 0; k < 2; k++) {
+        expect(both_step(at, p, &tick) == 0, at, "a last tick was refused");
+    }
+}
+
 /* ---- event waits ------------------------------------------------------ */
 
 /* A thread below the running one. Where there is none a thread above the last
@@ -199,6 +263,12 @@ void spoil_oddly(struct random *r, uint32_t way, nil_tables *t)
         break;
     case POOL_TOP:
         spoil_pool(r, t);
+        break;
+    case CAUSE_OUTSIDE:
+    case CAUSE_UNUSED:
+    case CAUSE_OTHER:
+    case LAST_NUMBERS:
+        spoil_cause(r, way, t);
         break;
     default:
         spoil_wait(r, way, t);

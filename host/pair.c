@@ -151,6 +151,16 @@ static void follow_signals(struct where at, const struct moment *m)
     note_signals(&top_signals, m);
 }
 
+struct causes_seen wakings;
+
+static void follow_causes(struct where at, const struct moment *m)
+{
+    const char *wrong = unlike_causes(m);
+
+    expect(wrong == NULL, at, wrong);
+    note_causes(&wakings, m);
+}
+
 uint32_t both_step(struct where at, struct plant *plant, const struct step *s)
 {
     nil_request request = nil_request_of(s);
@@ -178,6 +188,7 @@ uint32_t both_step(struct where at, struct plant *plant, const struct step *s)
     try_screen(at, plant, &t, broken);
     m = (struct moment){ &old, s, &q, &t };
     follow_signals(at, &m);
+    follow_causes(at, &m);
     if (r.code == 0) {
         follow_flags(at, &m);
     }

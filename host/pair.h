@@ -7,6 +7,7 @@
 
 #include "bridge.h"
 #include "broken.h"
+#include "causes.h"
 #include "flags.h"
 #include "signals.h"
 
@@ -39,8 +40,9 @@ uint32_t both_fresh(struct where at, const struct sizes *z, uint32_t frequency,
    say which rule the tables break first: one exactly if the code is 1. Before
    and after it the archive says for a screen who is ready and who waits: what
    the words say, and where no rule is broken what a walk over the records
-   says. A signal answers whether it counted, and an accepted step loses no
-   event flag and makes none up. */
+   says. A signal answers whether it counted, an accepted step loses no event
+   flag and makes none up, and causes and step numbers are those of the wakings
+   and the accepted steps. */
 uint32_t both_step(struct where at, struct plant *plant, const struct step *s);
 
 /* How often each rule was the first to be broken; 0 for none. */
@@ -52,5 +54,8 @@ extern struct flags_seen event_waits;
 
 /* Signals near the top in all these steps. */
 extern struct signals_seen top_signals;
+
+/* Wakings in all these steps, by their causes. */
+extern struct causes_seen wakings;
 
 #endif

@@ -35,6 +35,7 @@ static void add_thread(size_t at)
     add_fields(at + offsetof(nil_thread, call.kind), 2, 2);
     add_fields(at + offsetof(nil_thread, call.operand), 4, 2);
     add_fields(at + offsetof(nil_thread, answer), 4, 2);
+    add_fields(at + offsetof(nil_thread, cause), 4, 2);
 }
 
 static void find_fields(void)
@@ -47,6 +48,7 @@ static void find_fields(void)
     add_fields(offsetof(struct plant, tables.counters), 4, NIL_PLACES);
     add_fields(offsetof(struct plant, tables.references), 1, NIL_REFERENCES);
     add_fields(offsetof(struct plant, tables.words), 2, NIL_PLACES + 2);
+    add_fields(offsetof(struct plant, tables.steps), 4, 1);
     for (size_t m = 0; m < NIL_MAILBOXES; m++) {
         size_t at = offsetof(struct plant, tables.mailboxes)
                   + m * sizeof(nil_mailbox);
@@ -338,6 +340,8 @@ const char *spoil_name(uint32_t way)
         "all bytes random", "a word's bit missing", "a word's bit too many",
         "a word's bit from T on", "another word", "words not in use",
         "semaphore near the top", "pool near the top",
+        "cause outside the list", "the same, not in use",
+        "another cause, number", "step number at its end",
         "event wait, no flag", "event wait, flags", "event wait, not with 0",
         "event wait, mask 0", "awaited flag pending", "awaited not the mask"
     };
@@ -353,11 +357,15 @@ bool spoil_allows(uint32_t way, uint32_t code)
     case BIT_BEYOND:
     case OTHER_WORD:
     case POOL_TOP:
+    case CAUSE_OUTSIDE:
     case WAIT_AWAITED:
     case WAIT_OTHER_MASK:
         return code == BROKEN_TABLES;
     case UNUSED_WORDS:
     case SEMAPHORE_TOP:
+    case CAUSE_UNUSED:
+    case CAUSE_OTHER:
+    case LAST_NUMBERS:
     case WAIT_NO_FLAG:
     case WAIT_FLAGS:
     case WAIT_MESSAGE:

@@ -1,6 +1,6 @@
 /* Damages to a plant's tables: one field, a few, a stretch, or all of them; to
-   the words of good tables; and what comes from outside, counters near the top
-   and event waits. */
+   the words of good tables; and what comes from outside, counters near the top,
+   causes, step numbers and event waits. */
 #ifndef SPOIL_H
 #define SPOIL_H
 
@@ -25,6 +25,11 @@ enum spoil_way {
     /* a counter at 2147483647 or one below it: */
     SEMAPHORE_TOP, /* of a semaphore where nobody waits */
     POOL_TOP,      /* of a pool, whose free list never is so long */
+    /* causes and step numbers: */
+    CAUSE_OUTSIDE, /* a thread in use has a cause outside the list */
+    CAUSE_UNUSED,  /* a row that is not in use has one */
+    CAUSE_OTHER,   /* another cause of the list, and any number */
+    LAST_NUMBERS,  /* the tables' step number is near its end, or there */
     /* a ready thread that does not run gets an event wait: */
     WAIT_NO_FLAG, /* woken with 0, and none of its flags is pending */
     WAIT_FLAGS,   /* woken with 0; flags in its mask are pending, and others */
@@ -40,8 +45,9 @@ const char *spoil_name(uint32_t way);
 
 /* Whether the code of a step on good tables that were spoilt so can be: a wrong
    word is always refused with 1, and words not in use never are; a semaphore
-   near the top never is, and a pool there always; event waits as their ways
-   say. */
+   near the top never is, and a pool there always; a cause outside the list
+   always is where its row is in use, and else neither causes nor step numbers
+   are; event waits as their ways say. */
 bool spoil_allows(uint32_t way, uint32_t code);
 
 void spoil(struct random *r, uint32_t way, struct plant *plant);

@@ -1,7 +1,7 @@
 /*
  * "Tables that hang together", sentence by sentence in the paper's order, and
- * the words of document 02, 1/13: each rule is asked of row after row, until
- * one breaks it.
+ * the words of document 02, 1/13, and the causes of 7/13: each rule is asked of
+ * row after row, until one breaks it.
  */
 #include "broken.h"
 
@@ -276,6 +276,13 @@ static bool waiting_is_right(const struct tables *t, uint32_t place)
     return at.index >= at.objects || left == 0;
 }
 
+/* "None yet, signal, release, resume, event, post, fetch, reset or tick": nine
+   of them, from 0 on. */
+static bool cause_is_right(const struct tables *t, uint32_t i)
+{
+    return t->thread[i].cause <= 8;
+}
+
 static bool sizes_are_right(const struct tables *t, uint32_t row)
 {
     (void)row;
@@ -309,7 +316,8 @@ struct broken broken_rule(const struct tables *t)
         [PENDING_RULE] = { pending_is_right, z->threads },
         [RUNNING_RULE] = { running_is_right, z->threads },
         [READY_RULE] = { ready_is_right, 1 },
-        [WAITING_RULE] = { waiting_is_right, 36 }
+        [WAITING_RULE] = { waiting_is_right, 36 },
+        [CAUSE_RULE] = { cause_is_right, z->threads }
     };
 
     for (uint32_t rule = SIZES_RULE; rule < RULES; rule++) {

@@ -4,8 +4,8 @@
 
 #include "model.h"
 
-/* The rules in the order of the paper's section, then those of the words;
-   docs/RULES.md has them. */
+/* The rules in the order of the paper's section, then those of the words and of
+   causes; docs/RULES.md has them. */
 enum rule {
     NO_RULE = 0,
     SIZES_RULE = 1,
@@ -22,7 +22,8 @@ enum rule {
     RUNNING_RULE = 12,
     READY_RULE = 13,
     WAITING_RULE = 14,
-    RULES = 15
+    CAUSE_RULE = 15,
+    RULES = 16
 };
 
 /* The first rule that is broken, and the first row that breaks it: 0 and 0

@@ -200,13 +200,15 @@ static bool is_mailbox_call(uint32_t kind)
    message 0: it takes the top; all others answer their wake message with
    datum 0." Document 02, 2/13: an event wait woken with 0 takes its flags now
    (in tables from outside there may be none); "a wait that timed out still
-   answers -1 with 0, and flags that came afterwards stay pending". */
+   answers -1 with 0, and flags that came afterwards stay pending". Whom it
+   wakes it wakes for itself, and not for the step. */
 void continue_call(struct work *w, uint32_t i)
 {
     struct thread *th = &w->t->thread[i];
     struct call c = th->call;
     struct answer answer = { th->wake_message, 0 };
 
+    w->at_work = c.kind;
     if (th->wake_message == MSG_OK) {
         if (is_mailbox_call(c.kind) && !try_mailbox(w, &c, &answer)) {
             put_to_sleep(w, i, c);

@@ -109,6 +109,7 @@ int main(void)
     check_traces();
     check_pipes();
     check_account();
+    check_causes();
     printf("check: %u tests, %u failed\n", tests, failures);
     return failures == 0 && fflush(stdout) == 0 ? 0 : 1;
 }

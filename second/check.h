@@ -57,5 +57,6 @@ void check_words(void);
 void check_traces(void);
 void check_pipes(void);
 void check_account(void);
+void check_causes(void);
 
 #endif

@@ -85,21 +85,22 @@ rows() {
     echo "ready $2"
     printf 'waiting %s 0\n' s0 q0 w0 f0 p0
     echo "clock 0 1000"
+    echo "steps $3"
 }
 {
     printf 'step code run woke done\n1 0 0 0 0\nanswer 0 0\n'
-    echo 'thread 0 0 - 0 0 0 0 0 0 0 0 0 0'
-    rows '0 0 0 0 0 0 0 0' 1
+    echo 'thread 0 0 - 0 0 0 0 0 0 0 0 0 0 0 0'
+    rows '0 0 0 0 0 0 0 0' 1 1
     printf '2 0 0 0 1\nanswer 0 0\n'
-    echo 'thread 0 0 - 0 0 0 0 0 0 0 0 0 0'
-    rows '0 1 1 0 0 0 -7 0' 1
+    echo 'thread 0 0 - 0 0 0 0 0 0 0 0 0 0 0 0'
+    rows '0 1 1 0 0 0 -7 0' 1 2
     printf '3 5 0 0 0\nanswer 0 0\n'
-    echo 'thread 0 0 - 0 0 0 0 0 0 0 0 0 0'
-    rows '0 1 1 0 0 0 -7 0' 1
+    echo 'thread 0 0 - 0 0 0 0 0 0 0 0 0 0 0 0'
+    rows '0 1 1 0 0 0 -7 0' 1 2
     printf '4 0 255 0 0\nanswer 0 0\n'
     echo 'thread 0 4 - 4294967294 0 4294967295 0 14 0 4294967295 4294967294' \
-         '0 0'
-    rows '0 1 1 0 0 0 -7 0' 0
+         '0 0 0 0'
+    rows '0 1 1 0 0 0 -7 0' 0 3
 } > "$dir/want"
 "$out/second" --tables "$dir/all" > "$dir/got"
 status 'all tables' 0 $?
@@ -127,8 +128,9 @@ waiting w1 0
 waiting f1 4
 waiting p0 8
 clock 0 1000
+steps 6
 END
-"$out/second" --tables "$dir/words" | tail -n 10 > "$dir/got"
+"$out/second" --tables "$dir/words" | tail -n 11 > "$dir/got"
 same 'words'
 
 # small KIND CALLER OBJECT A TIMEOUT: a step of values below 256
@@ -199,6 +201,82 @@ printf '\001\000\007\021\000\000\000\001\001\004' > "$dir/sizes"
 status 'account without record 0' 0 $?
 same 'account without record 0'
 
+# Why threads woke. In the six lines a signal, then the last tick; the refused
+# step is not there.
+cat > "$dir/want" <<'END'
+step thread cause object message
+2 0 signal s0 0
+5 0 tick s0 -1
+END
+"$out/second" --why "$dir/six" > "$dir/got"
+status 'why' 0 $?
+same 'why'
+"$out/second" --tables "$dir/six" | grep '^thread 0' | tail -n 2 > "$dir/got"
+cat > "$dir/want" <<'END'
+thread 0 0 - 0 0 0 -1 0 0 0 0 -1 0 8 5
+thread 0 0 - 0 0 0 -1 0 0 0 0 -1 0 8 5
+END
+same 'cause and step in the record'
+
+# The number is the step number: record 4 is refused and does not count. In the
+# last step thread 0 fetches and is woken by thread 1's post, which goes on.
+{
+    printf '\001\000\007\002\000\000\000\001\000\001'
+    small 15 0 0 1 0
+    small 11 0 0 0 1
+    small 15 1 0 2 9
+    small 3 255 0 0 0
+    small 1 255 0 0 0
+    small 17 0 0 0 0
+    small 17 0 0 0 9
+} > "$dir/crossing"
+cat > "$dir/want" <<'END'
+step thread cause object message
+4 0 tick - -1
+5 1 fetch w0 0
+6 0 post f0 0
+END
+"$out/second" --why "$dir/crossing" > "$dir/got"
+same 'why, by a continued call'
+
+# Seven threads wait in each way, and are woken in turn. The last of them does
+# not run yet, so that its message is in no answer. Cut short at the end.
+{
+    printf '\001\000\007\010\001\001\001\001\001\001'
+    small 2 0 0 0 9
+    small 6 1 0 0 9
+    small 9 2 0 0 9
+    small 17 3 0 0 9
+    small 20 4 0 0 9
+    small 14 5 0 3 9
+    small 11 6 0 0 1
+    small 1 255 0 0 0
+    small 13 255 5 1 0
+    small 22 255 0 4 0
+    small 16 255 0 7 0
+    small 10 255 0 5 0
+    small 4 255 0 0 0
+    small 8 255 0 200 0
+    small 1 255 0 0 0
+} > "$dir/ways"
+cat > "$dir/want" <<'END'
+step thread cause object message
+8 6 tick - -1
+9 5 event - 0
+10 4 signal p0 0
+11 3 post f0 0
+12 2 resume r0 5
+13 0 reset s0 -2
+14 1 release q0 200
+stopped 15 12
+END
+head -c 200 "$dir/ways" | "$out/second" --why > "$dir/got"
+status 'why of all ways to wait' 0 $?
+same 'why of all ways to wait'
+printf 'step thread cause object message\nstopped 0 11\n' > "$dir/want"
+"$out/second" --why < /dev/null > "$dir/got"
+same 'why of nothing'
+
 # No listing without a readable file; a clear message instead.
 : > "$dir/want"
 for file in "$dir/missing" "$dir"; do
@@ -212,7 +290,9 @@ status 'wrong option' 2 $?
 same 'wrong option'
 "$out/second" one two > "$dir/got" 2> /dev/null
 status 'two files' 2 $?
-for words in '--account --tables' '--tables --account'; do
+: > "$dir/want"
+for words in '--account --tables' '--tables --account' '--why --tables' \
+    '--account --why' '--tables --why --tables'; do
     # two words
     # shellcheck disable=SC2086
     "$out/second" $words "$dir/six" > "$dir/got" 2> /dev/null

@@ -22,9 +22,11 @@ static void plant_at(const char *name, uint32_t counter)
     VERIFY(call_is(1, 2, 0, 0, 9) && t.semaphore[0] == -1);
 }
 
-static bool tables_are(const struct tables *want)
+/* The step counts, whether the signal does or not: so many more than wanted. */
+static bool tables_are(struct tables want, uint32_t more)
 {
-    return memcmp(&t, want, sizeof t) == 0;
+    want.steps += more;
+    return memcmp(&t, &want, sizeof t) == 0;
 }
 
 /* "Accepted, leaves the counter, wakes nobody and answers message 1 in place of
@@ -37,10 +39,10 @@ static void check_top_by_thread(void)
     want = t;
     want.thread[0].last = (struct answer){ 1, 0 };
     DO(3, 0, 1, 0, 0, 0, 0, 0, 1, 1, 0);
-    VERIFY(tables_are(&want) && t.semaphore[1] == 2147483647);
+    VERIFY(tables_are(want, 1) && t.semaphore[1] == 2147483647);
     /* Unused fields are ignored. */
     DO(3, 0, 1, 77, 88, 0, 0, 0, 1, 1, 0);
-    VERIFY(tables_are(&want));
+    VERIFY(tables_are(want, 2));
     DO(3, 1, 1, 0, 0, 3, 0, 0, 0, 0, 0);
     DO(3, 0, 2, 0, 0, 5, 0, 0, 0, 0, 0);
 }
@@ -53,12 +55,12 @@ static void check_top_by_interrupt(void)
     plant_at("an interrupt's signal at the top", 2147483647);
     want = t;
     DO(3, FF, 1, 0, 0, 0, 0, 0, 0, 1, 0);
-    VERIFY(tables_are(&want) && last_is(0, -1, 0));
+    VERIFY(tables_are(want, 1) && last_is(0, -1, 0));
     DO(11, 0, 0, 0, 9, 0, 1, 0, 2, 0, 0);
     DO(11, 1, 0, 0, 9, 0, 255, 0, 0, 0, 0);
     want = t;
     DO(3, FF, 1, 0, 0, 0, 255, 0, 0, 1, 0);
-    VERIFY(tables_are(&want));
+    VERIFY(tables_are(want, 1));
 }
 
 static void check_up_to_the_top(void)
@@ -95,10 +97,10 @@ static void check_binary_at_the_top(void)
     plant_at("a binary signal at the top", 2147483647);
     want = t;
     DO(5, FF, 1, 0, 0, 0, 0, 0, 0, 0, 0);
-    VERIFY(tables_are(&want) && last_is(0, -1, 0));
+    VERIFY(tables_are(want, 1) && last_is(0, -1, 0));
     want.thread[0].last = (struct answer){ 0, 0 };
     DO(5, 0, 1, 0, 0, 0, 0, 0, 1, 0, 0);
-    VERIFY(tables_are(&want));
+    VERIFY(tables_are(want, 2));
 }
 
 /* "A pool never gets there": 32 is the most that it counts. */

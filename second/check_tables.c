@@ -69,6 +69,7 @@ static void check_damaged_threads(void)
     BREAKS(t.thread[6].call.kind = POOL_FREE);
     BREAKS(t.thread[6].wake_message = -1);
     BREAKS(t.thread[7].call.object = UINT32_MAX);
+    BREAKS(t.thread[7].cause = 9);
 }
 
 static void check_damaged_objects(void)
@@ -127,7 +128,8 @@ static void check_allowed_oddities(void)
     KEEPS(t.thread[3].awaited = 0; t.thread[3].call.operand = 0);
     KEEPS(t.thread[4].call.timeout = INFINITE; t.thread[4].remaining = 0);
     KEEPS(t.thread[4].call.kind = SLEEP_UNTIL; t.thread[4].call.operand = 9);
-    KEEPS(t.clock.time = UINT32_MAX);
+    KEEPS(t.thread[4].cause = BY_TICK; t.thread[5].step = UINT32_MAX);
+    KEEPS(t.clock.time = UINT32_MAX; t.steps = UINT32_MAX);
     KEEPS(t.mailbox[0].reset = 200);
     KEEPS(t.mailbox[0].count = 2);
     KEEPS(t.mailbox[0].read = 1; t.mailbox[0].write = 1);

@@ -6,6 +6,9 @@
 
 enum { TRIES = 12, SHORT_TICKS = 6 };
 
+/* How often a mood around a mailbox is a crossing, and its steps at least. */
+enum { CROSS_PERCENT = 25, CROSS_STEPS = 8 };
+
 struct kinds {
     uint32_t number;
     uint8_t kind[5];
@@ -305,6 +308,11 @@ static bool someone_woken(const struct tables *t, uint32_t kind, uint32_t m)
     return false;
 }
 
+static bool writer_woken(const struct tables *t, uint32_t m)
+{
+    return someone_woken(t, POST, m) || someone_woken(t, POST_AHEAD, m);
+}
+
 /* The three moves that rob a mailbox call: have it woken, take the message or
    the room it was woken for, and make way, so that it finds nothing. */
 static uint32_t robbing_move(const struct tables *t, uint32_t m)
@@ -314,7 +322,7 @@ static uint32_t robbing_move(const struct tables *t, uint32_t m)
     if (someone_woken(t, FETCH, m)) {
         return box->count > 0 ? FETCH : SLEEP_FOR;
     }
-    if (someone_woken(t, POST, m) || someone_woken(t, POST_AHEAD, m)) {
+    if (writer_woken(t, m)) {
         return box->count < t->sizes.slots[m] ? POST : SLEEP_FOR;
     }
     return box->readers < 0 ? POST : FETCH;
@@ -393,6 +401,75 @@ static struct step rob_step(struct director *d, const struct tables *t)
                     random_chance(d->random, 70) ? IMMEDIATE : d->timeout);
 }
 
+/* Whether the first that waits on a mailbox's side is below the running thread:
+   when woken it does not run at once. */
+static bool first_is_below(const struct tables *t, uint32_t tag, uint32_t m)
+{
+    for (uint32_t i = 0; i < t->sizes.threads; i++) {
+        const struct thread *th = &t->thread[i];
+
+        if (th->state == QUEUED && th->place.tag == tag
+            && th->place.index == m) {
+            return i > running_thread(t);
+        }
+    }
+    return false;
+}
+
+/* One that comes back by ticks, and then runs instead of the running one. */
+static bool sleeper_above(const struct tables *t)
+{
+    for (uint32_t i = 0; i < running_thread(t) && i < t->sizes.threads; i++) {
+        if (t->thread[i].state == SLEEPING) {
+            return true;
+        }
+    }
+    return false;
+}
+
+/* The moves after which a call that goes on wakes another. Somebody sleeps, and
+   others below come to wait at the mailbox. Back again, the sleeper has one of
+   them woken, comes to wait on the other side, as often as it takes, and
+   whoever runs then makes way. */
+static uint32_t crossing_move(const struct tables *t, uint32_t m)
+{
+    const struct mailbox *box = &t->mailbox[m];
+
+    if (writer_woken(t, m)) {
+        return box->readers < 0 ? SLEEP_FOR : FETCH;
+    }
+    if (someone_woken(t, FETCH, m)) {
+        return box->writers < 0 ? SLEEP_FOR : POST;
+    }
+    if (first_is_below(t, AT_READERS, m)) {
+        return POST;
+    }
+    if (first_is_below(t, AT_WRITERS, m)) {
+        return FETCH;
+    }
+    if (!sleeper_above(t)) {
+        return SLEEP_FOR;
+    }
+    return 2 * box->count > t->sizes.slots[m] ? POST : FETCH;
+}
+
+static struct step cross_step(struct director *d, const struct tables *t)
+{
+    uint32_t kind = crossing_move(t, d->object);
+
+    if (running_thread(t) == IDLE) {
+        return complete(d, t, TICK, INTERRUPT, IMMEDIATE);
+    }
+    if (t->mailbox[d->object].reset != 0) {
+        kind = MAILBOX_RESUME;
+    } else if (kind == POST && random_chance(d->random, 30)) {
+        kind = POST_AHEAD;
+    }
+    return complete(d, t, kind, running_thread(t),
+                    kind == SLEEP_FOR ? random_between(d->random, 1, 3)
+                                      : d->timeout);
+}
+
 static struct step clock_step(struct director *d, const struct tables *t)
 {
     if (random_chance(d->random, 55)) {
@@ -450,6 +527,8 @@ static struct step mood_step(struct director *d, const struct tables *t)
         return serve_step(d, t, 35);
     case ROB:
         return rob_step(d, t);
+    case CROSS:
+        return cross_step(d, t);
     case CLOCK:
         return clock_step(d, t);
     default:
@@ -510,6 +589,10 @@ static void change_mood(struct director *d, const struct tables *t)
     if (random_chance(d->random, 50)) {
         d->family = some_family(d, &t->sizes);
         d->object = some_object(d->random, family_size(&t->sizes, d->family));
+    }
+    if (d->family == MAILBOXES && random_chance(d->random, CROSS_PERCENT)) {
+        d->mood = CROSS;
+        d->left += CROSS_STEPS;
     }
     d->wait_kind = some_wait(d, t);
     d->timeout = random_chance(d->random, 25)

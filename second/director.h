@@ -1,9 +1,9 @@
 /*
  * The director chooses the next step of a random trace, knowing the tables.
  * It works in moods that last some steps, each around one object: threads
- * gather at it, are served, rob each other of what was meant for them, or the
- * clock runs; so long chains of blocked threads come about and end in all the
- * ways the paper knows.
+ * gather at it, are served, rob each other of what was meant for them, cross
+ * each other at the two sides of a mailbox, or the clock runs; so long chains of
+ * blocked threads come about and end in all the ways the paper knows.
  */
 #ifndef DIRECTOR_H
 #define DIRECTOR_H
@@ -22,7 +22,7 @@ enum family {
     FAMILIES /* their number; as a focus: none in particular */
 };
 
-enum mood { GATHER, SERVE, ROB, CLOCK, MIX, MOODS };
+enum mood { GATHER, SERVE, ROB, CROSS, CLOCK, MIX, MOODS };
 
 struct director {
     struct random *random;

@@ -1,6 +1,6 @@
 /*
  * Refusal 1: every sentence of "Tables that hang together" as a test, and
- * document 02's word for it on the ready and waiting words.
+ * document 02's words for it on the ready and waiting words and on causes.
  *
  * The order matters for safety only: sizes first, then the threads' records,
  * then the objects, so that no test ever uses an index not yet found good.
@@ -115,13 +115,21 @@ static bool flags_are_sound(const struct thread *th)
     return th->state != AWAITING_EVENTS || (th->pending & th->awaited) == 0;
 }
 
+/* Document 02, 7/13: "Refusal 1 also covers a cause outside the list." The
+   step numbers may have any value. */
+static bool cause_is_sound(const struct thread *th)
+{
+    return th->cause < CAUSES;
+}
+
 static bool threads_hang(const struct tables *t)
 {
     for (uint32_t i = 0; i < t->sizes.threads; i++) {
         const struct thread *th = &t->thread[i];
 
         if (!call_is_sound(&t->sizes, &th->call) || !wait_fits(th)
-            || !remaining_is_sound(th) || !flags_are_sound(th)) {
+            || !remaining_is_sound(th) || !flags_are_sound(th)
+            || !cause_is_sound(th)) {
             return false;
         }
     }

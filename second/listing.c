@@ -1,4 +1,4 @@
-/* The listing program: second [--tables | --account] [FILE]. */
+/* The listing program: second [--tables | --account | --why] [FILE]. */
 #include "account.h"
 #include "trace.h"
 
@@ -10,10 +10,11 @@
 enum { EXIT_FINE = 0, EXIT_TROUBLE = 1, EXIT_USAGE = 2 };
 
 static const char USAGE[] =
-    "usage: second [--tables | --account] [FILE]\n"
+    "usage: second [--tables | --account | --why] [FILE]\n"
     "Lists the steps of a trace, read from FILE or from standard input.\n"
     "  --tables   print the answer and all tables after each step's line\n"
     "  --account  print no steps, but what became of messages and objects\n"
+    "  --why      print no steps, but who was woken in them, and why\n"
     "  --help     print this text\n";
 
 /* ---- printing --------------------------------------------------------- */
@@ -36,7 +37,8 @@ static void print_thread(uint32_t i, const struct thread *th)
            th->pending, th->awaited, th->wake_message);
     printf(" %" PRIu32 " %" PRIu32 " %" PRIu32 " %" PRIu32, th->call.kind,
            th->call.object, th->call.operand, th->call.timeout);
-    printf(" %" PRId32 " %" PRIu32 "\n", th->last.message, th->last.datum);
+    printf(" %" PRId32 " %" PRIu32, th->last.message, th->last.datum);
+    printf(" %" PRIu32 " %" PRIu32 "\n", th->cause, th->step);
 }
 
 static void print_mailbox(uint32_t m, const struct mailbox *box,
@@ -101,6 +103,7 @@ static void print_tables(const struct tables *t)
     print_words(t->words, &t->sizes);
     printf("clock %" PRIu32 " %" PRIu32 "\n", t->clock.time,
            t->clock.frequency);
+    printf("steps %" PRIu32 "\n", t->steps);
 }
 
 static void print_step(uint32_t record, const struct result *r)
@@ -114,50 +117,133 @@ static void print_answer(const struct answer *a)
     printf("answer %" PRId32 " %" PRIu32 "\n", a->message, a->datum);
 }
 
-/* ---- listing ---------------------------------------------------------- */
+/* ---- the steps of a trace --------------------------------------------- */
 
-/* Returns TRACE_END, or the refusal of the record the reader stands at. */
-static int list_steps(struct reader *r, struct tables *t, bool tables)
+/* What the steps of a trace are made on. The account begins with the fresh
+   tables; only --account goes on with it. */
+struct run {
+    struct tables t;
+    struct account account;
+    bool agrees; /* the account with the tables, after each step so far */
+};
+
+/* Makes a step, and prints what is wanted of it. */
+typedef void step_maker(struct run *run, uint32_t record,
+                        const struct step *s);
+
+/* Where the reader stopped: at the end (TRACE_END) or at a bad record. */
+struct stop {
+    uint32_t record;
+    int code;
+};
+
+/* Makes the steps before the end or a bad record. Without record 0 the run is
+   one of no threads and no objects. */
+static struct stop go_through(const uint8_t *bytes, size_t length,
+                              struct run *run, step_maker *make)
 {
-    for (;;) {
-        uint32_t record = r->record;
-        struct step step;
-        struct result result;
-        int code = trace_next(r, &step);
+    struct reader r;
+    struct sizes sizes;
+    struct step s;
+    int code = trace_open(&r, bytes, length, &sizes);
 
-        if (code != ACCEPTED) {
-            return code;
-        }
-        result = do_step(t, &step);
-        print_step(record, &result);
-        if (tables) {
-            print_answer(&result.answer);
-            print_tables(t);
+    run->agrees = true;
+    if (code == ACCEPTED) {
+        fresh_tables(&run->t, &sizes, NULL);
+        begin_account(&run->account, &run->t);
+        while ((code = trace_next(&r, &s)) == ACCEPTED) {
+            make(run, r.record - 1, &s);
         }
     }
+    return (struct stop){ r.record, code };
 }
 
 /* "At a bad record `stopped`, its number (0 for 15 and 11), the code." */
-static void print_stop(const struct reader *r, int code)
+static void print_stop(struct stop at)
 {
-    if (code != TRACE_END) {
-        printf("stopped %" PRIu32 " %d\n", r->record, code);
+    if (at.code != TRACE_END) {
+        printf("stopped %" PRIu32 " %d\n", at.record, at.code);
     }
 }
 
-static void list_trace(const uint8_t *bytes, size_t length, bool tables)
-{
-    static struct tables t;
-    struct reader reader;
-    struct sizes sizes;
-    int code = trace_open(&reader, bytes, length, &sizes);
+/* ---- listing ---------------------------------------------------------- */
 
+static void list_step(struct run *run, uint32_t record, const struct step *s)
+{
+    struct result result = do_step(&run->t, s);
+
+    print_step(record, &result);
+}
+
+static void list_step_and_tables(struct run *run, uint32_t record,
+                                 const struct step *s)
+{
+    struct result result = do_step(&run->t, s);
+
+    print_step(record, &result);
+    print_answer(&result.answer);
+    print_tables(&run->t);
+}
+
+static bool list_trace(const uint8_t *bytes, size_t length, struct run *run)
+{
     puts("step code run woke done");
-    if (code == ACCEPTED) {
-        fresh_tables(&t, &sizes, NULL);
-        code = list_steps(&reader, &t, tables);
+    print_stop(go_through(bytes, length, run, list_step));
+    return true;
+}
+
+static bool list_all(const uint8_t *bytes, size_t length, struct run *run)
+{
+    puts("step code run woke done");
+    print_stop(go_through(bytes, length, run, list_step_and_tables));
+    return true;
+}
+
+/* ---- why threads woke ------------------------------------------------- */
+
+/* The call in which a woken thread waited: the step's own if it made the step,
+   else the one that its record kept before. */
+static struct call waiting_call(const struct moment *m, uint32_t i)
+{
+    if (m->step->caller == i) {
+        return (struct call){ m->step->kind, m->step->object, 0, 0 };
     }
-    print_stop(&reader, code);
+    return m->before->thread[i].call;
+}
+
+static void print_waking(const struct moment *m, uint32_t i)
+{
+    struct call waited = waiting_call(m, i);
+    const struct thread *th = &m->after->thread[i];
+
+    printf("%" PRIu32 " %" PRIu32 " %s ", m->after->steps, i,
+           cause_name(th->cause));
+    print_place(place_of_wait(&waited));
+    printf(" %" PRId32 "\n", th->wake_message);
+}
+
+/* A refused step wakes nobody, and so prints nothing. */
+static void explain_step(struct run *run, uint32_t record,
+                         const struct step *s)
+{
+    struct tables before = run->t;
+    struct result result = do_step(&run->t, s);
+    struct moment m = { &before, s, &result, &run->t };
+
+    (void)record;
+    for (uint32_t i = 0; i < run->t.sizes.threads; i++) {
+        if (result.woken >> i & 1) {
+            print_waking(&m, i);
+        }
+    }
+}
+
+static bool explain_trace(const uint8_t *bytes, size_t length,
+                          struct run *run)
+{
+    puts("step thread cause object message");
+    print_stop(go_through(bytes, length, run, explain_step));
+    return true;
 }
 
 /* ---- the account ------------------------------------------------------ */
@@ -205,78 +291,68 @@ static void print_account(const struct account *a)
     }
 }
 
-/* NULL, or what is wrong with the account of the step. */
-static const char *account_for(struct account *a, uint32_t record,
-                               struct tables *t, const struct step *s)
+/* The ledger must agree with the tables after each step. */
+static void account_step(struct run *run, uint32_t record,
+                         const struct step *s)
 {
-    struct tables before = *t;
+    struct tables before = run->t;
     struct finished_calls told;
-    struct result result = do_told_step(t, s, &told);
-    struct moment m = { &before, s, &result, t };
+    struct result result = do_told_step(&run->t, s, &told);
+    struct moment m = { &before, s, &result, &run->t };
+    const char *wrong = follow_step(&run->account, record, &told, &m);
 
-    return follow_step(a, record, &told, &m);
-}
-
-/* As list_steps. The ledger must agree with the tables after each step. */
-static int account_steps(struct reader *r, struct tables *t,
-                         struct account *a, bool *agrees)
-{
-    for (;;) {
-        uint32_t record = r->record;
-        struct step step;
-        int code = trace_next(r, &step);
-        const char *wrong;
-
-        if (code != ACCEPTED) {
-            return code;
-        }
-        wrong = account_for(a, record, t, &step);
-        if (wrong != NULL) {
-            fprintf(stderr, "second: record %" PRIu32 ": %s\n", record,
-                    wrong);
-            *agrees = false;
-        }
+    if (wrong != NULL) {
+        fprintf(stderr, "second: record %" PRIu32 ": %s\n", record, wrong);
+        run->agrees = false;
     }
 }
 
-/* The account of the steps before the end or a bad record. Without record 0
-   there are no mailboxes and no pools. */
-static bool account_trace(const uint8_t *bytes, size_t length)
+static bool account_trace(const uint8_t *bytes, size_t length,
+                          struct run *run)
 {
-    static struct tables t;
-    static struct account account;
-    struct reader reader;
-    struct sizes sizes;
-    bool agrees = true;
-    int code = trace_open(&reader, bytes, length, &sizes);
+    struct stop at = go_through(bytes, length, run, account_step);
 
-    if (code == ACCEPTED) {
-        fresh_tables(&t, &sizes, NULL);
-        begin_account(&account, &t);
-        code = account_steps(&reader, &t, &account, &agrees);
-    }
-    print_account(&account);
-    print_stop(&reader, code);
-    return agrees;
+    print_account(&run->account);
+    print_stop(at);
+    return run->agrees;
 }
 
 /* ---- the program ------------------------------------------------------ */
 
+/* Prints a trace in one way. Whether the account agreed, where one is kept. */
+typedef bool printer(const uint8_t *bytes, size_t length, struct run *run);
+
 struct options {
     const char *file; /* NULL: standard input */
-    bool tables;
-    bool account;
+    printer *print;
     bool help;
 };
 
+static printer *printer_for(const char *word)
+{
+    return strcmp(word, "--tables") == 0 ? list_all
+         : strcmp(word, "--account") == 0 ? account_trace
+         : strcmp(word, "--why") == 0 ? explain_trace
+         : NULL;
+}
+
+/* An option may come twice; no two of them go together. */
+static bool choose(struct options *o, printer *print)
+{
+    bool fine = o->print == list_trace || o->print == print;
+
+    o->print = print;
+    return fine;
+}
+
 static bool read_options(int argc, char **argv, struct options *o)
 {
-    *o = (struct options){ NULL, false, false, false };
+    *o = (struct options){ NULL, list_trace, false };
     for (int k = 1; k < argc; k++) {
-        if (strcmp(argv[k], "--tables") == 0) {
-            o->tables = true;
-        } else if (strcmp(argv[k], "--account") == 0) {
-            o->account = true;
+        if (printer_for(argv[k]) != NULL) {
+            if (!choose(o, printer_for(argv[k]))) {
+                return false;
+            }
         } else if (strcmp(argv[k], "--help") == 0) {
             o->help = true;
         } else if (argv[k][0] == '-' || o->file != NULL) {
@@ -285,7 +361,7 @@ static bool read_options(int argc, char **argv, struct options *o)
             o->file = argv[k];
         }
     }
-    return !(o->tables && o->account);
+    return true;
 }
 
 static bool complain(const char *name)
@@ -321,9 +397,10 @@ static bool read_input(const char *file, uint8_t *bytes, size_t space,
 int main(int argc, char **argv)
 {
     static uint8_t bytes[TRACE_LIMIT + 1];
+    static struct run run;
     struct options options;
     size_t length = 0;
-    bool fine = true;
+    bool fine;
 
     if (!read_options(argc, argv, &options)) {
         fputs(USAGE, stderr);
@@ -336,11 +413,7 @@ int main(int argc, char **argv)
     if (!read_input(options.file, bytes, sizeof bytes, &length)) {
         return EXIT_TROUBLE;
     }
-    if (options.account) {
-        fine = account_trace(bytes, length);
-    } else {
-        list_trace(bytes, length, options.tables);
-    }
+    fine = options.print(bytes, length, &run);
     errno = 0;
     if (fflush(stdout) != 0 || ferror(stdout)) {
         complain("standard output");

@@ -52,10 +52,19 @@ static void finish_own(struct work *w, const struct step *s,
                                     answer });
 }
 
+/* Document 02, 7/13: it "rises by 1 at the start of each accepted step; at
+   4294967295 it stays there". */
+static void count_step(struct tables *t)
+{
+    if (t->steps != LAST_STEP) {
+        t->steps++;
+    }
+}
+
 struct result do_told_step(struct tables *t, const struct step *s,
                            struct finished_calls *told)
 {
-    struct work w = { t, 0, 0, told };
+    struct work w = { t, 0, 0, s->kind, told };
     struct answer answer = { MSG_OK, 0 };
     struct result r = { 0 };
     bool answered = true;
@@ -67,6 +76,7 @@ struct result do_told_step(struct tables *t, const struct step *s,
     if (code != ACCEPTED) {
         return refused(t, code);
     }
+    count_step(t);
     if (may_sleep(s->kind)) {
         answered = make_call(&w, s, &answer);
     } else {

@@ -59,6 +59,24 @@ enum place_tag {
 
 enum mark { ABSENT, FREE, OUT };
 
+/* Document 02, 7/13: "the cause of its last waking: none yet, signal, release,
+   resume, event, post, fetch, reset or tick", in that order from 0 on. */
+enum cause {
+    NO_CAUSE,
+    BY_SIGNAL,
+    BY_RELEASE,
+    BY_RESUME,
+    BY_EVENT,
+    BY_POST,
+    BY_FETCH,
+    BY_RESET,
+    BY_TICK,
+    CAUSES /* their number; no cause */
+};
+
+/* The step number stays here. */
+#define LAST_STEP UINT32_C(4294967295)
+
 enum kind {
     TICK = 1,
     SEMAPHORE_WAIT = 2,
@@ -135,6 +153,8 @@ struct thread {
     int32_t wake_message;
     struct call call;
     struct answer last;
+    uint32_t cause; /* of its last waking */
+    uint32_t step;  /* the number of that step, 0 before any */
 };
 
 struct mailbox {
@@ -181,6 +201,7 @@ struct tables {
     struct pool pool[MAX_POOLS];
     struct words words;
     struct system_clock clock;
+    uint32_t steps; /* the step number: how many were accepted */
 };
 
 struct step {
@@ -236,6 +257,12 @@ uint32_t walk_ready(const struct tables *t);
 uint32_t walk_waiting(const struct tables *t, struct place at);
 /* The ready word and those of the places in use, from the records alone. */
 void make_words(struct tables *t);
+
+/* waits.c: where a thread waits in a call; nowhere in a sleep and for events.
+   Only the kind and the object are looked at. A cause of the list by its
+   word. */
+struct place place_of_wait(const struct call *c);
+const char *cause_name(uint32_t cause);
 
 /* hang.c: safe on tables of any values. */
 bool tables_hang_together(const struct tables *t);

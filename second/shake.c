@@ -5,16 +5,23 @@
  *   - where the change breaks the tables, a step is refused with 1, running
  *     is 255 and every byte is kept; the change is then taken back;
  *   - a rule can be named exactly where the tables are broken;
+ *   - a thread's cause breaks them exactly if it is outside the list, and no
+ *     step number does;
  *   - where it does not, it stays (but for a size's, since the director has
  *     an object in mind), and "accepted steps keep it so";
  *   - no accepted step loses an event flag or makes one up;
  *   - a plain signal answers 1 exactly at the top, where it leaves all else;
  *     every other signal answers 0, and no pool gets to the top;
+ *   - the step number counts accepted steps and no others, up to its last one;
+ *     a thread that was woken has the cause that goes with where it waited, and
+ *     the step's number, and every other thread keeps both;
  *   - none loses a message or an object or makes one up. The ledger begins
  *     anew where a change of the tables made it untrue.
+ * Some runs begin so near the last step number that they come to it.
  */
 #include "broken.h"
 #include "cases.h"
+#include "causes.h"
 #include "director.h"
 #include "flags.h"
 #include "signals.h"
@@ -29,6 +36,8 @@ enum {
     STEPS = 150,
     CHANGES = 12,
     STOCK_PERCENT = 10,
+    CAUSE_PERCENT = 20,
+    LATE_PERCENT = 25, /* runs that begin near the last step number */
     WORD = sizeof(uint32_t),
     FIRST = offsetof(struct tables, thread) / WORD /* word after the sizes */
 };
@@ -40,9 +49,12 @@ static struct {
     uint64_t broken;
     uint32_t most_continued;
     uint64_t stocked;
+    uint64_t caused;    /* other causes of the list, and step numbers */
+    uint64_t miscaused; /* causes outside it */
     uint64_t begun; /* ledgers, from tables as a change left them */
     struct flags_seen flags;
     struct signals_seen signals;
+    struct causes_seen causes;
     struct cases_seen cases;
 } seen;
 
@@ -145,6 +157,50 @@ static void change_something(struct random *r, uint64_t seed, uint32_t step,
     *t = old;
 }
 
+/* Of the list or not; those outside it may be told from one inside by their
+   upper bytes alone. */
+static uint32_t some_cause(struct random *r)
+{
+    static const uint32_t outside[] = {
+        9, 255, 256, 65535, 65536, 65544, UINT32_MAX
+    };
+
+    return random_chance(r, 50)
+        ? random_below(r, 9)
+        : outside[random_below(r, sizeof outside / sizeof outside[0])];
+}
+
+static uint32_t some_step_number(struct random *r)
+{
+    return random_chance(r, 50) ? LAST_STEP - random_below(r, 3)
+                                : random_word(r);
+}
+
+/* No step left this cause and this number in the record. */
+static void change_cause(struct random *r, uint64_t seed, uint32_t step,
+                         struct tables *t)
+{
+    struct thread *th = &t->thread[random_below(r, t->sizes.threads)];
+    struct thread old = *th;
+
+    if (!random_chance(r, CAUSE_PERCENT)) {
+        return;
+    }
+    th->cause = some_cause(r);
+    th->step = some_step_number(r);
+    expect(tables_hang_together(t) == (th->cause <= 8), seed, step,
+           "a cause was judged wrongly");
+    if (th->cause <= 8) {
+        seen.caused++;
+        return;
+    }
+    seen.miscaused++;
+    expect(broken_rule(t).rule == CAUSE_RULE, seed, step,
+           "a cause breaks another rule");
+    expect_refusal_1(seed, step, t);
+    *th = old;
+}
+
 /* Other messages, from another place on: whoever waits there goes on waiting,
    for what is there now. */
 static void stock_box(struct random *r, struct mailbox *box, uint32_t slots)
@@ -221,6 +277,15 @@ static void expect_signals(uint64_t seed, uint32_t step,
     note_signals(&seen.signals, m);
 }
 
+static void expect_causes(uint64_t seed, uint32_t step,
+                          const struct moment *m)
+{
+    const char *wrong = unlike_causes(m);
+
+    expect(wrong == NULL, seed, step, wrong);
+    note_causes(&seen.causes, m);
+}
+
 static void expect_account(uint64_t seed, uint32_t step,
                            const struct moment *m,
                            const struct finished_calls *told)
@@ -243,6 +308,7 @@ static void shaken_step(struct director *d, uint64_t seed, uint32_t step,
     expect(tables_hang_together(t), seed, step, "tables do not hang");
     expect(r.code != BROKEN_TABLES, seed, step, "refusal 1");
     expect_signals(seed, step, &m);
+    expect_causes(seed, step, &m);
     if (r.code == ACCEPTED) {
         seen.accepted++;
         expect(flags_add_up(&m), seed, step, "flags lost or made up");
@@ -267,6 +333,9 @@ static void shake(uint64_t seed)
     struct tables t;
 
     fresh_tables(&t, &z, NULL);
+    if (random_chance(&random, LATE_PERCENT)) {
+        t.steps = LAST_STEP - random_below(&random, STEPS);
+    }
     begin_flags(&seen.flags);
     begin_account(&account, &t);
     for (uint32_t step = 1; step <= STEPS; step++) {
@@ -274,6 +343,7 @@ static void shake(uint64_t seed)
             change_something(&random, seed, step, &t);
         }
         change_stock(&random, seed, step, &t);
+        change_cause(&random, seed, step, &t);
         go_on_with_account(&t);
         shaken_step(&d, seed, step, &t);
     }
@@ -300,8 +370,11 @@ int main(int argc, char **argv)
            seen.flags.woken, seen.flags.empty, seen.flags.timed_out,
            seen.flags.kept);
     printf("stocks changed %" PRIu64 ", ledgers begun on changed tables %"
-           PRIu64 "\n", seen.stocked, seen.begun);
+           PRIu64 "; causes changed %" PRIu64 ", outside the list %" PRIu64
+           "\n", seen.stocked, seen.begun, seen.caused, seen.miscaused);
     print_signals(&seen.signals);
+    print_wakings(&seen.causes);
+    print_kept(&seen.causes);
     print_cases(&seen.cases);
     return fflush(stdout) == 0 ? 0 : 1;
 }

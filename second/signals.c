@@ -24,12 +24,14 @@ static bool is_to_count(const struct step *s, int32_t counter)
     return s->kind == BINARY_SIGNAL ? counter < 1 : counter < COUNTER_TOP;
 }
 
-/* An interrupt has no last answer, and no finished bit. */
+/* An interrupt has no last answer, and no finished bit. The step number is
+   another matter: causes.c looks at it. */
 static bool leaves_all_else(const struct moment *m)
 {
     struct tables want = *m->before;
     uint32_t finished = 0;
 
+    want.steps = m->after->steps;
     if (m->step->caller != INTERRUPT) {
         want.thread[m->step->caller].last = m->result->answer;
         finished = UINT32_C(1) << m->step->caller;

@@ -9,7 +9,7 @@
 
 /* NULL, or what is wrong with a step. A signal counts everywhere but at the
    top, a binary one everywhere below 1; one that does not count leaves all of
-   the tables but its caller's last answer. A plain signal answers 1 if it did
+   the tables but its caller's last answer and the step number. A plain signal answers 1 if it did
    not count, and every other signal 0; no semaphore's is refused with 7. No
    pool counts more objects than it may have. */
 const char *unlike_signals(const struct moment *m);

@@ -10,6 +10,9 @@
  *     with 0 answers one at least;
  *   - a plain signal answers 1 exactly at the top, where it leaves all else;
  *     every other signal answers 0, and no pool gets to the top;
+ *   - the step number is how many steps were accepted; a thread that was woken
+ *     has the cause that goes with where it waited, and the step's number, and
+ *     every other thread keeps both, from none and 0 on;
  *   - no message and no object is lost, and none is made up: the ledger of
  *     account.c is run over every step;
  *   - a refused step keeps all bytes and gives masks, message and datum 0;
@@ -17,6 +20,7 @@
  * At the end it prints what the traces covered.
  */
 #include "cases.h"
+#include "causes.h"
 #include "flags.h"
 #include "scenario.h"
 #include "signals.h"
@@ -45,10 +49,12 @@ static struct {
     uint32_t tightest_percent; /* of the budget */
     struct flags_seen flags;
     struct signals_seen signals;
+    struct causes_seen causes;
     struct cases_seen cases;
 } seen;
 
 static struct account account;
+static uint32_t accepted; /* steps of the trace so far */
 
 static void fail(uint64_t seed, uint32_t record, const char *what)
 {
@@ -191,6 +197,27 @@ static void expect_signals(uint64_t seed, uint32_t record,
     note_signals(&seen.signals, m);
 }
 
+static void expect_causes(uint64_t seed, uint32_t record,
+                          const struct moment *m)
+{
+    const char *wrong = unlike_causes(m);
+
+    expect(wrong == NULL, seed, record, wrong);
+    accepted += m->result->code == ACCEPTED;
+    expect(m->after->steps == accepted, seed, record, "wrong step number");
+    note_causes(&seen.causes, m);
+}
+
+static bool nobody_has_woken(const struct tables *t)
+{
+    for (uint32_t i = 0; i < t->sizes.threads; i++) {
+        if (t->thread[i].cause != NO_CAUSE || t->thread[i].step != 0) {
+            return false;
+        }
+    }
+    return true;
+}
+
 static void expect_account(uint64_t seed, uint32_t record,
                            const struct moment *m,
                            const struct finished_calls *told)
@@ -230,6 +257,7 @@ static void run_step(uint64_t seed, uint32_t record, struct tables *t,
     expect(word_tells(t, r.running), seed, record, "wrong ready word");
     expect(((r.woken | r.finished) & ~all) == 0, seed, record, "stray bits");
     expect_signals(seed, record, &m);
+    expect_causes(seed, record, &m);
     if (r.code == ACCEPTED) {
         expect(finished_by_settling(s, &r), seed, record,
                "a call that slept was finished and not continued");
@@ -266,6 +294,8 @@ static void run_trace(uint64_t seed, const struct bytes *trace)
     seen.traces++;
     if (code == ACCEPTED) {
         fresh_tables(&t, &sizes, NULL);
+        accepted = 0;
+        expect(nobody_has_woken(&t), seed, 0, "woken before any step");
         begin_flags(&seen.flags);
         begin_account(&account, &t);
         while ((code = trace_next(&reader, &steps[count])) == ACCEPTED) {
@@ -332,6 +362,8 @@ static void print_seen(void)
            seen.unfinished_ready);
     print_flags();
     print_signals(&seen.signals);
+    print_wakings(&seen.causes);
+    print_kept(&seen.causes);
     print_cases(&seen.cases);
     printf("most continued %" PRIu32 " (%" PRIu32 "%% of a budget), "
            "most woken %" PRIu32 "\n",

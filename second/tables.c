@@ -26,8 +26,8 @@ bool sizes_in_limits(const struct sizes *z)
 }
 
 /* "Fresh: all ready, references and mailboxes empty, pool objects absent,
-   frequency as given, all else 0 or clear." Ready, nowhere, absent are 0; but
-   the ready word says of all threads that they are ready. */
+   frequency as given, all else 0 or clear." Ready, nowhere, absent and no cause
+   yet are 0; but the ready word says of all threads that they are ready. */
 uint32_t fresh_tables(struct tables *t, const struct sizes *sizes,
                       const uint32_t *frequency)
 {

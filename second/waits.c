@@ -18,7 +18,43 @@ int32_t as_message(uint32_t a)
                           : (int32_t)(a - UINT32_C(2147483648)) + INT32_MIN;
 }
 
-/* "'Made ready' stores the message and sets remaining ticks to 0." */
+/* Document 02, 7/13: "a pool's free and add count as signal". The kinds that
+   are not named here wake nobody. */
+static uint32_t cause_of(uint32_t kind)
+{
+    static const uint8_t cause[POOL_ADD + 1] = {
+        [TICK] = BY_TICK,
+        [SIGNAL] = BY_SIGNAL,
+        [SEMAPHORE_RESET] = BY_RESET,
+        [BINARY_SIGNAL] = BY_SIGNAL,
+        [RELEASE_FIRST] = BY_RELEASE,
+        [RELEASE_ALL] = BY_RELEASE,
+        [RESUME] = BY_RESUME,
+        [EVENT_SIGNAL] = BY_EVENT,
+        [POST] = BY_POST,
+        [POST_AHEAD] = BY_POST,
+        [FETCH] = BY_FETCH,
+        [MAILBOX_RESET] = BY_RESET,
+        [POOL_FREE] = BY_SIGNAL,
+        [POOL_ADD] = BY_SIGNAL
+    };
+
+    return cause[kind];
+}
+
+const char *cause_name(uint32_t cause)
+{
+    static const char *const name[CAUSES] = {
+        "none", "signal", "release", "resume", "event", "post", "fetch",
+        "reset", "tick"
+    };
+
+    return name[cause];
+}
+
+/* "'Made ready' stores the message and sets remaining ticks to 0." Document 02,
+   7/13: it leaves the cause, "and the number of that step", which the step has
+   counted up already. */
 void make_ready(struct work *w, uint32_t i, int32_t message)
 {
     struct thread *th = &w->t->thread[i];
@@ -27,6 +63,8 @@ void make_ready(struct work *w, uint32_t i, int32_t message)
     th->place = (struct place){ NOWHERE, 0 };
     th->remaining = 0;
     th->wake_message = message;
+    th->cause = cause_of(w->at_work);
+    th->step = w->t->steps;
     w->woken |= bit_of(i);
 }
 
@@ -149,7 +187,7 @@ static uint32_t state_of_wait(uint32_t kind)
     }
 }
 
-static struct place place_of_wait(const struct call *c)
+struct place place_of_wait(const struct call *c)
 {
     switch (c->kind) {
     case SEMAPHORE_WAIT:

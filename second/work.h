@@ -9,12 +9,15 @@
 
 /* The tables that the step changes in place, and the two masks that its
    result collects. Woken is about events, not the end state: a thread made
-   ready and asleep again within the step would keep its bit. Whoever asks is
-   told the finished calls; nothing here reads them. */
+   ready and asleep again within the step would keep its bit. Whoever is woken
+   is woken by the call at work: the step's own, and while settling the one that
+   is continued. Whoever asks is told the finished calls; nothing here reads
+   them. */
 struct work {
     struct tables *t;
     uint32_t woken;
     uint32_t finished;
+    uint32_t at_work; /* the kind of that call */
     struct finished_calls *told; /* NULL: nobody asks */
 };
 

@@ -7,6 +7,8 @@ use Rattle.accounts.proofs.account.fresh_account.Reads as account-fresh
 use Rattle.accounts.proofs.account.fresh_account.Kinds as account-fresh-account-kinds
 use Rattle.accounts.proofs.accounting.account_step.Reads as accounting-account-step
 use Rattle.accounts.proofs.accounting.account_step.Kinds as accounting-account-step-kinds
+use Rattle.accounts.proofs.accounting.call_by.Reads as accounting-call-by
+use Rattle.accounts.proofs.accounting.call_by.Kinds as accounting-call-by-kinds
 
 pub account-enter-one : Fixes 0 account-enter-kinds.ps account-enter-kinds.r account-enter.Post
 account-enter-one κs a e x y = coincide
@@ -16,3 +18,6 @@ account-fresh-account-one κs a e x y = coincide
 
 pub accounting-account-step-one : Fixes 0 accounting-account-step-kinds.ps accounting-account-step-kinds.r accounting-account-step.Post
 accounting-account-step-one κs a e x y = coincide
+
+pub accounting-call-by-one : Fixes 0 accounting-call-by-kinds.ps accounting-call-by-kinds.r accounting-call-by.Post
+accounting-call-by-one κs a e x y = coincide

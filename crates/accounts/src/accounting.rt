@@ -81,7 +81,7 @@ fn own_call(s: Step) -> Call
 }
 
 // The call of thread i: the step's own, if it is the caller, else the one that its record had kept.
-fn call_by(s: Step, i: u8, kept: Call) -> Call
+pub fn call_by(s: Step, i: u8, kept: Call) -> Call
     ensures { λ r. ⌜ r ≡ callBy s i kept ⌝ }
 {
     if s.caller == i { own_call(s) } else { kept }

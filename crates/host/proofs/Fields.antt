@@ -25,7 +25,7 @@ use denote.Struct.Struct.{layout}
 
 -- the bytes of whole tables: in a struct that begins with them the next field lies there
 abbrev pub tables-size : ℕ
-tables-size = 1440
+tables-size = 1572
 
 -- the machine values of a struct's fields
 abbrev spelled : (T : Declared) (L : LL.Laws T) (r : T .D) → List Val

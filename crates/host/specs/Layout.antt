@@ -2,4 +2,4 @@
 use Prim.Native.Nat.{ℕ}
 
 abbrev pub layout : ℕ
-layout = 2
+layout = 3

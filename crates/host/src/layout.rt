@@ -3,7 +3,7 @@
 ghost use mathlib.Core.Path.{_≡_};
 ghost use Rattle.host.specs.Layout.{layout};
 
-pub const LAYOUT: u32 = 2;
+pub const LAYOUT: u32 = 3;
 
 #[no_mangle]
 pub extern "C" fn nil_layout() -> u32

@@ -68,6 +68,8 @@ record Beside (k h : Kernel) : Type 0 where
   finished : h .finished ≡ k .finished
   answer : h .answer ≡ k .answer
   words : h .words ≡ k .words
+  steps : h .steps ≡ k .steps
+  cause : h .cause ≡ k .cause
 
 -- nor do their lengths differ, where one of each may be written
 beside-sizes : (k h : Kernel) (p : ℕ) (x : ℤ) (y : ℕ) (b c : Bool) → Beside k h
@@ -81,6 +83,8 @@ beside-sizes k h p x y b c s e f =
       woken = ap length (s .woken);
       finished = ap length (s .finished);
       waiting = ap (λ (w : Words). length (w .waiting)) (s .words);
+      steps = s .steps;
+      cause = s .cause;
     }
 
 -- to leave a place or a reference
@@ -88,9 +92,9 @@ module _ (k : Kernel) (s p : ℕ) where
   off-beside : Beside k (takenOff k s p)
   unfolding takenOff
   off-beside =
-      chosen (Beside k) (eqb s queued) (λ e. record { threads = refl; woken = refl; finished = refl; answer = refl; words = refl })
-      (λ e. chosen (Beside k) (eqb s suspended) (λ f. record { threads = refl; woken = refl; finished = refl; answer = refl; words = refl })
-      (λ f. record { threads = refl; woken = refl; finished = refl; answer = refl; words = refl }))
+      chosen (Beside k) (eqb s queued) (λ e. record { threads = refl; woken = refl; finished = refl; answer = refl; words = refl; steps = refl; cause = refl })
+      (λ e. chosen (Beside k) (eqb s suspended) (λ f. record { threads = refl; woken = refl; finished = refl; answer = refl; words = refl; steps = refl; cause = refl })
+      (λ f. record { threads = refl; woken = refl; finished = refl; answer = refl; words = refl; steps = refl; cause = refl }))
 
   off-counters : takenOff k s p .counters ≡ cond (eqb s queued) (withCounter k p (up (counterAt k p)) .counters) (k .counters)
   unfolding takenOff
@@ -110,9 +114,9 @@ module _ (k : Kernel) (i s p : ℕ) where
   on-beside : Beside k (putOn k i s p)
   unfolding putOn
   on-beside =
-      chosen (Beside k) (eqb s queued) (λ e. record { threads = refl; woken = refl; finished = refl; answer = refl; words = refl })
-      (λ e. chosen (Beside k) (eqb s suspended) (λ f. record { threads = refl; woken = refl; finished = refl; answer = refl; words = refl })
-      (λ f. record { threads = refl; woken = refl; finished = refl; answer = refl; words = refl }))
+      chosen (Beside k) (eqb s queued) (λ e. record { threads = refl; woken = refl; finished = refl; answer = refl; words = refl; steps = refl; cause = refl })
+      (λ e. chosen (Beside k) (eqb s suspended) (λ f. record { threads = refl; woken = refl; finished = refl; answer = refl; words = refl; steps = refl; cause = refl })
+      (λ f. record { threads = refl; woken = refl; finished = refl; answer = refl; words = refl; steps = refl; cause = refl }))
 
   on-counters : putOn k i s p .counters ≡ cond (eqb s queued) (withCounter k p (down (counterAt k p)) .counters) (k .counters)
   unfolding putOn
@@ -168,18 +172,22 @@ emptied k b p r = in-or-out r (length (k .references)) (given-holder k b p r nob
 -- ---- to be made ready
 
 module _ (k : Kernel) (i : ℕ) (m : ℤ) where
+  -- its row: by the cause and in the step that are at work
+  abbrev pub wokenRow : Thread → Thread
+  wokenRow t = readied t m (k .cause) (k .steps)
+
   -- one row is written
-  pub wake-threads : woken k i m .threads ≡ withThread k i (readied (threadAt k i) m) .threads
+  pub wake-threads : woken k i m .threads ≡ withThread k i (wokenRow (threadAt k i)) .threads
   unfolding woken
   wake-threads = rw (off-beside k (threadAt k i .state) (threadAt k i .place) .threads)
 
   -- ""Made ready" stores the message and sets remaining ticks to 0"
-  pub wake-row : i < length (k .threads) → threadAt (woken k i m) i ≡ readied (threadAt k i) m
-  wake-row h = rw wake-threads (getD-set-same (k .threads) i (readied (threadAt k i) m) blank h)
+  pub wake-row : i < length (k .threads) → threadAt (woken k i m) i ≡ wokenRow (threadAt k i)
+  wake-row h = rw wake-threads (getD-set-same (k .threads) i (wokenRow (threadAt k i)) blank h)
 
   -- nobody else's row changes
   pub wake-others : (j : ℕ) → j ≢ i → threadAt (woken k i m) j ≡ threadAt k j
-  wake-others j n = rw wake-threads (getD-set-other (k .threads) i j (readied (threadAt k i) m) blank n)
+  wake-others j n = rw wake-threads (getD-set-other (k .threads) i j (wokenRow (threadAt k i)) blank n)
 
   -- "taken off its queue (counter +1)": at its place, and nowhere else
   pub wake-counter : (q : ℕ) → q < length (k .counters)
@@ -238,10 +246,10 @@ module _ (k : Kernel) (i : ℕ) (m : ℤ) where
   unfolding woken
   wake-sizes =
       let off = takenOff k (threadAt k i .state) (threadAt k i .place) in
-      let set = withThread off i (readied (threadAt k i) m) in
+      let set = withThread off i (wokenRow (threadAt k i)) in
       let marked = withWoken set i in
       sizes-trans (off-sizes k (threadAt k i .state) (threadAt k i .place))
-      (sizes-trans (thread-sizes off i (readied (threadAt k i) m))
+      (sizes-trans (thread-sizes off i (wokenRow (threadAt k i)))
       (sizes-trans (mark-woken-sizes set i)
       (words-sizes marked (notedReady (k .words) i (threadAt k i .state) (threadAt k i .place))
       (ready-length (k .words) i (threadAt k i .state) (threadAt k i .place)
@@ -251,7 +259,7 @@ module _ (k : Kernel) (i : ℕ) (m : ℤ) where
   pub wake-past : length (k .threads) ≤ i → length (k .woken) ≤ i → 16 ≤ i → woken k i m ≡ k
   unfolding woken takenOff
   wake-past h w l =
-      rw (thread-blank k i h, set-out (k .threads) i (readied blank m) h, set-out (k .woken) i true w, with-past (k .words .ready) i l)
+      rw (thread-blank k i h, set-out (k .threads) i (wokenRow blank) h, set-out (k .woken) i true w, with-past (k .words .ready) i l)
 
   -- it is noted as ready, and no more as waiting
   pub wake-words : woken k i m .words ≡ notedReady (k .words) i (threadAt k i .state) (threadAt k i .place)

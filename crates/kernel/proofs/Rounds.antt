@@ -1,7 +1,7 @@
 -- A round over the threads: who passes a test is made ready with m, of everyone else the row is rewritten. Each turn changes no row
 -- but its own, so the round changes each row once. A release of all and the tick are such rounds.
 use Prim.Native.Nat.{ℕ, _≤_, _<_}
-use mathlib.Core.Path.{_≡_, sym}
+use mathlib.Core.Path.{_≡_, sym, subst}
 use mathlib.Core.Logic.{_≢_}
 use mathlib.Core.Bool.{Bool, true, false, cond}
 use lib.ListN.{length}
@@ -23,9 +23,9 @@ module _ (test : Thread → Bool) (rest : Thread → Thread) (m : ℤ) where
   abbrev pub turn : ℕ → Kernel → Kernel
   turn i k = cond (test (threadAt k i)) (woken k i m) (withThread k i (rest (threadAt k i)))
 
-  -- and what it makes of its row
-  abbrev pub turned : Thread → Thread
-  turned t = cond (test t) (readied t m) (rest t)
+  -- and what it makes of its row, by the cause c, in the step n
+  abbrev pub turned : ℕ → ℕ → Thread → Thread
+  turned c n t = cond (test t) (readied t m c n) (rest t)
 
   -- what every waking and every rewritten row keeps, the round keeps
   pub round-keeps : (P : Kernel → Type 0) (n : ℕ)
@@ -58,7 +58,7 @@ module _ (test : Thread → Bool) (rest : Thread → Thread) (m : ℤ) where
     passing : (i : ℕ) (k : Kernel) → test (threadAt k i) ≡ true → i < length (k .threads)
     passing i k e = in-or-out i (length (k .threads)) (λ h. h) (λ h. contrary e (rw (thread-blank k i h) fails))
 
-    turn-row : (i : ℕ) (k : Kernel) → threadAt (turn i k) i ≡ turned (threadAt k i)
+    turn-row : (i : ℕ) (k : Kernel) → threadAt (turn i k) i ≡ turned (k .cause) (k .steps) (threadAt k i)
     turn-row i k =
         split (test (threadAt k i)) (λ e. rw e (wake-row k i m (passing i k e)))
         (λ e. rw e
@@ -66,6 +66,9 @@ module _ (test : Thread → Bool) (rest : Thread → Thread) (m : ℤ) where
         (λ h. rw (set-out (k .threads) i (rest (threadAt k i)) h, thread-blank k i h) (sym leaves))))
 
     -- the first n rows are changed, each once
-    pub round-row : (n j : ℕ) (k : Kernel) → j < n → threadAt (each n turn k) j ≡ turned (threadAt k j)
+    pub round-row : (n j : ℕ) (k : Kernel) → j < n → threadAt (each n turn k) j ≡ turned (k .cause) (k .steps) (threadAt k j)
     round-row n j k h =
-        each-row threadAt turn turn-others (λ (k : Kernel). Unit {0}) turned (λ i k u. tt) (λ i k u. turn-row i k) n j k tt h
+        each-row threadAt turn turn-others (SameSizes k) (turned (k .cause) (k .steps)) (λ i h s. sizes-trans s (turn-sizes i h))
+        (λ i h s. subst (λ (c : ℕ). threadAt (turn i h) i ≡ turned c (k .steps) (threadAt h i)) (s .cause)
+        (subst (λ (x : ℕ). threadAt (turn i h) i ≡ turned (h .cause) x (threadAt h i)) (s .steps) (turn-row i h)))
+        n j k (sizes-refl k) h

@@ -45,7 +45,7 @@ used-all n h = in-or-out n 16 (λ l. rw (lt-ltb n 16 l)) (λ l. rw (le-ltb n 16 
 pub used-le-given : (n : ℕ) → usedRows n ≤ n
 used-le-given n = in-or-out n 16 (λ l. rw (lt-ltb n 16 l) (omega arith)) (λ l. rw (le-ltb n 16 l) (omega arith))
 
--- the sizes of the tables
+-- the sizes of the tables at work, and that the cause is one of the list
 pub record Sized (k : Kernel) : Type 0 where
   pub threads : length (k .threads) ≡ 16
   pub counters : length (k .counters) ≡ 36
@@ -53,8 +53,9 @@ pub record Sized (k : Kernel) : Type 0 where
   pub woken : length (k .woken) ≡ 16
   pub finished : length (k .finished) ≡ 16
   pub waiting : length (k .words .waiting) ≡ 36
+  pub cause : k .cause ≤ 8
 
--- the tables of h are as long as those of k
+-- the tables of h are as long as those of k, and its step is the same
 pub record SameSizes (k h : Kernel) : Type 0 where
   pub threads : length (h .threads) ≡ length (k .threads)
   pub counters : length (h .counters) ≡ length (k .counters)
@@ -62,10 +63,12 @@ pub record SameSizes (k h : Kernel) : Type 0 where
   pub woken : length (h .woken) ≡ length (k .woken)
   pub finished : length (h .finished) ≡ length (k .finished)
   pub waiting : length (h .words .waiting) ≡ length (k .words .waiting)
+  pub steps : h .steps ≡ k .steps
+  pub cause : h .cause ≡ k .cause
 
 -- lengths are the same from k to k
 pub sizes-refl : (k : Kernel) → SameSizes k k
-sizes-refl k = record { threads = refl; counters = refl; references = refl; woken = refl; finished = refl; waiting = refl }
+sizes-refl k = record { threads = refl; counters = refl; references = refl; woken = refl; finished = refl; waiting = refl; steps = refl; cause = refl }
 
 -- .. and from step to step
 pub sizes-trans : {k h g : Kernel} → SameSizes k h → SameSizes h g → SameSizes k g
@@ -77,6 +80,8 @@ sizes-trans a b =
       woken = b .woken ∙ a .woken;
       finished = b .finished ∙ a .finished;
       waiting = b .waiting ∙ a .waiting;
+      steps = b .steps ∙ a .steps;
+      cause = b .cause ∙ a .cause;
     }
 
 -- tables of the same lengths are sized alike
@@ -89,36 +94,37 @@ sized-kept a s =
       woken = a .woken ∙ s .woken;
       finished = a .finished ∙ s .finished;
       waiting = a .waiting ∙ s .waiting;
+      cause = omega (arith, a .cause, s .cause);
     }
 
--- every write keeps the lengths
+-- every write keeps the lengths, and the step
 module _ (k : Kernel) where
   -- a thread written
   pub thread-sizes : (i : ℕ) (t : Thread) → SameSizes k (withThread k i t)
-  thread-sizes i t = record { threads = length-set (k .threads) i t; counters = refl; references = refl; woken = refl; finished = refl; waiting = refl }
+  thread-sizes i t = record { threads = length-set (k .threads) i t; counters = refl; references = refl; woken = refl; finished = refl; waiting = refl; steps = refl; cause = refl }
 
   -- a counter written
   pub counter-sizes : (p : ℕ) (c : ℤ) → SameSizes k (withCounter k p c)
   counter-sizes p c =
-      record { threads = refl; counters = length-set (k .counters) p c; references = refl; woken = refl; finished = refl; waiting = refl }
+      record { threads = refl; counters = length-set (k .counters) p c; references = refl; woken = refl; finished = refl; waiting = refl; steps = refl; cause = refl }
 
   -- a woken flag set
   pub mark-woken-sizes : (i : ℕ) → SameSizes k (withWoken k i)
   mark-woken-sizes i =
-      record { threads = refl; counters = refl; references = refl; woken = length-set (k .woken) i true; finished = refl; waiting = refl }
+      record { threads = refl; counters = refl; references = refl; woken = length-set (k .woken) i true; finished = refl; waiting = refl; steps = refl; cause = refl }
 
   -- a finished flag set
   pub mark-finished-sizes : (i : ℕ) → SameSizes k (withFinished k i)
   mark-finished-sizes i =
-      record { threads = refl; counters = refl; references = refl; woken = refl; finished = length-set (k .finished) i true; waiting = refl }
+      record { threads = refl; counters = refl; references = refl; woken = refl; finished = length-set (k .finished) i true; waiting = refl; steps = refl; cause = refl }
 
   -- words kept
   pub words-sizes : (w : Words) → length (w .waiting) ≡ length (k .words .waiting) → SameSizes k (withWords k w)
-  words-sizes w e = record { threads = refl; counters = refl; references = refl; woken = refl; finished = refl; waiting = e }
+  words-sizes w e = record { threads = refl; counters = refl; references = refl; woken = refl; finished = refl; waiting = e; steps = refl; cause = refl }
 
   -- an answer stored
   pub answer-sizes : (a : Answer) → SameSizes k (withAnswer k a)
-  answer-sizes a = record { threads = refl; counters = refl; references = refl; woken = refl; finished = refl; waiting = refl }
+  answer-sizes a = record { threads = refl; counters = refl; references = refl; woken = refl; finished = refl; waiting = refl; steps = refl; cause = refl }
 
 -- threads: read at the index written, at another, and written past the end
 module _ (k : Kernel) (i : ℕ) (t : Thread) where

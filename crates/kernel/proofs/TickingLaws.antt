@@ -16,17 +16,18 @@ use Rattle.kernel.specs.Ticking.{countedOff, ticked}
 use Rattle.kernel.proofs.TablesLaws.{SameSizes, used-le-given}
 use Rattle.kernel.proofs.Rounds.{round-keeps, round-row, round-later, round-sizes}
 
--- what a tick makes of a row: "each remaining count above 0 falls by 1; at 0 the thread is .. made ready with -1"
-abbrev pub aged : Thread → Thread
-aged t = cond (eqb (t .remaining) 1) (readied t timedOut) (countedOff t)
+-- what a tick makes of a row, by the cause c, in the step n: "each remaining count above 0 falls by 1; at 0 the thread is .. made ready
+-- with -1"
+abbrev pub aged : ℕ → ℕ → Thread → Thread
+aged c n t = cond (eqb (t .remaining) 1) (readied t timedOut c n) (countedOff t)
 
 -- the last tick makes ready with -1
-pub aged-last : (t : Thread) → t .remaining ≡ 1 → aged t ≡ readied t timedOut
-aged-last t e = rw (eq-eqb (t .remaining) 1 e)
+pub aged-last : (c n : ℕ) (t : Thread) → t .remaining ≡ 1 → aged c n t ≡ readied t timedOut c n
+aged-last c n t e = rw (eq-eqb (t .remaining) 1 e)
 
 -- any other is counted off
-pub aged-counted : (t : Thread) → t .remaining ≢ 1 → aged t ≡ countedOff t
-aged-counted t d = rw (ne-eqb (t .remaining) 1 d)
+pub aged-counted : (c n : ℕ) (t : Thread) → t .remaining ≢ 1 → aged c n t ≡ countedOff t
+aged-counted c n t d = rw (ne-eqb (t .remaining) 1 d)
 
 -- whether the next tick is the last
 abbrev ends : Thread → Bool
@@ -34,7 +35,7 @@ ends t = eqb (t .remaining) 1
 
 module _ (k : Kernel) (n : ℕ) where
   -- each of the first n rows is aged, once
-  pub tick-row : (j : ℕ) → j < usedRows n → threadAt (ticked k n) j ≡ aged (threadAt k j)
+  pub tick-row : (j : ℕ) → j < usedRows n → threadAt (ticked k n) j ≡ aged (k .cause) (k .steps) (threadAt k j)
   unfolding ticked
   tick-row j h = round-row ends countedOff timedOut refl refl (usedRows n) j k h
 

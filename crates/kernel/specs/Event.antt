@@ -21,6 +21,8 @@ withPending t flags =
       message = t .message;
       call = t .call;
       answer = t .answer;
+      cause = t .cause;
+      step = t .step;
     }
 
 -- "the flags of a are ORed to those pending"

@@ -33,9 +33,10 @@ use Rattle.kernel.specs.Tables.{
 }
 use Rattle.kernel.specs.Words.{notedReady, notedAsleep}
 
--- ""Made ready" stores the message and sets remaining ticks to 0"; it waits "nowhere if ready"
-abbrev pub readied : Thread → ℤ → Thread
-readied t m =
+-- ""Made ready" stores the message and sets remaining ticks to 0"; it waits "nowhere if ready"; of document 02: "the cause of its last
+-- waking .. and the number of that step"
+abbrev pub readied : Thread → ℤ → ℕ → ℕ → Thread
+readied t m c n =
     record {
       state = ready;
       place = nowhere;
@@ -45,6 +46,8 @@ readied t m =
       message = m;
       call = t .call;
       answer = t .answer;
+      cause = c;
+      step = n;
     }
 
 -- the ticks that a timeout leaves to count: "0 for .. an infinite timeout"
@@ -67,6 +70,8 @@ asleep t state place call =
       message = t .message;
       call = call;
       answer = noAnswer;
+      cause = t .cause;
+      step = t .step;
     }
 
 -- a finished call leaves its answer: "all 0 without one", awaited flags "else 0"
@@ -81,6 +86,8 @@ answered t a =
       message = t .message;
       call = noCall;
       answer = a;
+      cause = t .cause;
+      step = t .step;
     }
 
 -- "taken off its queue (counter +1) or reference (emptied)"
@@ -95,12 +102,13 @@ putOn k i state place =
     cond (eqb state queued) (withCounter k place (down (counterAt k place)))
     (cond (eqb state suspended) (withHolder k place i) k)
 
--- thread i is made ready with m
+-- thread i is made ready with m, by the cause of the call at work, in the step at work
 unfoldable pub woken : Kernel → ℕ → ℤ → Kernel
 woken k i m =
     withWords
     (withWoken
-    (withThread (takenOff k (threadAt k i .state) (threadAt k i .place)) i (readied (threadAt k i) m))
+    (withThread (takenOff k (threadAt k i .state) (threadAt k i .place)) i
+    (readied (threadAt k i) m (k .cause) (k .steps)))
     i)
     (notedReady (k .words) i (threadAt k i .state) (threadAt k i .place))
 

@@ -44,6 +44,38 @@ wasReset = negsuc 1
 abbrev pub notCounted : ℤ
 notCounted = pos 1
 
+-- causes of a waking: "none yet, signal, release, resume, event, post, fetch, reset or tick" (document 02)
+abbrev pub noCause : ℕ
+noCause = 0
+
+abbrev pub bySignal : ℕ
+bySignal = 1
+
+abbrev pub byRelease : ℕ
+byRelease = 2
+
+abbrev pub byResume : ℕ
+byResume = 3
+
+abbrev pub byEvent : ℕ
+byEvent = 4
+
+abbrev pub byPost : ℕ
+byPost = 5
+
+abbrev pub byFetch : ℕ
+byFetch = 6
+
+abbrev pub byReset : ℕ
+byReset = 7
+
+abbrev pub byTick : ℕ
+byTick = 8
+
+-- the last number of a step
+abbrev pub lastStep : ℕ
+lastStep = 4294967295
+
 -- the top of a counter
 abbrev pub top : ℤ
 top = pos 2147483647

@@ -1,6 +1,8 @@
 -- Fresh records, and the kernel at the beginning and at the end of a step.
 
-use mathlib.Core.Bool.{false}
+use Prim.Native.Nat.{ℕ, _+_}
+use mathlib.Core.Bool.{false, cond}
+use lib.Dec.{eqb}
 use lib.ListN.{replicate}
 use lib.IntN.{pos}
 use Rattle.kernel.specs.declared.records.Call.{Call}
@@ -9,7 +11,7 @@ use Rattle.kernel.specs.declared.records.Thread.{Thread}
 use Rattle.kernel.specs.declared.records.Words.{Words}
 use Rattle.kernel.specs.declared.records.Records.{Records}
 use Rattle.kernel.specs.declared.records.Kernel.{Kernel}
-use Rattle.kernel.specs.Numbers.{nobody, nowhere, ready}
+use Rattle.kernel.specs.Numbers.{nobody, nowhere, ready, noCause, lastStep}
 
 -- "all 0 without one"
 abbrev pub noCall : Call
@@ -30,6 +32,8 @@ blank =
       message = pos 0;
       call = noCall;
       answer = noAnswer;
+      cause = noCause;
+      step = 0;
     }
 
 -- ".. references .. empty", with these words
@@ -40,9 +44,14 @@ freshRecords w =
       counters = replicate 36 (pos 0);
       references = replicate 8 nobody;
       words = w;
+      steps = 0;
     }
 
--- a step begins with nobody woken and no call finished
+-- "rises by 1 at the start of each accepted step; at 4294967295 it stays there" (document 02)
+abbrev pub raised : ℕ → ℕ
+raised n = cond (eqb n lastStep) n (n + 1)
+
+-- a step begins with its number, nobody woken and no call finished; what wakes is not known yet
 abbrev pub begun : Records → Kernel
 begun r =
     record {
@@ -53,8 +62,17 @@ begun r =
       finished = replicate 16 false;
       answer = noAnswer;
       words = r .words;
+      steps = raised (r .steps);
+      cause = noCause;
     }
 
 -- what a step leaves
 abbrev pub ended : Kernel → Records
-ended k = record { threads = k .threads; counters = k .counters; references = k .references; words = k .words }
+ended k =
+    record {
+      threads = k .threads;
+      counters = k .counters;
+      references = k .references;
+      words = k .words;
+      steps = k .steps;
+    }

@@ -45,6 +45,8 @@ withThread k i t =
       finished = k .finished;
       answer = k .answer;
       words = k .words;
+      steps = k .steps;
+      cause = k .cause;
     }
 
 abbrev pub withCounter : Kernel → ℕ → ℤ → Kernel
@@ -57,6 +59,8 @@ withCounter k p c =
       finished = k .finished;
       answer = k .answer;
       words = k .words;
+      steps = k .steps;
+      cause = k .cause;
     }
 
 abbrev pub withHolder : Kernel → ℕ → ℕ → Kernel
@@ -69,6 +73,8 @@ withHolder k r i =
       finished = k .finished;
       answer = k .answer;
       words = k .words;
+      steps = k .steps;
+      cause = k .cause;
     }
 
 abbrev pub withWoken : Kernel → ℕ → Kernel
@@ -81,6 +87,8 @@ withWoken k i =
       finished = k .finished;
       answer = k .answer;
       words = k .words;
+      steps = k .steps;
+      cause = k .cause;
     }
 
 abbrev pub withFinished : Kernel → ℕ → Kernel
@@ -93,6 +101,8 @@ withFinished k i =
       finished = set (k .finished) i true;
       answer = k .answer;
       words = k .words;
+      steps = k .steps;
+      cause = k .cause;
     }
 
 abbrev pub withAnswer : Kernel → Answer → Kernel
@@ -105,6 +115,8 @@ withAnswer k a =
       finished = k .finished;
       answer = a;
       words = k .words;
+      steps = k .steps;
+      cause = k .cause;
     }
 
 abbrev pub withWords : Kernel → Words → Kernel
@@ -117,4 +129,21 @@ withWords k w =
       finished = k .finished;
       answer = k .answer;
       words = w;
+      steps = k .steps;
+      cause = k .cause;
+    }
+
+-- the call at work wakes with this cause
+abbrev pub withCause : Kernel → ℕ → Kernel
+withCause k c =
+    record {
+      threads = k .threads;
+      counters = k .counters;
+      references = k .references;
+      woken = k .woken;
+      finished = k .finished;
+      answer = k .answer;
+      words = k .words;
+      steps = k .steps;
+      cause = c;
     }

@@ -21,6 +21,8 @@ countedOff t =
       message = t .message;
       call = t .call;
       answer = t .answer;
+      cause = t .cause;
+      step = t .step;
     }
 
 -- the last tick of a wait makes its thread ready

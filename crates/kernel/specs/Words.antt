@@ -53,9 +53,6 @@ freshWords n = record { ready = allReady n; waiting = replicate 36 0; unused = 0
 abbrev pub waitingAt : Words → ℕ → ℕ
 waitingAt w p = getD (w .waiting) p 0
 
-abbrev pub withWaiting : Words → ℕ → ℕ → Words
-withWaiting w p word = record { ready = w .ready; waiting = set (w .waiting) p word; unused = w .unused }
-
 -- thread i was in a state at a place, and is ready
 abbrev pub notedReady : Words → ℕ → ℕ → ℕ → Words
 notedReady w i state p =

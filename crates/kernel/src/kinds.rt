@@ -65,3 +65,26 @@ pub const KEPT_POST_AHEAD: u16 = 16;
 pub const KEPT_FETCH: u16 = 17;
 
 pub const KEPT_ALLOC: u16 = 20;
+
+// The other kinds that wake somebody, in 16 bits too: what wakes is a step or a call that is continued.
+pub const TICK_CALL: u16 = 1;
+
+pub const SIGNAL_CALL: u16 = 3;
+
+pub const SEMAPHORE_RESET_CALL: u16 = 4;
+
+pub const BINARY_SIGNAL_CALL: u16 = 5;
+
+pub const RELEASE_FIRST_CALL: u16 = 7;
+
+pub const RELEASE_ALL_CALL: u16 = 8;
+
+pub const RESUME_CALL: u16 = 10;
+
+pub const EVENT_SIGNAL_CALL: u16 = 13;
+
+pub const MAILBOX_RESET_CALL: u16 = 18;
+
+pub const FREE_CALL: u16 = 21;
+
+pub const ADD_CALL: u16 = 22;

@@ -23,15 +23,17 @@ use crate::words::note_ready;
 ghost use mathlib.Core.Path.{_≡_};
 ghost use Rattle.kernel.specs.Moves.{readied, ticksOf, awaitedBy, asleep, answered, woken, slept, finished, blocked};
 
-// The row of a thread that is made ready with message m.
-fn ready_row(t: Thread, m: i32) -> Thread
-    ensures { λ r. ⌜ r ≡ readied t m ⌝ }
+// The row of a thread that is made ready with message m, by a cause, in the step of this number.
+fn ready_row(t: Thread, m: i32, cause: u32, step: u32) -> Thread
+    ensures { λ r. ⌜ r ≡ readied t m cause step ⌝ }
 {
     let mut r = t;
     r.state = READY;
     r.place = NOWHERE;
     r.remaining = 0;
     r.message = m;
+    r.cause = cause;
+    r.step = step;
     r
 }
 
@@ -81,7 +83,7 @@ fn answered_row(t: Thread, answer: Answer) -> Thread
 }
 
 // Thread i is made ready with message m, and leaves what it waits on: its queue, whose counter rises, or its reference, which is
-// emptied. Nothing changes where there is no thread i.
+// emptied. Its record keeps the cause of the call at work and the number of the step. Nothing changes where there is no thread i.
 pub fn wake(k: Kernel, i: u8, m: i32) -> Kernel
     ensures { λ r. ⌜ r ≡ woken k i m ⌝ }
 {
@@ -90,6 +92,8 @@ pub fn wake(k: Kernel, i: u8, m: i32) -> Kernel
     if at < 16 {
         let t = r.threads[at];
         let words = r.words;
+        let cause = r.cause;
+        let step = r.steps;
         let place = t.place as usize;
         if t.state == QUEUED {
             if place < 36 {
@@ -102,7 +106,7 @@ pub fn wake(k: Kernel, i: u8, m: i32) -> Kernel
             }
         }
         r.words = note_ready(words, i, t.state, t.place);
-        r.threads[at] = ready_row(t, m);
+        r.threads[at] = ready_row(t, m, cause, step);
         r.woken[at] = true;
     }
     r

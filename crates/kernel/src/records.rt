@@ -1,8 +1,11 @@
 // The kernel part's records. Plain numbers only, so that any bytes a host hands over are legal values.
 // What a host owns has C's layout and no padding: every byte belongs to a field.
 ghost use mathlib.Core.Path.{_≡_};
-ghost use Rattle.kernel.specs.Records.{noCall, noAnswer, blank, freshRecords, begun, ended};
+ghost use Rattle.kernel.specs.Records.{noCall, noAnswer, blank, freshRecords, raised, begun, ended};
+ghost use Rattle.kernel.specs.Tables.{withCause};
 use crate::kinds::KEPT_NONE;
+use crate::numbers::CAUSE_NONE;
+use crate::numbers::LAST_STEP;
 use crate::numbers::NOBODY;
 use crate::numbers::NOWHERE;
 use crate::numbers::READY;
@@ -22,7 +25,8 @@ pub struct Answer {
     pub datum: u32,
 }
 
-// A thread: its state, where it waits, its ticks left, event flags, wake message, unfinished call and last answer.
+// A thread: its state, where it waits, its ticks left, event flags, wake message, unfinished call and last answer, and of its last
+// waking the cause and the number of the step.
 // `place` is a counter's place if the thread is queued, a reference's number if it is suspended, else NOWHERE.
 #[repr(C)]
 pub struct Thread {
@@ -34,6 +38,8 @@ pub struct Thread {
     pub message: i32,
     pub call: Call,
     pub answer: Answer,
+    pub cause: u32,
+    pub step: u32,
 }
 
 // Who is ready, and who waits at each place: bit i of a word stands for thread i.
@@ -45,16 +51,18 @@ pub struct Words {
     pub unused: u16,
 }
 
-// What a host keeps between two steps. A reference holds a thread's number, or NOBODY.
+// What a host keeps between two steps. A reference holds a thread's number, or NOBODY. `steps` is the number of the last accepted step.
 #[repr(C)]
 pub struct Records {
     pub threads: [Thread; 16],
     pub counters: [i32; 36],
     pub references: [u8; 8],
     pub words: Words,
+    pub steps: u32,
 }
 
-// The kernel at work on one step: the records, who was woken, whose calls finished, and the answer of an interrupt's own call.
+// The kernel at work on one step: the records, who was woken, whose calls finished, the answer of an interrupt's own call, the number
+// of the step, and the cause that the call at work has if it wakes.
 // The words stand first, so that the compiler copies what follows them in one piece.
 pub struct Kernel {
     pub words: Words,
@@ -64,6 +72,8 @@ pub struct Kernel {
     pub woken: [bool; 16],
     pub finished: [bool; 16],
     pub answer: Answer,
+    pub steps: u32,
+    pub cause: u32,
 }
 
 pub fn no_call() -> Call
@@ -101,6 +111,8 @@ pub fn blank_thread() -> Thread
         message: 0,
         call: call,
         answer: answer,
+        cause: CAUSE_NONE,
+        step: 0,
     }
 }
 
@@ -117,12 +129,20 @@ pub fn fresh(words: Words) -> Records
         counters: counters,
         references: references,
         words: words,
+        steps: 0,
     }
 }
 
-// A step begins: nobody is woken yet, and no call has finished.
-pub fn begin(r: Records) -> Kernel
-    ensures { λ k. ⌜ k ≡ begun r ⌝ }
+// The number of the step after step n; the last number stays.
+fn raise(n: u32) -> u32
+    ensures { λ r. ⌜ r ≡ raised n ⌝ }
+{
+    if n == LAST_STEP { n } else { n + 1 }
+}
+
+// A step begins, whose wakings have this cause: it has its number, nobody is woken yet, and no call has finished.
+pub fn begin(r: Records, cause: u32) -> Kernel
+    ensures { λ k. ⌜ k ≡ withCause (begun r) cause ⌝ }
 {
     let threads = r.threads;
     let counters = r.counters;
@@ -131,6 +151,7 @@ pub fn begin(r: Records) -> Kernel
     let finished = [false; 16];
     let answer = no_answer();
     let words = r.words;
+    let steps = raise(r.steps);
     Kernel {
         threads: threads,
         counters: counters,
@@ -139,6 +160,8 @@ pub fn begin(r: Records) -> Kernel
         finished: finished,
         answer: answer,
         words: words,
+        steps: steps,
+        cause: cause,
     }
 }
 
@@ -155,5 +178,6 @@ pub fn end(k: Kernel) -> Records
         counters: counters,
         references: references,
         words: words,
+        steps: k.steps,
     }
 }

@@ -6,7 +6,7 @@ use crate::numbers::THREADS;
 use crate::records::Words;
 use crate::tables::used_rows;
 ghost use mathlib.Core.Path.{_≡_};
-ghost use Rattle.kernel.specs.Words.{hasBit, onesOf, firstOf, bitValue, withBit, withoutBit, allReady, freshWords, waitingAt, withWaiting, notedReady, notedAsleep};
+ghost use Rattle.kernel.specs.Words.{hasBit, onesOf, firstOf, bitValue, withBit, withoutBit, allReady, freshWords, waitingAt, notedReady, notedAsleep};
 
 // What bit i counts; a word has no bit from 16 on.
 pub fn bit_value(i: u8) -> u16
@@ -83,26 +83,18 @@ pub fn waiting_at(w: Words, place: u32) -> u16
     if at < 36 { w.waiting[at] } else { 0 }
 }
 
-fn set_waiting(w: Words, place: u16, word: u16) -> Words
-    ensures { λ r. ⌜ r ≡ withWaiting w place word ⌝ }
-{
-    let at = place as usize;
-    let mut r = w;
-    if at < 36 {
-        r.waiting[at] = word;
-    }
-    r
-}
-
 // Thread i was in a state at a place, and is ready.
 pub fn note_ready(w: Words, i: u8, state: u16, place: u16) -> Words
     ensures { λ r. ⌜ r ≡ notedReady w i state place ⌝ }
 {
+    let at = place as usize;
     let mut r = w;
     r.ready = with_bit(w.ready, i);
     if state == QUEUED {
-        let word = without_bit(waiting_at(w, place as u32), i);
-        r = set_waiting(r, place, word);
+        if at < 36 {
+            let word = r.waiting[at];
+            r.waiting[at] = without_bit(word, i);
+        }
     }
     r
 }
@@ -111,11 +103,14 @@ pub fn note_ready(w: Words, i: u8, state: u16, place: u16) -> Words
 pub fn note_asleep(w: Words, i: u8, state: u16, place: u16) -> Words
     ensures { λ r. ⌜ r ≡ notedAsleep w i state place ⌝ }
 {
+    let at = place as usize;
     let mut r = w;
     r.ready = without_bit(w.ready, i);
     if state == QUEUED {
-        let word = with_bit(waiting_at(w, place as u32), i);
-        r = set_waiting(r, place, word);
+        if at < 36 {
+            let word = r.waiting[at];
+            r.waiting[at] = with_bit(word, i);
+        }
     }
     r
 }

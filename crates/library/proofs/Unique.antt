@@ -9,6 +9,8 @@ use Rattle.library.proofs.acting.act_on_box.Reads as acting-act-on-box
 use Rattle.library.proofs.acting.act_on_box.Kinds as acting-act-on-box-kinds
 use Rattle.library.proofs.binary.binary_signal.Reads as binary-binary-signal
 use Rattle.library.proofs.binary.binary_signal.Kinds as binary-binary-signal-kinds
+use Rattle.library.proofs.causes.cause_of.Reads as causes-cause-of
+use Rattle.library.proofs.causes.cause_of.Kinds as causes-cause-of-kinds
 use Rattle.library.proofs.calls.as_signed.Reads as calls-as-signed
 use Rattle.library.proofs.calls.as_signed.Kinds as calls-as-signed-kinds
 use Rattle.library.proofs.calls.keeps_operand.Reads as calls-keeps-operand
@@ -101,6 +103,9 @@ acting-act-on-box-one κs a e x y = coincide
 
 pub binary-binary-signal-one : Fixes 0 binary-binary-signal-kinds.ps binary-binary-signal-kinds.r binary-binary-signal.Post
 binary-binary-signal-one κs a e x y = coincide
+
+pub causes-cause-of-one : Fixes 0 causes-cause-of-kinds.ps causes-cause-of-kinds.r causes-cause-of.Post
+causes-cause-of-one κs a e x y = coincide
 
 pub calls-as-signed-one : Fixes 0 calls-as-signed-kinds.ps calls-as-signed-kinds.r calls-as-signed.Post
 calls-as-signed-one κs a e x y = coincide

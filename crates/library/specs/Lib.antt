@@ -3,6 +3,7 @@ pub mod Sizes
 pub mod Ring
 pub mod Signs
 pub mod Tables
+pub mod Causes
 pub mod Fresh
 pub mod Calls
 pub mod Binary

@@ -9,6 +9,7 @@ use Rattle.kernel.specs.Moves.{finished}
 use Rattle.kernel.specs.Event.{tookFlags}
 use Rattle.kernel.specs.Waiters.{firstReady, runningFree}
 use Rattle.library.specs.declared.tables.Plant.{Plant}
+use Rattle.library.specs.Causes.{caused}
 use Rattle.library.specs.Signs.{same}
 use Rattle.library.specs.Mailbox.{postTried, fetchTried}
 use Rattle.library.specs.Pool.{handedOver}
@@ -28,8 +29,8 @@ answeredOnly t = cond (doesMore (t .call .kind)) (not (same (t .message) (pos 0)
 
 -- an event wait "clears and answers all pending flags in its mask" (document 02); "mailbox, wake message 0: the whole mailbox rule is tried
 -- again"; "pool, message 0: it takes the top"; "all others answer their wake message with datum 0"
-unfoldable pub continued : Plant → ℕ → Plant
-continued p i =
+unfoldable pub wentOn : Plant → ℕ → Plant
+wentOn p i =
     cond (answeredOnly (threadAt (p .kernel) i))
     (withKernel p (finished (p .kernel) i (threadAt (p .kernel) i .message) 0))
     (cond (eqb (threadAt (p .kernel) i .call .kind) 14)
@@ -37,6 +38,10 @@ continued p i =
     (cond (eqb (threadAt (p .kernel) i .call .kind) 17) (fetchTried p i (threadAt (p .kernel) i .call))
     (cond (eqb (threadAt (p .kernel) i .call .kind) 20) (handedOver p i (threadAt (p .kernel) i .call .object))
     (postTried p i (threadAt (p .kernel) i .call)))))
+
+-- thread i's call is at work, and goes on
+abbrev pub continued : Plant → ℕ → Plant
+continued p i = wentOn (caused p (threadAt (p .kernel) i .call .kind)) i
 
 -- "the running thread is the first ready one, or idle"
 abbrev pub runningIn : Plant → ℕ

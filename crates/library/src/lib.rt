@@ -3,6 +3,7 @@
 pub mod acting;
 pub mod binary;
 pub mod calls;
+pub mod causes;
 pub mod fresh;
 pub mod logic;
 pub mod mailbox;

@@ -2,6 +2,7 @@
 // `settle` and `continue_call` call each other; the budget is the number that falls. After a call is continued, settling goes on
 // with half of the budget and then with the rest, so that calls are nested as often as the budget can be halved: the stack that
 // a step needs grows with the logarithm of the budget, and not with the budget.
+use crate::causes::cause_of;
 use crate::logic::either;
 use crate::mailbox::try_fetch;
 use crate::mailbox::try_post;
@@ -63,23 +64,25 @@ fn answer_woken(k: Kernel, i: u8, t: Thread) -> Kernel
     finish(k, i, t.message, 0)
 }
 
-// Thread i's unfinished call goes on after its waking.
+// Thread i's unfinished call goes on after its waking. Whom it wakes, it wakes by its own cause.
 fn go_on(p: Plant, i: u8) -> Plant
     ensures { λ r. ⌜ r ≡ continued p i ⌝ }
 {
-    let k = p.kernel;
-    let threads = k.threads;
+    let threads = p.kernel.threads;
     let t = thread_at(threads, i);
     let call = t.call;
     let kind = call.kind;
+    let cause = cause_of(kind);
+    let mut q = p;
+    q.kernel.cause = cause;
     if is_answered_only(t) {
-        return set_kernel(p, answer_woken(k, i, t));
+        return set_kernel(q, answer_woken(q.kernel, i, t));
     }
     match kind {
-        KEPT_EVENT_WAIT => set_kernel(p, take_flags(k, i, call.operand)),
-        KEPT_FETCH => try_fetch(p, i, call),
-        KEPT_ALLOC => hand_over(p, i, call.object),
-        _ => try_post(p, i, call),
+        KEPT_EVENT_WAIT => set_kernel(q, take_flags(q.kernel, i, call.operand)),
+        KEPT_FETCH => try_fetch(q, i, call),
+        KEPT_ALLOC => hand_over(q, i, call.object),
+        _ => try_post(q, i, call),
     }
 }
 

@@ -1,10 +1,12 @@
 // The whole tables, as a host keeps them between two steps and as a step works on them, with a reader of each table and writers.
 // Past a table's end a read gives the blank, and a write changes nothing.
+use crate::causes::cause_of;
 use crate::ring::Positions;
 use crate::sizes::Sizes;
 use kernel::records::Kernel;
 use kernel::records::Records;
 ghost use mathlib.Core.Path.{_≡_};
+ghost use Rattle.library.specs.Causes.{caused};
 ghost use Rattle.library.specs.Tables.{blankMailbox, blankPool, opened, closed, mailboxIn, poolIn, withKernel, withMailbox, withPool};
 
 // A mailbox: where it reads and writes, its reset state (any value but 0), and its messages' bits.
@@ -39,15 +41,15 @@ pub struct Plant {
     pub sizes: Sizes,
 }
 
-// A step begins.
-pub fn open(t: Tables) -> Plant
-    ensures { λ r. ⌜ r ≡ opened t ⌝ }
+// A step of this kind begins.
+pub fn open(t: Tables, kind: u16) -> Plant
+    ensures { λ r. ⌜ r ≡ caused (opened t) kind ⌝ }
 {
     let records = t.kernel;
     let mailboxes = t.mailboxes;
     let pools = t.pools;
     let sizes = t.sizes;
-    let kernel = kernel::records::begin(records);
+    let kernel = kernel::records::begin(records, cause_of(kind));
     Plant {
         kernel: kernel,
         mailboxes: mailboxes,

@@ -84,8 +84,8 @@ pub(crate) fn waiting_of(i: u16, t: Thread) -> [u64; 7] {
     ]
 }
 
-// Its unfinished call and its last answer.
-pub(crate) fn calling_of(t: Thread) -> [u64; 6] {
+// Its unfinished call, its last answer, and the cause and the step of its last waking.
+pub(crate) fn calling_of(t: Thread) -> [u64; 8] {
     let call = t.call;
     let answer = t.answer;
     let message = signed(answer.message);
@@ -96,6 +96,8 @@ pub(crate) fn calling_of(t: Thread) -> [u64; 6] {
         call.timeout as u64,
         message,
         answer.datum as u64,
+        t.cause as u64,
+        t.step as u64,
     ]
 }
 

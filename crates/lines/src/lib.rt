@@ -1,10 +1,11 @@
 // A trace in print: its listing, which is a heading, a line for each step, with all tables after it where they are asked for, and where it
-// stopped; or its account. What a step does and what an account holds is decided below, in `trace`, `steps` and `accounts`; here is only
-// how it reads in print.
+// stopped; or why its threads woke; or its account. What a step does and what an account holds is decided below, in `trace`, `steps` and
+// `accounts`; here is only how it reads in print.
 mod account;
 mod fields;
 mod rows;
 mod text;
+mod why;
 mod words;
 
 use crate::account::put_account;
@@ -14,6 +15,7 @@ use crate::text::put_row;
 use crate::text::put_text;
 use crate::text::signed;
 use crate::text::write_out;
+use crate::why::put_why;
 use accounts::account::Account;
 use accounts::account::fresh_account;
 use accounts::accounting::Report;
@@ -37,10 +39,11 @@ ghost use Rattle.lines.specs.Ending.{placeRead};
 // More reads than the longest trace has records.
 const READS: u16 = 5000;
 
-// What is printed: a line for each step, these with all tables, or the account at the end.
+// What is printed: a line for each step, these with all tables, a line for each waking, or the account at the end.
 enum View {
     Steps,
     Tables,
+    Why,
     Account,
 }
 
@@ -56,6 +59,7 @@ struct Listing {
 fn put_heading(out: &mut [u8], view: View) -> usize {
     match view {
         View::Account => 0,
+        View::Why => put_text(out, 0, b"step thread cause object message\n"),
         _ => put_text(out, 0, b"step code run woke done\n"),
     }
 }
@@ -107,7 +111,9 @@ fn put_whole(out: &mut [u8], at: usize, r: Stepped) -> usize {
     put_tables(out, end, tables, clock)
 }
 
-fn put_step(out: &mut [u8], at: usize, number: usize, r: Stepped, view: View) -> usize {
+// What is printed of a step, which found the tables of a listing.
+fn put_step(out: &mut [u8], x: Listing, s: Step, number: usize, r: Stepped, view: View) -> usize {
+    let at = x.len;
     let outcome = r.outcome;
     match view {
         View::Steps => put_outcome(out, at, number, outcome),
@@ -115,6 +121,7 @@ fn put_step(out: &mut [u8], at: usize, number: usize, r: Stepped, view: View) ->
             let line = put_outcome(out, at, number, outcome);
             put_whole(out, line, r)
         }
+        View::Why => put_why(out, at, x.tables, s, r),
         View::Account => at,
     }
 }
@@ -147,7 +154,7 @@ fn account_for(x: Listing, number: usize, s: Step, r: Stepped, view: View) -> Ac
 // One step of the trace, and its lines.
 fn list_step(out: &mut [u8], x: Listing, s: Step, number: usize, view: View) -> Listing {
     let r = step(x.tables, x.clock, s);
-    let len = put_step(out, x.len, number, r, view);
+    let len = put_step(out, x, s, number, r, view);
     let account = account_for(x, number, s, r, view);
     let tables = r.tables;
     let clock = r.clock;
@@ -230,6 +237,13 @@ pub fn list_trace(s: &[u8], whole: bool) -> usize
     } else {
         print_trace(s, View::Steps)
     }
+}
+
+// Prints why the threads of a trace woke: a line for each waking. The answer is where reading ended.
+pub fn why_trace(s: &[u8]) -> usize
+    ensures { λ r. ⌜ r ≡ placeRead 5000 (now (s .entry)) 0 ⌝ }
+{
+    print_trace(s, View::Why)
 }
 
 // Prints the account of a trace: what was posted, fetched and lost, what was added, and who has what. The answer is where reading ended.

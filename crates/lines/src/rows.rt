@@ -1,4 +1,4 @@
-// All tables, the words and the clock in print, rows within the sizes only. One loop goes through the tables, one through a table's rows.
+// All tables, the words, the clock and the step number in print, rows within the sizes only. One loop goes through the tables, one through a table's rows.
 use crate::fields::calling_of;
 use crate::fields::counter_in;
 use crate::fields::holder_in;
@@ -9,6 +9,7 @@ use crate::fields::pool_in;
 use crate::fields::ring_of;
 use crate::fields::thread_in;
 use crate::fields::waiting_of;
+use crate::text::NONE;
 use crate::text::put_row;
 use crate::text::signed;
 use crate::words::put_ready;
@@ -167,6 +168,13 @@ fn put_clock(out: &mut [u8], at: usize, clock: Clock) -> usize {
     put_row(out, at, b"clock", &time, &frequency)
 }
 
+fn put_steps(out: &mut [u8], at: usize, t: Tables) -> usize {
+    let k = t.kernel;
+    let steps = [k.steps as u64];
+    let none = [NONE];
+    put_row(out, at, b"steps", &steps, &none)
+}
+
 pub(crate) fn put_tables(out: &mut [u8], at: usize, t: Tables, clock: Clock) -> usize {
     let mut end = at;
     let mut table = THREADS;
@@ -174,5 +182,6 @@ pub(crate) fn put_tables(out: &mut [u8], at: usize, t: Tables, clock: Clock) -> 
         end = put_rows(out, end, t, table);
         table += 1;
     }
-    put_clock(out, end, clock)
+    let timed = put_clock(out, end, clock);
+    put_steps(out, timed, t)
 }

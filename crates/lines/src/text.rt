@@ -114,6 +114,13 @@ pub(crate) fn put_row(
     end_row(out, end)
 }
 
+// The start of a row that has two numbers before its word.
+pub(crate) fn put_start(out: &mut [u8], at: usize, first: u64, field: u64) -> usize {
+    let number = put_digits(out, at, first);
+    let end = put_field(out, number, field);
+    put_byte(out, end, b' ')
+}
+
 // A row of numbers alone.
 pub(crate) fn put_numbers(out: &mut [u8], at: usize, first: u64, fields: &[u64]) -> usize {
     let number = put_digits(out, at, first);

@@ -1,14 +1,17 @@
-// listing [--tables | --account] [FILE]: prints the listing of a trace, or its account; the trace is read from FILE or from standard input.
+// listing [--tables | --why | --account] [FILE]: prints the listing of a trace, why its threads woke, or its account; the trace is read
+// from FILE or from standard input.
 // All that it decides itself is which words are options; the reading of a trace, the steps and the lines are libraries.
 use libc::STDERR_FILENO;
 use libc::STDIN_FILENO;
 use libc::STDOUT_FILENO;
 use lines::account_trace;
 use lines::list_trace;
+use lines::why_trace;
 
 // What the arguments ask for. `file` is the argument that names the trace, 0 for none.
 struct Options {
     whole: bool,
+    why: bool,
     account: bool,
     help: bool,
     wrong: bool,
@@ -49,6 +52,8 @@ fn with_word(o: Options, i: usize, word: &[u8]) -> Options {
     let mut r = o;
     if is_same(word, b"--tables") {
         r.whole = true;
+    } else if is_same(word, b"--why") {
+        r.why = true;
     } else if is_same(word, b"--account") {
         r.account = true;
     } else if is_same(word, b"--help") {
@@ -73,6 +78,7 @@ fn with_argument(o: Options, i: usize) -> Options {
 fn read_options() -> Options {
     let mut o = Options {
         whole: false,
+        why: false,
         account: false,
         help: false,
         wrong: false,
@@ -88,7 +94,10 @@ fn read_options() -> Options {
 }
 
 fn print_usage(fd: i32) {
-    io::write_all(fd, b"usage: listing [--tables | --account] [FILE]\n");
+    io::write_all(
+        fd,
+        b"usage: listing [--tables | --why | --account] [FILE]\n",
+    );
     io::write_all(
         fd,
         b"Lists the steps of a trace, read from FILE or from standard input.\n",
@@ -96,6 +105,10 @@ fn print_usage(fd: i32) {
     io::write_all(
         fd,
         b"  --tables  print the answer and all tables after each step's line\n",
+    );
+    io::write_all(
+        fd,
+        b"  --why     print a line for each waking: step, thread, cause, object, message\n",
     );
     io::write_all(
         fd,
@@ -114,6 +127,8 @@ fn complain(what: &[u8]) {
 fn list_bytes(bytes: &[u8], o: Options) {
     if o.account {
         account_trace(bytes);
+    } else if o.why {
+        why_trace(bytes);
     } else {
         list_trace(bytes, o.whole);
     }
@@ -156,9 +171,9 @@ fn list_input(o: Options) {
     list_from(STDIN_FILENO, b"standard input", o);
 }
 
-// The account has no tables after each step.
+// One of the three at most.
 fn is_wrong(o: Options) -> bool {
-    o.wrong || (o.whole && o.account)
+    o.wrong || ((o.whole && o.why) || (o.account && (o.whole || o.why)))
 }
 
 fn main() {

@@ -19,3 +19,4 @@ pub mod Flags
 pub mod History
 pub mod Ledger
 pub mod Signals
+pub mod Causes

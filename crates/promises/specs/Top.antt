@@ -4,6 +4,7 @@ pub mod RuledOut
 pub mod Pipes
 pub mod Ledgers
 pub mod Signals
+pub mod Causes
 pub mod Facts
 pub mod Shown
 pub mod ShownArms
@@ -11,3 +12,4 @@ pub mod ShownRest
 pub mod ShownPipes
 pub mod ShownLedgers
 pub mod ShownSignals
+pub mod ShownCauses

@@ -1,22 +1,25 @@
 // Recorded traces, each named for what it shows: a damaged one for each refusal of the reader, and those of a plant. `steps/` has
-// them in words, `data/` as they were recorded. `stdout` holds the second program's listings of them, and of some their accounts,
-// and for the writer what document 01's words give.
+// them in words, `data/` as they were recorded. `stdout` holds the second program's listings of them, of some their accounts and why
+// their threads woke, and for the writer what document 01's words give.
 use kernel::kinds::TICK;
 use libc::STDOUT_FILENO;
 use library::calls::Step;
 use library::sizes::Sizes;
 use lines::account_trace;
 use lines::list_trace;
+use lines::why_trace;
 use trace::writer::Written;
 use trace::writer::write_sizes;
 use trace::writer::write_step;
 
-// What is shown of a trace: a line for each step, these with all tables, or its account.
+// What is shown of a trace: a line for each step, these with all tables, its account, or a line for each waking.
 const STEPS: u8 = 0;
 
 const TABLES: u8 = 1;
 
 const ACCOUNT: u8 = 2;
+
+const WHY: u8 = 3;
 
 // A file's name without its ending, `.trace`.
 fn print_title(path: &[u8]) {
@@ -30,6 +33,8 @@ fn print_title(path: &[u8]) {
 fn print_trace(bytes: &[u8], view: u8) {
     if view == ACCOUNT {
         account_trace(bytes);
+    } else if view == WHY {
+        why_trace(bytes);
     } else {
         list_trace(bytes, view == TABLES);
     }
@@ -145,7 +150,7 @@ fn write_all_cases() {
     step_into_60001(59988);
 }
 
-// Every refusal of the trace reader, on a damaged trace each; then the traces of a plant, and accounts.
+// Every refusal of the trace reader, on a damaged trace each; then the traces of a plant, accounts, and why threads woke.
 fn main() {
     show_all(
         b"11-empty.trace \
@@ -177,12 +182,16 @@ fn main() {
     show_all(b"tank-present.trace ", TABLES);
     show_all(b"timeout-against-signal.trace tote-pool.trace ", STEPS);
     show_all(
-        b"two-flags-one-wait.trace whole-line.trace words-on-the-screen.trace ",
+        b"two-flags-one-wait.trace whole-line.trace why-the-valve-woke.trace words-on-the-screen.trace ",
         TABLES,
     );
     show_all(
         b"batch-mailbox.trace dosing-account.trace tote-pool.trace whole-line.trace ",
         ACCOUNT,
+    );
+    show_all(
+        b"batch-mailbox.trace whole-line.trace why-the-valve-woke.trace ",
+        WHY,
     );
     write_all_cases();
 }

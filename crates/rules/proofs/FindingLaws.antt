@@ -21,14 +21,14 @@ use Rattle.kernel.proofs.Loops.{used-le}
 use Rattle.library.specs.declared.tables.Plant.{Plant}
 use Rattle.rules.specs.declared.finding.Broken.{Broken}
 use Rattle.library.specs.Sizes.{sizesFit}
-use Rattle.rules.specs.RowRules.{callFits, waitFits, ticksFit, awaitedFit, nonePending, flagsFit, rowFits, rowsFit}
+use Rattle.rules.specs.RowRules.{callFits, waitFits, ticksFit, awaitedFit, nonePending, flagsFit, causeFits, rowFits, rowsFit}
 use Rattle.rules.specs.PlaceRules.{placeAgrees, countersFit}
 use Rattle.rules.specs.ReferenceRules.{holderFits, referencesFit}
 use Rattle.rules.specs.MailboxRules.{mailboxFits, mailboxesFit}
 use Rattle.rules.specs.PoolRules.{poolAgrees, poolsFit}
 use Rattle.rules.specs.WordRules.{readyWord, readyFits, wordAgrees, waitingFits, wordsFit}
 use Rattle.rules.specs.Hanging.{hangsTogether}
-use Rattle.rules.specs.Finding.{wholly, rowKeeps, badRow, badRunning, badAt, isKept, brokenAs, broken, orElse, orRow}
+use Rattle.rules.specs.Finding.{wholly, rowKeeps, badRow, badRunning, badAt, isKept, brokenAs, broken, badCause, orElse, orRow}
 use Rattle.rules.proofs.HangingLaws.{none-fails, none-bad, used-of-le}
 
 -- whether a rule is broken
@@ -72,7 +72,7 @@ first-last f i (suc n) h =
     split (f i) (λ e. rw (e, ne-eqb i nobody (λ q. omega arith))) (λ e. rw (e, next) (first-last f (suc i) n (omega arith)))
 
 -- so what has been found is the first that is broken
-found-first : (p : Plant) (clock : Clock) (n : ℕ) → n ≤ 14 → foundTo p clock n ≡ brokenAs p clock (firstFrom (breaks p clock) 1 n)
+found-first : (p : Plant) (clock : Clock) (n : ℕ) → n ≤ 15 → foundTo p clock n ≡ brokenAs p clock (firstFrom (breaks p clock) 1 n)
 unfolding foundTo orElse firstFrom
 found-first p clock zero h = refl
 found-first p clock (suc n) h =
@@ -85,9 +85,9 @@ found-first p clock (suc n) h =
     (split (eqb (badAt p clock (suc n)) nobody) (λ t. rw t) (λ t. rw (t, ne-eqb (suc n) nobody (λ q. omega arith)))))
     (λ e. rw (e, ne-eqb first 0 (λ q. omega (arith, least))) (rw e)))
 
-pub found-all : (p : Plant) (clock : Clock) → foundTo p clock 14 ≡ broken p clock
+pub found-all : (p : Plant) (clock : Clock) → foundTo p clock 15 ≡ broken p clock
 unfolding broken
-found-all p clock = found-first p clock 14 (omega arith)
+found-all p clock = found-first p clock 15 (omega arith)
 
 -- all pass two tests exactly if all pass each
 all-both : (f g : ℕ → Bool) (i n : ℕ) → allFrom (λ j. f j && g j) i n ≡ allFrom f i n && allFrom g i n
@@ -102,21 +102,21 @@ all-both f g i (suc n) = rw (all-both f g (suc i) n) (swap (f i) (g i) (allFrom 
     swap false b c d = refl
 
 -- no rule is found broken exactly if each is kept
-none-broken : (p : Plant) (clock : Clock) → eqb (broken p clock .rule) 0 ≡ allFrom (isKept p clock) 1 14
+none-broken : (p : Plant) (clock : Clock) → eqb (broken p clock .rule) 0 ≡ allFrom (isKept p clock) 1 15
 unfolding broken
 none-broken p clock =
-    let first = firstFrom (breaks p clock) 1 14 in
-    let least : 1 ≤ first = at-least (breaks p clock) 1 14 (omega arith) (omega arith) in
+    let first = firstFrom (breaks p clock) 1 15 in
+    let least : 1 ≤ first = at-least (breaks p clock) 1 15 (omega arith) (omega arith) in
     split (eqb first nobody)
-    (λ e. rw e (sym e ∙ none-fails (isKept p clock) 1 14 (omega arith)))
-    (λ e. rw e (ne-eqb first 0 (λ q. omega arith) ∙ sym e ∙ none-fails (isKept p clock) 1 14 (omega arith)))
+    (λ e. rw e (sym e ∙ none-fails (isKept p clock) 1 15 (omega arith)))
+    (λ e. rw e (ne-eqb first 0 (λ q. omega arith) ∙ sym e ∙ none-fails (isKept p clock) 1 15 (omega arith)))
 
 -- no rule has no row
 pub no-rule-no-row : (p : Plant) (clock : Clock) → broken p clock .rule ≡ 0 → broken p clock .row ≡ 0
 unfolding broken
 no-rule-no-row p clock =
-    let first = firstFrom (breaks p clock) 1 14 in
-    let least : 1 ≤ first = at-least (breaks p clock) 1 14 (omega arith) (omega arith) in
+    let first = firstFrom (breaks p clock) 1 15 in
+    let least : 1 ≤ first = at-least (breaks p clock) 1 15 (omega arith) (omega arith) in
     split (eqb first nobody) (λ e. rw e (λ none. refl)) (λ e. rw e (λ none. absurd (omega arith)))
 
 module _ (p : Plant) (clock : Clock) where
@@ -161,10 +161,10 @@ each : {a b c d : Bool} → a ≡ b → c ≡ d → a && c ≡ b && d
 each e f = rw (e, f)
 
 -- the paper's order of the rules, and the order in which they are tested
-reordered : (s f c r m q t a w v n u x y : Bool)
-    → s && (f && (c && (r && (m && (q && (t && (a && (w && (v && (n && (u && (x && (y && true)))))))))))))
-    ≡ s && (f && ((a && (w && (t && (v && n)))) && (c && (r && (m && (q && (u && (x && y))))))))
-reordered s f c r m q t a w v n u x y =
+reordered : (s f c r m q t a w v n u x y o : Bool)
+    → s && (f && (c && (r && (m && (q && (t && (a && (w && (v && (n && (u && (x && (y && (o && true))))))))))))))
+    ≡ s && (f && ((a && (w && (t && ((v && n) && o)))) && (c && (r && (m && (q && (u && (x && y))))))))
+reordered s f c r m q t a w v n u x y o =
     same-tests _ _
     (λ h.
     let h1 = both-means s _ h in
@@ -181,15 +181,17 @@ reordered s f c r m q t a w v n u x y =
     let h12 = both-means u _ (h11 .1) in
     let h13 = both-means x _ (h12 .1) in
     let h14 = both-means y _ (h13 .1) in
-    rw (h1 .0, h2 .0, h3 .0, h4 .0, h5 .0, h6 .0, h7 .0, h8 .0, h9 .0, h10 .0, h11 .0, h12 .0, h13 .0, h14 .0))
+    let h15 = both-means o _ (h14 .1) in
+    rw (h1 .0, h2 .0, h3 .0, h4 .0, h5 .0, h6 .0, h7 .0, h8 .0, h9 .0, h10 .0, h11 .0, h12 .0, h13 .0, h14 .0, h15 .0))
     (λ h.
     let h1 = both-means s _ h in
     let h2 = both-means f _ (h1 .1) in
-    let h3 = both-means (a && (w && (t && (v && n)))) _ (h2 .1) in
+    let h3 = both-means (a && (w && (t && ((v && n) && o)))) _ (h2 .1) in
     let row = both-means a _ (h3 .0) in
     let wait = both-means w _ (row .1) in
     let ticks = both-means t _ (wait .1) in
-    let flags = both-means v n (ticks .1) in
+    let rest = both-means (v && n) o (ticks .1) in
+    let flags = both-means v n (rest .0) in
     let h4 = both-means c _ (h3 .1) in
     let h5 = both-means r _ (h4 .1) in
     let h6 = both-means m _ (h5 .1) in
@@ -211,6 +213,7 @@ reordered s f c r m q t a w v n u x y =
       running .0,
       words .0,
       words .1,
+      rest .1,
     ))
 
 -- 0 is the number of the broken rule exactly where the tables hang together: those of a host, whose lists have their tables' lengths
@@ -250,24 +253,29 @@ module _ (p : Plant) (clock : Clock) (sized : length (p .kernel .threads) ≡ 16
   unfolding badAt waitingFits
   waiting-kept = none-bad (wordAgrees (p .kernel) (p .sizes)) 36 _ (omega arith) refl
 
-  -- a record's rules are 8, 9, 7, 10 and 11
+  -- a record's rules are 8, 9, 7, 10 and 11, and 15
   records-kept : rowsFit (p .kernel) (p .sizes)
-      ≡ all-keep p clock 8 && (all-keep p clock 9 && (all-keep p clock 7 && (all-keep p clock 10 && all-keep p clock 11)))
+      ≡ all-keep p clock 8
+      && (all-keep p clock 9 && (all-keep p clock 7 && ((all-keep p clock 10 && all-keep p clock 11) && all-keep p clock 15)))
   unfolding rowsFit rowFits flagsFit all-keep
   records-kept =
       let z = p .sizes in
       let n = usedRows (z .threads) in
       let row : ℕ → Thread = λ i. threadAt (p .kernel) i in
-      all-both (λ i. callFits (row i) z) (λ i. waitFits (row i) && (ticksFit (row i) && (awaitedFit (row i) && nonePending (row i)))) 0 n
+      let flags : ℕ → Bool = λ i. awaitedFit (row i) && nonePending (row i) in
+      let last : ℕ → Bool = λ i. flags i && causeFits (row i) in
+      all-both (λ i. callFits (row i) z) (λ i. waitFits (row i) && (ticksFit (row i) && last i)) 0 n
       ∙ ap (λ (b : Bool). allFrom (λ i. callFits (row i) z) 0 n && b)
-      (all-both (λ i. waitFits (row i)) (λ i. ticksFit (row i) && (awaitedFit (row i) && nonePending (row i))) 0 n
+      (all-both (λ i. waitFits (row i)) (λ i. ticksFit (row i) && last i) 0 n
       ∙ ap (λ (b : Bool). allFrom (λ i. waitFits (row i)) 0 n && b)
-      (all-both (λ i. ticksFit (row i)) (λ i. awaitedFit (row i) && nonePending (row i)) 0 n
+      (all-both (λ i. ticksFit (row i)) last 0 n
       ∙ ap (λ (b : Bool). allFrom (λ i. ticksFit (row i)) 0 n && b)
-      (all-both (λ i. awaitedFit (row i)) (λ i. nonePending (row i)) 0 n)))
+      (all-both flags (λ i. causeFits (row i)) 0 n
+      ∙ ap (λ (b : Bool). b && allFrom (λ i. causeFits (row i)) 0 n)
+      (all-both (λ i. awaitedFit (row i)) (λ i. nonePending (row i)) 0 n))))
 
   -- each rule that is kept, of tables that hang together or not
-  all-kept : allFrom (isKept p clock) 1 14
+  all-kept : allFrom (isKept p clock) 1 15
       ≡ sizesFit (p .sizes)
       && (frequencyFits (clock .frequency)
       && (countersFit (p .kernel) (p .sizes)
@@ -280,7 +288,8 @@ module _ (p : Plant) (clock : Clock) (sized : length (p .kernel .threads) ≡ 16
       && (all-keep p clock 10
       && (all-keep p clock 11
       && (walk-free p clock
-      && (readyFits (p .kernel) (p .sizes .threads) && (waitingFits (p .kernel) (p .sizes) && true)))))))))))))
+      && (readyFits (p .kernel) (p .sizes .threads)
+      && (waitingFits (p .kernel) (p .sizes) && (all-keep p clock 15 && true))))))))))))))
   unfolding allFrom badAt
   all-kept =
       each sizes-kept
@@ -294,7 +303,7 @@ module _ (p : Plant) (clock : Clock) (sized : length (p .kernel .threads) ≡ 16
       (each (rows-kept p clock 9)
       (each (rows-kept p clock 10)
       (each (rows-kept p clock 11)
-      (each (running-kept p clock sized) (each ready-kept (each waiting-kept refl)))))))))))))
+      (each (running-kept p clock sized) (each ready-kept (each waiting-kept (each (rows-kept p clock 15) refl))))))))))))))
 
   pub rule-none : eqb (broken p clock .rule) 0 ≡ hangsTogether p clock
   unfolding hangsTogether wordsFit
@@ -307,7 +316,7 @@ module _ (p : Plant) (clock : Clock) (sized : length (p .kernel .threads) ≡ 16
       ∙ all-kept
       ∙ reordered (sizesFit (p .sizes)) (frequencyFits (clock .frequency)) (countersFit (p .kernel) (p .sizes))
       (referencesFit (p .kernel) (p .sizes)) (mailboxesFit p) (poolsFit p) (all-keep p clock 7) (all-keep p clock 8)
-      (all-keep p clock 9) (all-keep p clock 10) (all-keep p clock 11) (walk-free p clock) ready waiting)
+      (all-keep p clock 9) (all-keep p clock 10) (all-keep p clock 11) (walk-free p clock) ready waiting (all-keep p clock 15))
 
 -- ---- the rules of a record
 
@@ -329,7 +338,8 @@ module _ (p : Plant) (clock : Clock) where
       let call = both-means (all-keep p clock 8) _ all in
       let wait = both-means (all-keep p clock 9) _ (call .1) in
       let ticks = both-means (all-keep p clock 7) _ (wait .1) in
-      let flags = both-means (all-keep p clock 10) (all-keep p clock 11) (ticks .1) in
+      let rest = both-means (all-keep p clock 10 && all-keep p clock 11) _ (ticks .1) in
+      let flags = both-means (all-keep p clock 10) (all-keep p clock 11) (rest .0) in
       rw (
         t,
         kept-finds 7 (foundTo p clock 6) (ticks .0),
@@ -339,3 +349,18 @@ module _ (p : Plant) (clock : Clock) where
         kept-finds 11 (foundTo p clock 6) (flags .1),
       ))
       (λ t. rw t))
+
+  -- nor is the rule of causes
+  pub cause-row : length (p .kernel .threads) ≡ 16 → (fit : Bool) → fit ≡ rowsFit (p .kernel) (p .sizes)
+      → badCause fit (p .kernel .threads) (p .sizes) ≡ badAt p clock 15
+  unfolding badAt
+  cause-row sized fit f =
+      split fit
+      (λ t.
+      let all = sym (records-kept p clock sized) ∙ (sym f ∙ t) in
+      let call = both-means (all-keep p clock 8) _ all in
+      let wait = both-means (all-keep p clock 9) _ (call .1) in
+      let ticks = both-means (all-keep p clock 7) _ (wait .1) in
+      let rest = both-means (all-keep p clock 10 && all-keep p clock 11) (all-keep p clock 15) (ticks .1) in
+      rw t (sym (eqb-true (badRow (p .kernel .threads) (p .sizes) 15) nobody (rows-kept p clock 15 ∙ rest .1))))
+      (λ t. rw t)

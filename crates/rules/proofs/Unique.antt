@@ -33,6 +33,8 @@ use Rattle.rules.proofs.row_rules.awaited_fit.Reads as row-rules-awaite
 use Rattle.rules.proofs.row_rules.awaited_fit.Kinds as row-rules-awaited-fit-kinds
 use Rattle.rules.proofs.row_rules.none_pending.Reads as row-rules-none-pending
 use Rattle.rules.proofs.row_rules.none_pending.Kinds as row-rules-none-pending-kinds
+use Rattle.rules.proofs.row_rules.cause_fits.Reads as row-rules-cause-fits
+use Rattle.rules.proofs.row_rules.cause_fits.Kinds as row-rules-cause-fits-kinds
 use Rattle.rules.proofs.row_rules.row_fits.Reads as row-rules-row-fits
 use Rattle.rules.proofs.row_rules.row_fits.Kinds as row-rules-row-fits-kinds
 use Rattle.rules.proofs.walking.walk.Reads as walking-walk
@@ -87,6 +89,9 @@ row-rules-awaited-fit-one κs a e x y = coincide
 
 pub row-rules-none-pending-one : Fixes 0 row-rules-none-pending-kinds.ps row-rules-none-pending-kinds.r row-rules-none-pending.Post
 row-rules-none-pending-one κs a e x y = coincide
+
+pub row-rules-cause-fits-one : Fixes 0 row-rules-cause-fits-kinds.ps row-rules-cause-fits-kinds.r row-rules-cause-fits.Post
+row-rules-cause-fits-one κs a e x y = coincide
 
 pub row-rules-row-fits-one : Fixes 0 row-rules-row-fits-kinds.ps row-rules-row-fits-kinds.r row-rules-row-fits.Post
 row-rules-row-fits-one κs a e x y = coincide

@@ -17,7 +17,7 @@ use Rattle.library.specs.declared.tables.Plant.{Plant}
 use Rattle.library.specs.Sizes.{sizesFit}
 use Rattle.rules.specs.declared.finding.Broken.{Broken}
 use Rattle.rules.specs.Limits.{firstBad}
-use Rattle.rules.specs.RowRules.{callFits, waitFits, ticksFit, awaitedFit, nonePending}
+use Rattle.rules.specs.RowRules.{callFits, waitFits, ticksFit, awaitedFit, nonePending, causeFits}
 use Rattle.rules.specs.PlaceRules.{badPlace}
 use Rattle.rules.specs.ReferenceRules.{badReference}
 use Rattle.rules.specs.MailboxRules.{badMailbox}
@@ -28,16 +28,21 @@ use Rattle.rules.specs.WordRules.{readyWord, readyFits, badWord}
 abbrev pub wholly : Bool → ℕ
 wholly fits = cond fits nobody 0
 
--- the rules of a thread's record: 7 remaining ticks, 8 its call, 9 its wait, 10 its awaited flags, 11 its pending flags
+-- the rules of a thread's record: 7 remaining ticks, 8 its call, 9 its wait, 10 its awaited flags, 11 its pending flags, 15 its cause
 abbrev pub rowKeeps : Sizes → ℕ → Thread → Bool
 rowKeeps z rule t =
     cond (eqb rule 7) (ticksFit t)
     (cond (eqb rule 8) (callFits t z)
-    (cond (eqb rule 9) (waitFits t) (cond (eqb rule 10) (awaitedFit t) (nonePending t))))
+    (cond (eqb rule 9) (waitFits t)
+    (cond (eqb rule 10) (awaitedFit t) (cond (eqb rule 11) (nonePending t) (causeFits t)))))
 
 -- the first thread whose record breaks one of them
 abbrev pub badRow : List Thread → Sizes → ℕ → ℕ
 badRow threads z rule = firstBad (λ i. rowKeeps z rule (rowIn threads i)) (usedRows (z .threads))
+
+-- the first thread whose cause is not of the list; none where all records fit
+abbrev pub badCause : Bool → List Thread → Sizes → ℕ
+badCause fit threads z = cond fit nobody (badRow threads z 15)
 
 -- the running thread, where it has an unfinished call: the first of those whom a walk finds ready, whatever the tables' own word says
 abbrev pub badRunning : List Thread → ℕ → ℕ
@@ -65,15 +70,15 @@ abbrev pub brokenAs : Plant → Clock → ℕ → Broken
 brokenAs p clock rule =
     cond (eqb rule nobody) (record { rule = 0; row = 0 }) (record { rule = rule; row = badAt p clock rule })
 
--- the first of the rules 1 to 14 that is broken
+-- the first of the rules 1 to 15 that is broken
 unfoldable pub broken : Plant → Clock → Broken
-broken p clock = brokenAs p clock (firstFrom (λ rule. not (isKept p clock rule)) 1 14)
+broken p clock = brokenAs p clock (firstFrom (λ rule. not (isKept p clock rule)) 1 15)
 
 -- what was found before; where that is nothing, a row that breaks the next rule
 unfoldable pub orElse : Broken → ℕ → ℕ → Broken
 orElse found rule row = cond (eqb (found .rule) 0 && not (eqb row nobody)) (record { rule = rule; row = row }) found
 
--- the same for the rules of a record, none of which is broken where all records fit
+-- the same for the rules of a record that document 01 has, none of which is broken where all records fit
 unfoldable pub orRow : Broken → Bool → List Thread → Sizes → Broken
 orRow found fit threads z =
     cond fit found

@@ -5,7 +5,7 @@ use lib.Dec.{eqb, ltb, leb}
 use Rattle.kernel.specs.declared.records.Call.{Call}
 use Rattle.kernel.specs.declared.records.Thread.{Thread}
 use Rattle.kernel.specs.declared.records.Kernel.{Kernel}
-use Rattle.kernel.specs.Numbers.{nowhere, ready, sleeping, suspended, queued, awaiting, infinite}
+use Rattle.kernel.specs.Numbers.{nowhere, ready, sleeping, suspended, queued, awaiting, infinite, byTick}
 use Rattle.kernel.specs.Places.{semaphorePlace, poolPlace, queuePlace, writersPlace, readersPlace}
 use Rattle.kernel.specs.Tables.{usedRows, threadAt}
 use Rattle.kernel.specs.Waiters.{isReady}
@@ -96,9 +96,13 @@ nonePending t = not (isMet t)
 unfoldable pub flagsFit : Thread → Bool
 flagsFit t = awaitedFit t && nonePending t
 
+-- of document 02: "a cause outside the list" does not hang together
+abbrev pub causeFits : Thread → Bool
+causeFits t = leb (t .cause) byTick
+
 -- a thread's record hangs together by itself
 unfoldable pub rowFits : Thread → Sizes → Bool
-rowFits t z = callFits t z && (waitFits t && (ticksFit t && flagsFit t))
+rowFits t z = callFits t z && (waitFits t && (ticksFit t && (flagsFit t && causeFits t)))
 
 -- each of the T records does so
 unfoldable pub rowsFit : Kernel → Sizes → Bool

@@ -7,6 +7,7 @@ use crate::pool_rules::first_bad_pool;
 use crate::reference_rules::first_bad_reference;
 use crate::row_rules::awaited_fit;
 use crate::row_rules::call_fits;
+use crate::row_rules::cause_fits;
 use crate::row_rules::none_pending;
 use crate::row_rules::ticks_fit;
 use crate::row_rules::wait_fits;
@@ -24,7 +25,7 @@ use library::sizes::sizes_fit;
 use library::tables::Tables;
 ghost use mathlib.Core.Path.{_≡_};
 ghost use Rattle.library.specs.Tables.{opened};
-ghost use Rattle.rules.specs.Finding.{wholly, rowKeeps, badRow, badRunning, orElse, orRow, broken};
+ghost use Rattle.rules.specs.Finding.{wholly, rowKeeps, badRow, badRunning, badCause, orElse, orRow, broken};
 
 // The first rule that is broken and the row that it concerns; 0 and 0 where none is.
 pub struct Broken {
@@ -39,7 +40,7 @@ fn bad_whole(fits: bool) -> u16
     if fits { NO_ROW } else { 0 }
 }
 
-// Whether a thread's record keeps one of the rules 7 to 11.
+// Whether a thread's record keeps one of the rules 7 to 11, or 15.
 fn keeps_rule(t: Thread, z: Sizes, rule: u16) -> bool
     ensures { λ r. ⌜ r ≡ rowKeeps z rule t ⌝ }
 {
@@ -48,11 +49,12 @@ fn keeps_rule(t: Thread, z: Sizes, rule: u16) -> bool
         8 => call_fits(t, z),
         9 => wait_fits(t),
         10 => awaited_fit(t),
-        _ => none_pending(t),
+        11 => none_pending(t),
+        _ => cause_fits(t),
     }
 }
 
-// The first thread whose record breaks one of the rules 7 to 11, or NO_ROW.
+// The first thread whose record breaks one of the rules 7 to 11, or 15; or NO_ROW.
 fn first_bad_row(threads: [Thread; 16], z: Sizes, rule: u16) -> u16
     ensures { λ r. ⌜ r ≡ badRow threads z rule ⌝ }
 {
@@ -110,6 +112,17 @@ fn or_row(found: Broken, fit: bool, threads: [Thread; 16], z: Sizes) -> Broken
     or_else(r, 11, first_bad_row(threads, z, 11))
 }
 
+// The first thread that breaks rule 15, which is looked for only where not all records fit.
+fn bad_cause(fit: bool, threads: [Thread; 16], z: Sizes) -> u16
+    ensures { λ r. ⌜ r ≡ badCause fit threads z ⌝ }
+{
+    if fit {
+        NO_ROW
+    } else {
+        first_bad_row(threads, z, 15)
+    }
+}
+
 // Looks for the first rule that is broken. All are tested, whatever was found: each reads within its table.
 pub fn find_broken(t: Tables, clock: Clock) -> Broken
     ensures { λ r. ⌜ r ≡ broken (opened t) clock ⌝ }
@@ -126,6 +139,7 @@ pub fn find_broken(t: Tables, clock: Clock) -> Broken
     let waited = w.waiting;
     let suspended = w.suspended;
     let promised = w.promised;
+    let cause = bad_cause(w.rows, threads, z);
     let mut r = Broken { rule: 0, row: 0 };
     r = or_else(r, 1, bad_whole(sizes_fit(z)));
     r = or_else(r, 2, bad_whole(frequency_fits(clock.frequency)));
@@ -136,5 +150,6 @@ pub fn find_broken(t: Tables, clock: Clock) -> Broken
     r = or_row(r, w.rows, threads, z);
     r = or_else(r, 12, bad_running(threads, w.ready));
     r = or_else(r, 13, bad_whole(words.ready == w.ready));
-    or_else(r, 14, first_bad_word(waiting, waited, z))
+    r = or_else(r, 14, first_bad_word(waiting, waited, z));
+    or_else(r, 15, cause)
 }

@@ -11,6 +11,7 @@ use kernel::kinds::KEPT_SLEEP_FOR;
 use kernel::kinds::KEPT_SLEEP_UNTIL;
 use kernel::kinds::KEPT_SUSPEND;
 use kernel::numbers::AWAITING;
+use kernel::numbers::CAUSE_TICK;
 use kernel::numbers::INFINITE;
 use kernel::numbers::NOWHERE;
 use kernel::numbers::QUEUED;
@@ -44,6 +45,7 @@ ghost use Rattle.rules.specs.RowRules.{
   awaitedFit,
   nonePending,
   flagsFit,
+  causeFits,
   rowFits,
 };
 
@@ -220,9 +222,16 @@ fn flags_fit(t: Thread) -> bool
     awaited_fit(t) && none_pending(t)
 }
 
+// Whether its cause is one of the list.
+pub fn cause_fits(t: Thread) -> bool
+    ensures { λ r. ⌜ r ≡ causeFits t ⌝ }
+{
+    t.cause <= CAUSE_TICK
+}
+
 // Whether a thread's record hangs together by itself.
 pub fn row_fits(t: Thread, z: Sizes) -> bool
     ensures { λ r. ⌜ r ≡ rowFits t z ⌝ }
 {
-    call_fits(t, z) && (wait_fits(t) && (ticks_fit(t) && flags_fit(t)))
+    call_fits(t, z) && (wait_fits(t) && (ticks_fit(t) && (flags_fit(t) && cause_fits(t))))
 }

@@ -18,6 +18,7 @@ use Rattle.library.specs.declared.tables.Plant.{Plant}
 use Rattle.steps.specs.declared.stepping.Outcome.{Outcome}
 use Rattle.steps.specs.declared.stepping.Stepped.{Stepped}
 use Rattle.library.specs.Tables.{opened, closed}
+use Rattle.library.specs.Causes.{caused}
 use Rattle.library.specs.Acting.{acted}
 use Rattle.library.specs.Settling.{runningIn, settled}
 use Rattle.steps.specs.Refusal.{refusalOf}
@@ -78,9 +79,13 @@ unfoldable pub refusedWith : Tables → Clock → Plant → ℕ → Stepped
 refusedWith t c p code =
     record { tables = t; clock = c; outcome = refusedOutcome code (runningAtRefusal (runningIn p) code) }
 
+-- an accepted step begins, with its number and the cause of its kind
+abbrev pub started : Tables → Step → Plant
+started t s = caused (opened t) (s .kind)
+
 -- one step
 unfoldable pub stepped : Tables → Clock → Step → Stepped
 stepped t c s =
     cond (eqb (refusalOf (opened t) c s) 0)
-    (settledWith (t .sizes .threads) (acted (opened t) (c .time) s) c s)
+    (settledWith (t .sizes .threads) (acted (started t s) (c .time) s) c s)
     (refusedWith t c (opened t) (refusalOf (opened t) c s))

@@ -17,6 +17,7 @@ use kernel::words::first_in;
 use library::acting::act_on_box;
 use library::acting::act_on_kernel;
 use library::calls::Step;
+use library::causes::cause_of;
 use library::settling::settle;
 use library::tables::Plant;
 use library::tables::Tables;
@@ -24,11 +25,10 @@ use library::tables::close;
 use library::tables::open;
 use library::tables::set_kernel;
 ghost use mathlib.Core.Path.{_≡_};
-ghost use Rattle.kernel.specs.Records.{begun};
 ghost use Rattle.kernel.specs.Walk.{bit};
 ghost use Rattle.library.specs.Acting.{actedOnBox, actedOnKernel};
 ghost use Rattle.library.specs.Tables.{opened, withKernel};
-ghost use Rattle.steps.specs.Stepping.{maskOf, answerOf, outcomeOf, refusedOutcome, clockAfter, budgetOf, doneWith, settledWith, runningAtRefusal, refusedWith, stepped};
+ghost use Rattle.steps.specs.Stepping.{maskOf, answerOf, outcomeOf, refusedOutcome, clockAfter, budgetOf, doneWith, settledWith, runningAtRefusal, refusedWith, started, stepped};
 
 // A step's result. The masks have bit i for thread i.
 #[repr(C)]
@@ -158,10 +158,11 @@ fn settle_step(p: Plant, n: u16, clock: Clock, s: Step) -> Stepped
 
 // An accepted step of kinds 1 to 14. The kernel part's records go through it alone; the whole tables only where a call is continued.
 fn step_kernel(tables: Tables, clock: Clock, s: Step) -> Stepped
-    ensures { λ r. ⌜ r ≡ settledWith (tables .sizes .threads) (withKernel (opened tables) (actedOnKernel (begun (tables .kernel)) (tables .sizes .threads) (clock .time) s)) clock s ⌝ }
+    ensures { λ r. ⌜ r ≡ settledWith (tables .sizes .threads) (withKernel (started tables s) (actedOnKernel (started tables s .kernel) (tables .sizes .threads) (clock .time) s)) clock s ⌝ }
 {
     let n = tables.sizes.threads;
-    let k = act_on_kernel(begin(tables.kernel), n, clock.time, s);
+    let kind = s.kind as u16;
+    let k = act_on_kernel(begin(tables.kernel, cause_of(kind)), n, clock.time, s);
     if running_free(k) {
         let outcome = outcome_of(k, s.caller);
         let after = clock_after(clock, s.kind);
@@ -173,16 +174,16 @@ fn step_kernel(tables: Tables, clock: Clock, s: Step) -> Stepped
             outcome: outcome,
         }
     } else {
-        settle_step(set_kernel(open(tables), k), n, clock, s)
+        settle_step(set_kernel(open(tables, kind), k), n, clock, s)
     }
 }
 
 // An accepted step of kinds 15 to 22.
 fn step_box(tables: Tables, clock: Clock, s: Step) -> Stepped
-    ensures { λ r. ⌜ r ≡ settledWith (tables .sizes .threads) (actedOnBox (opened tables) s) clock s ⌝ }
+    ensures { λ r. ⌜ r ≡ settledWith (tables .sizes .threads) (actedOnBox (started tables s) s) clock s ⌝ }
 {
     let n = tables.sizes.threads;
-    let p = act_on_box(open(tables), s);
+    let p = act_on_box(open(tables, s.kind as u16), s);
     if running_free(p.kernel) {
         end_step(p, clock, s)
     } else {

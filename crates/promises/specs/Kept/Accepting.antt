@@ -8,12 +8,20 @@ use lib.Dec.{leb}
 use borrow.Author.Tests.{eq-eqb, leb-false}
 use Rattle.kernel.specs.declared.clock.Clock.{Clock}
 use Rattle.kernel.specs.Numbers.{nobody}
+use Rattle.kernel.specs.Waiters.{firstReady}
 use Rattle.kernel.proofs.Cases.{contrary}
 use Rattle.library.specs.declared.calls.Step.{Step}
 use Rattle.library.specs.declared.tables.Plant.{Plant}
 use Rattle.library.specs.Acting.{kernelWaits}
+use Rattle.library.specs.Causes.{caused}
 use Rattle.library.specs.Settling.{runningIn}
 use Rattle.rules.specs.Hanging.{hangsTogether}
+use Rattle.rules.specs.RowRules.{rowsFit}
+use Rattle.rules.specs.PlaceRules.{queuedCount, countersFit}
+use Rattle.rules.specs.ReferenceRules.{holderFits, referencesFit}
+use Rattle.rules.specs.MailboxRules.{mailboxesFit}
+use Rattle.rules.specs.PoolRules.{promisedCount, poolsFit}
+use Rattle.rules.specs.WordRules.{readyWord, waitingWord, readyFits, waitingFits, wordsFit}
 use Rattle.steps.specs.Refusal.{kindFits, callerFits, contextFits, objectLimit, valueFits, stateFits, refusalOf}
 
 -- none of the seven refusals is given
@@ -63,6 +71,20 @@ module _ (p : Plant) (c : Clock) (s : Step) where
         object = leb-false (objectLimit (p .sizes) (s .kind)) (s .object) (g .0);
         value = h .0;
         state = i .0;
+      }
+
+  -- whatever call is at work
+  pub accepted-as : (kind : ℕ) → Accepted p c s → Accepted (caused p kind) c s
+  unfolding hangsTogether rowsFit countersFit queuedCount referencesFit holderFits mailboxesFit poolsFit promisedCount firstReady readyWord waitingWord readyFits waitingFits wordsFit
+  accepted-as kind a =
+      record {
+        hangs = a .hangs;
+        kind = a .kind;
+        caller = a .caller;
+        context = a .context;
+        object = a .object;
+        value = a .value;
+        state = a .state;
       }
 
   -- who calls where an interrupt may not is a thread

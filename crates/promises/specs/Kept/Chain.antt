@@ -20,7 +20,7 @@ use Rattle.kernel.specs.Numbers.{nobody, ready, queued, suspended, awaiting, ok
 use Rattle.kernel.specs.Records.{begun, ended}
 use Rattle.kernel.specs.Counters.{up, down}
 use Rattle.kernel.specs.Places.{poolPlace, queuePlace, writersPlace, readersPlace}
-use Rattle.kernel.specs.Tables.{threadAt, counterAt, holderAt, withThread, withCounter, withAnswer}
+use Rattle.kernel.specs.Tables.{threadAt, counterAt, holderAt, withThread, withCounter, withAnswer, withCause}
 use Rattle.kernel.specs.Moves.{readied, asleep, answered, awaitedBy, woken, slept, finished}
 use Rattle.kernel.specs.Walk.{bit}
 use Rattle.kernel.specs.Waiters.{queuedAt}
@@ -185,6 +185,8 @@ pub data Move (z : Sizes) (k : Kernel) : Kernel → List Note → Type 0 where
       → Move z k (withThread k i (withPending (threadAt k i) f)) []
   -- a step is over, and the next begins
   begins : Move z k (begun (ended k)) []
+  -- another call is at work
+  causes : (c : ℕ) → c ≤ 8 → Move z k (withCause k c) []
 
 -- from k to h, move by move, with all notes on the way
 pub data Chain (z : Sizes) (h : Kernel) : Kernel → List Note → Type 0 where
@@ -237,7 +239,20 @@ isSlept i (takeAt p) = false
 module _ (k : Kernel) where
   -- the flags of a step begin anew
   begun-sized : Sized k → Sized (begun (ended k))
-  begun-sized s = record { threads = s .threads; counters = s .counters; references = s .references; woken = refl; finished = refl; waiting = s .waiting }
+  begun-sized s = record { threads = s .threads; counters = s .counters; references = s .references; woken = refl; finished = refl; waiting = s .waiting; cause = omega arith }
+
+  -- another cause of the list
+  caused-sized : (c : ℕ) → c ≤ 8 → Sized k → Sized (withCause k c)
+  caused-sized c l s =
+      record {
+        threads = s .threads;
+        counters = s .counters;
+        references = s .references;
+        woken = s .woken;
+        finished = s .finished;
+        waiting = s .waiting;
+        cause = l;
+      }
 
 -- ---- one thread's record, in each move
 
@@ -246,7 +261,7 @@ promised-ready t e = eqb-true (t .state) ready (both-means (eqb (t .state) ready
 
 -- what holds of record i after a move of record j: of the changed one if it is j's, else as before
 module _ (P : Thread → Type 0) (k : Kernel) (i : ℕ) (here : i < length (k .threads)) where
-  woken-row : (j : ℕ) (m : ℤ) → (i ≡ j → P (readied (threadAt k i) m)) → P (threadAt k i) → P (threadAt (woken k j m) i)
+  woken-row : (j : ℕ) (m : ℤ) → (i ≡ j → P (readied (threadAt k i) m (k .cause) (k .steps))) → P (threadAt k i) → P (threadAt (woken k j m) i)
   woken-row j m f g =
       same-or i j (λ e. rw (sym e, wake-row k i m here) (f e)) (λ d. rw (wake-others k j m i d) g)
 
@@ -267,9 +282,10 @@ module _ (P : Thread → Type 0) (k : Kernel) (i : ℕ) (here : i < length (k .t
       (λ d. rw (thread-other k j (withPending (threadAt k j) f) i d) g)
 
 -- a tick's record
-aged-good : (z : Sizes) (t : Thread) → GoodThread z t → GoodThread z (aged t)
-aged-good z t g =
-    same-or (t .remaining) 1 (λ e. rw (aged-last t e) (readied-good z t timedOut g)) (λ d. rw (aged-counted t d) (counted-good z t d g))
+aged-good : (z : Sizes) (c n : ℕ) (t : Thread) → c ≤ 8 → GoodThread z t → GoodThread z (aged c n t)
+aged-good z c n t l g =
+    same-or (t .remaining) 1 (λ e. rw (aged-last c n t e) (readied-good z t timedOut c n l g))
+    (λ d. rw (aged-counted c n t d) (counted-good z t d g))
 
 module _ (z : Sizes) (few : z .threads ≤ 16) (i : ℕ) (within : i < z .threads) where
   below : {k : Kernel} → Sized k → i < length (k .threads)
@@ -281,19 +297,19 @@ module _ (z : Sizes) (few : z .threads ≤ 16) (i : ℕ) (within : i < z .thread
   someone : {j : ℕ} → j < z .threads → j ≢ nobody
   someone h = omega arith
 
-  aging : (k : Kernel) → threadAt (ticked k (z .threads)) i ≡ aged (threadAt k i)
+  aging : (k : Kernel) → threadAt (ticked k (z .threads)) i ≡ aged (k .cause) (k .steps) (threadAt k i)
   aging k = tick-row k (z .threads) i (rw (used-all (z .threads) few) within)
 
   -- A RECORD THAT HANGS TOGETHER STAYS SO
   pub move-good : {k h : Kernel} {ms : List Note} → Move z k h ms → Sized k → GoodThread z (threadAt k i) → GoodThread z (threadAt h i)
   unfolding taken
-  move-good {k} (Move.wakes j m w) s g = woken-row (GoodThread z) k i (below s) j m (λ e. readied-good z (threadAt k i) m g) g
-  move-good {k} (Move.passes p j l f) s g = woken-row (GoodThread z) k i (below s) j ok (λ e. readied-good z (threadAt k i) ok g) g
+  move-good {k} (Move.wakes j m w) s g = woken-row (GoodThread z) k i (below s) j m (λ e. readied-good z (threadAt k i) m (k .cause) (k .steps) (s .cause) g) g
+  move-good {k} (Move.passes p j l f) s g = woken-row (GoodThread z) k i (below s) j ok (λ e. readied-good z (threadAt k i) ok (k .cause) (k .steps) (s .cause) g) g
   move-good (Move.raises p l e b) s g = g
-  move-good {k} Move.ages s g = rw (aging k) (aged-good z (threadAt k i) g)
+  move-good {k} Move.ages s g = rw (aging k) (aged-good z (k .cause) (k .steps) (threadAt k i) (s .cause) g)
   move-good {k} (Move.sleeps j c w) s g =
       slept-row (GoodThread z) k i (below s) j (waitState (c .kind)) (waitPlace (c .kind) (c .object)) c low
-      (λ e. asleep-good z (threadAt k i) c (w .fits) (rw e (w .flags))) g
+      (λ e. asleep-good z (threadAt k i) c (w .fits) (rw e (w .flags)) (g .cause)) g
   move-good (Move.takes p l e) s g = g
   move-good (Move.sets p c w) s g = g
   move-good {k} (Move.finishes j m d f) s g =
@@ -305,6 +321,7 @@ module _ (z : Sizes) (few : z .threads ≤ 16) (i : ℕ) (within : i < z .thread
   move-good (Move.answers a) s g = g
   move-good {k} (Move.flags j f e) s g = flagged-row (GoodThread z) k i (below s) j f (λ x. flags-good z (threadAt k i) f (rw x e) g) g
   move-good Move.begins s g = g
+  move-good (Move.causes c l) s g = g
 
   -- WHO HAS NO CALL HAS NONE UNTIL IT SLEEPS IN ONE
   pub move-idle : {k h : Kernel} {ms : List Note} → Move z k h ms → Sized k → GoodThread z (threadAt k i) → countIn (isSlept i) ms ≡ 0
@@ -316,7 +333,7 @@ module _ (z : Sizes) (few : z .threads ≤ 16) (i : ℕ) (within : i < z .thread
   move-idle (Move.raises p l e b) s g o a = a
   move-idle {k} Move.ages s g o a =
       rw (aging k)
-      (rw (aged-counted (threadAt k i) (λ e. omega (arith, e, g .ready-ticks (a .is-ready))))
+      (rw (aged-counted (k .cause) (k .steps) (threadAt k i) (λ e. omega (arith, e, g .ready-ticks (a .is-ready))))
       (record { is-ready = a .is-ready; no-call = a .no-call }))
   move-idle {k} (Move.sleeps j c w) s g o a =
       slept-row Idle k i (below s) j (waitState (c .kind)) (waitPlace (c .kind) (c .object)) c low
@@ -331,6 +348,7 @@ module _ (z : Sizes) (few : z .threads ≤ 16) (i : ℕ) (within : i < z .thread
   move-idle {k} (Move.flags j f e) s g o a =
       flagged-row Idle k i (below s) j f (λ x. record { is-ready = a .is-ready; no-call = a .no-call }) a
   move-idle Move.begins s g o a = a
+  move-idle (Move.causes c l) s g o a = a
 
 -- ---- the rules of places and references
 
@@ -483,6 +501,15 @@ module _ (z : Sizes) (g : GoodSizes z) where
         words = same-said z k (begun (ended k)) refl (λ j. refl) (λ j. refl) (r .words);
       }
 
+  cause-rules : (k : Kernel) (c : ℕ) → c ≤ 8 → Rules z k → Rules z (withCause k c)
+  cause-rules k c l r =
+      record {
+        sized = caused-sized k c l (r .sized);
+        places = λ q h u. same-tallies k (withCause k c) n q (λ i. refl) refl (r .places q h u);
+        references = λ o h. same-holds k (withCause k c) n o (λ i. refl) refl (r .references o h);
+        words = same-said z k (withCause k c) refl (λ j. refl) (λ j. refl) (r .words);
+      }
+
   answer-rules : (k : Kernel) (a : Answer) → Rules z k → Rules z (withAnswer k a)
   answer-rules k a r =
       record {
@@ -510,6 +537,7 @@ module _ (z : Sizes) (g : GoodSizes z) where
   move-rules {k} (Move.answers a) r = answer-rules k a r
   move-rules {k} (Move.flags i f e) r = flags-rules k i f r
   move-rules {k} Move.begins r = begin-rules k r
+  move-rules {k} (Move.causes c l) r = cause-rules k c l r
 
 -- all rules of the kernel's tables
 pub record Sound (z : Sizes) (k : Kernel) : Type 0 where
@@ -563,6 +591,7 @@ module _ (z : Sizes) (g : GoodSizes z) where
   move-rest {k} (Move.answers a) s = rest-same z k (withAnswer k a) refl
   move-rest {k} (Move.flags i f e) s = rest-same z k (withThread k i (withPending (threadAt k i) f)) refl
   move-rest {k} Move.begins s = rest-same z k (begun (ended k)) refl
+  move-rest {k} (Move.causes c l) s = rest-same z k (withCause k c) refl
 
   pub chain-rest : {h k : Kernel} {ms : List Note} → Chain z h k ms → Sound z k → Rest z k h
   chain-rest {k = k} Chain.stop s = rest-same z k k refl

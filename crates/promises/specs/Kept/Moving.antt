@@ -210,7 +210,7 @@ module _ (z : Sizes) (g : GoodSizes z) where
 
   -- it leaves neither a place nor a reference
   wake-alone : (k : Kernel) (i : ℕ) (m : ℤ) → threadAt k i .state ≡ awaiting
-      → woken k i m ≡ withWords (withWoken (withThread k i (readied (threadAt k i) m)) i) (alone k i)
+      → woken k i m ≡ withWords (withWoken (withThread k i (readied (threadAt k i) m (k .cause) (k .steps))) i) (alone k i)
   unfolding woken takenOff
   wake-alone k i m e = rw e
 
@@ -219,14 +219,17 @@ module _ (z : Sizes) (g : GoodSizes z) where
       → woken (withThread k i (withPending (threadAt k i) f)) i ok ≡ withThread (woken k i ok) i (withPending (threadAt (woken k i ok) i) f)
   told-woken k i f h e =
       wake-alone (withThread k i t) i ok (ap (λ (x : Thread). x .state) (thread-same k i t h) ∙ e)
-      ∙ ap (λ (x : Thread). withWords (withWoken (withThread (withThread k i t) i (readied x ok)) i) (alone k i)) (thread-same k i t h)
-      ∙ ap placed (set-set (k .threads) i t (readied t ok) ∙ sym (set-set (k .threads) i (readied (threadAt k i) ok) (readied t ok)))
+      ∙ ap (λ (x : Thread). withWords (withWoken (withThread (withThread k i t) i (by x)) i) (alone k i)) (thread-same k i t h)
+      ∙ ap placed (set-set (k .threads) i t (by t) ∙ sym (set-set (k .threads) i (by (threadAt k i)) (by t)))
       ∙ sym (ap (λ (x : Kernel). withThread x i (withPending (threadAt (woken k i ok) i) f)) (wake-alone k i ok e)
-      ∙ ap (λ (x : Thread). withThread (withWords (withWoken (withThread k i (readied (threadAt k i) ok)) i) (alone k i)) i (withPending x f))
+      ∙ ap (λ (x : Thread). withThread (withWords (withWoken (withThread k i (by (threadAt k i))) i) (alone k i)) i (withPending x f))
       (wake-row k i ok h))
     where
       t : Thread
       t = withPending (threadAt k i) f
+
+      by : Thread → Thread
+      by x = readied x ok (k .cause) (k .steps)
 
       placed : List Thread → Kernel
       placed l =
@@ -238,6 +241,8 @@ module _ (z : Sizes) (g : GoodSizes z) where
             finished = k .finished;
             answer = k .answer;
             words = alone k i;
+            steps = k .steps;
+            cause = k .cause;
           }
 
   -- 13: "the flags of a are ORed to those pending"; "if its state is awaiting events, for any of them, it is made ready"

@@ -137,14 +137,15 @@ module _ (z : Sizes) (g : GoodSizes z) (q : ℕ) (there : q < z .pools) where
   alloc-queued t f u e o = rw (f .unready-state u, f .unready-place u, e, o, eq-eqb at at refl)
 
   -- so a waking promises an object exactly to a waiter of the pool, with 0
-  promised-readied : (t : Thread) (m : ℤ) → GoodThread z t → t .state ≢ ready → promisedBy q (readied t m) ≡ queuedAt at t && same m ok
-  promised-readied t m f u =
+  promised-readied : (t : Thread) (m : ℤ) (c n : ℕ) → GoodThread z t → t .state ≢ ready
+      → promisedBy q (readied t m c n) ≡ queuedAt at t && same m ok
+  promised-readied t m c n f u =
       split (queuedAt at t)
       (λ e. let k = alloc-kind t f e in rw (e, k .0, k .1, eq-eqb q q refl) (and-true (same m ok)))
       (λ e. rw e
       (same-or (t .call .kind) 20
       (λ k. same-or (t .call .object) q (λ o. contrary (alloc-queued t f u k o) e)
-      (λ d. rw (ne-eqb (t .call .object) q d) (second-fails (isPromised (readied t m)) refl)))
+      (λ d. rw (ne-eqb (t .call .object) q d) (second-fails (isPromised (readied t m c n)) refl)))
       (λ d. rw (ne-eqb (t .call .kind) 20 d))))
 
   unready-unpromised : (t : Thread) → t .state ≢ ready → promisedBy q t ≡ false
@@ -189,7 +190,7 @@ module _ (z : Sizes) (g : GoodSizes z) (q : ℕ) (there : q < z .pools) where
       omega (
         arith,
         wake-stock k i m l (x .0) (x .1),
-        rw (unready-unpromised (threadAt k i) u, wake-row k i m (row-in k s i l), promised-readied (threadAt k i) m (s .rows i l) u)
+        rw (unready-unpromised (threadAt k i) u, wake-row k i m (row-in k s i l), promised-readied (threadAt k i) m (k .cause) (k .steps) (s .rows i l) u)
             at (count-change (λ j. promisedBy q (threadAt (woken k i m) j)) (λ j. promisedBy q (threadAt k j)) n i l
             (λ j h d. ap (promisedBy q) (wake-others k i m j d))),
       )
@@ -260,16 +261,16 @@ module _ (z : Sizes) (g : GoodSizes z) (q : ℕ) (there : q < z .pools) where
             (λ i h p. (p .0, (p .1 .0, row-tallies h n at i (countedOff (threadAt h i)) (λ r. refl) (p .1 .1))))
             (refl, x) .0,
         count-agree (λ i. promisedBy q (threadAt (ticked k n) i)) (λ i. promisedBy q (threadAt k i)) n
-            (λ i l. ap (promisedBy q) (tick-row k n i (rw (used-all n (g .threads .1)) l)) ∙ same-promise (threadAt k i) (s .rows i l)),
+            (λ i l. ap (promisedBy q) (tick-row k n i (rw (used-all n (g .threads .1)) l)) ∙ same-promise (k .cause) (k .steps) (threadAt k i) (s .rows i l)),
       )
     where
-      same-promise : (t : Thread) → GoodThread z t → promisedBy q (aged t) ≡ promisedBy q t
-      same-promise t f =
+      same-promise : (c n : ℕ) (t : Thread) → GoodThread z t → promisedBy q (aged c n t) ≡ promisedBy q t
+      same-promise c n t f =
           same-or (t .remaining) 1
           (λ e.
           let u : t .state ≢ ready = λ r. absurd (none (f .ready-ticks r) e) in
-          rw (aged-last t e) (promised-readied t timedOut f u ∙ second-fails (queuedAt at t) refl ∙ sym (unready-unpromised t u)))
-          (λ d. rw (aged-counted t d))
+          rw (aged-last c n t e) (promised-readied t timedOut c n f u ∙ second-fails (queuedAt at t) refl ∙ sym (unready-unpromised t u)))
+          (λ d. rw (aged-counted c n t d))
         where
           none : t .remaining ≡ 0 → t .remaining ≡ 1 → ⊥
           none a b = omega arith
@@ -362,6 +363,7 @@ module _ (z : Sizes) (g : GoodSizes z) (q : ℕ) (there : q < z .pools) where
   move-owed (Move.answers a) s = refl
   move-owed {k} (Move.flags i f e) s = omega (arith, flags-owed k i f)
   move-owed Move.begins s = refl
+  move-owed (Move.causes c l) s = refl
 
   pub chain-owed : {h k : Kernel} {ms : List Note} → Chain z h k ms → Sound z k
       → owed h + countIn (isTake at) ms ≡ owed k + countIn (isSignal at) ms

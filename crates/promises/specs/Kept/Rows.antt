@@ -57,8 +57,8 @@ kind-some =
 pub not-awaiting : ready ≡ awaiting → ⊥
 not-awaiting e = omega arith
 
-pub readied-good : (z : Sizes) (t : Thread) (m : ℤ) → GoodThread z t → GoodThread z (readied t m)
-readied-good z t m g =
+pub readied-good : (z : Sizes) (t : Thread) (m : ℤ) (c n : ℕ) → c ≤ 8 → GoodThread z t → GoodThread z (readied t m c n)
+readied-good z t m c n l g =
     record {
       object = g .object;
       ready-ticks = λ e. refl;
@@ -74,6 +74,7 @@ readied-good z t m g =
       operand = g .operand;
       awaited = g .awaited;
       none-pending = λ e. absurd (not-awaiting e);
+      cause = l;
     }
 
 -- no kind of call sleeps ready
@@ -91,9 +92,9 @@ ticks-infinite : (t : ℕ) → t ≡ infinite → ticksOf t ≡ 0
 ticks-infinite t e = rw (eq-eqb t infinite e)
 
 pub asleep-good : (z : Sizes) (t : Thread) (c : Call) → CallSound z c
-    → (waitState (c .kind) ≡ awaiting → bitAnd (t .pending) (awaitedBy c) ≡ 0)
+    → (waitState (c .kind) ≡ awaiting → bitAnd (t .pending) (awaitedBy c) ≡ 0) → t .cause ≤ 8
     → GoodThread z (asleepIn t c)
-asleep-good z t c f p =
+asleep-good z t c f p l =
     record {
       object = λ n. f .object;
       ready-ticks = λ e. absurd (waits-unready (c .kind) (f .kind) e);
@@ -109,6 +110,7 @@ asleep-good z t c f p =
       operand = λ n. f .operand;
       awaited = refl;
       none-pending = p;
+      cause = l;
     }
 
 pub answered-good : (z : Sizes) (t : Thread) (m : ℤ) (d : ℕ) → t .state ≡ ready → GoodThread z t
@@ -129,6 +131,7 @@ answered-good z t m d r g =
       operand = λ n. absurd (n refl);
       awaited = refl;
       none-pending = λ e. absurd (not-awaiting (sym r ∙ e));
+      cause = g .cause;
     }
 
 pub counted-good : (z : Sizes) (t : Thread) → t .remaining ≢ 1 → GoodThread z t → GoodThread z (countedOff t)
@@ -148,6 +151,7 @@ counted-good z t l g =
       operand = g .operand;
       awaited = g .awaited;
       none-pending = g .none-pending;
+      cause = g .cause;
     }
   where
     fewer : (r t : ℕ) → r ≢ 1 → (1 ≤ r) × (r ≤ t) → (1 ≤ r - 1) × (r - 1 ≤ t)
@@ -171,6 +175,7 @@ flags-good z t f p g =
       operand = g .operand;
       awaited = g .awaited;
       none-pending = p;
+      cause = g .cause;
     }
 
 -- ---- a thread without a call

@@ -30,12 +30,13 @@ use Rattle.kernel.proofs.WaitersLaws.{TellsAt, first-ready-cases, first-waiter-
 use Rattle.kernel.proofs.MovesLaws.{wake-row, wake-others, wake-past, sleep-row, sleep-others, finish-row, finish-others, block-cases}
 use Rattle.library.specs.declared.sizes.Sizes.{Sizes}
 use Rattle.library.specs.declared.tables.Plant.{Plant}
+use Rattle.library.specs.Causes.{caused}
 use Rattle.library.specs.Signs.{same}
 use Rattle.library.specs.Sizes.{slotsAt}
 use Rattle.library.specs.Ring.{noSlot, fetched}
 use Rattle.library.specs.Mailbox.{messageAt, placedFor, postTried, postDone, fetchTried, fetchDone}
 use Rattle.library.specs.Pool.{topOf, handedOver}
-use Rattle.library.specs.Settling.{isBoxCall, doesMore, answeredOnly, continued, runningIn, isSettled, settled}
+use Rattle.library.specs.Settling.{isBoxCall, doesMore, answeredOnly, wentOn, continued, runningIn, isSettled, settled}
 use Rattle.library.specs.Tables.{mailboxAt, poolAt, withKernel}
 use Rattle.rules.specs.PoolRules.{isPromised}
 use Rattle.steps.specs.Stepping.{budgetOf}
@@ -44,7 +45,7 @@ use Rattle.promises.specs.Kept.Rows.{CallSound}
 use Rattle.promises.specs.Kept.WordRule.{Said, writers-told, readers-told}
 use Rattle.promises.specs.Kept.Chain.{Move, one, rested, after, countIn}
 use Rattle.promises.specs.Kept.Moving.{Free, take-flags-chained}
-use Rattle.promises.specs.Kept.Whole.{Whole, kernel-done}
+use Rattle.promises.specs.Kept.Whole.{Whole, kernel-done, caused-done}
 use Rattle.promises.specs.Kept.BoxActs.{Tries, Tryer, post-tries, fetch-tries, hand-tries, released-row}
 
 -- a thread that runs with an unfinished call
@@ -159,9 +160,9 @@ module _ (p : Plant) (w : Whole (p .sizes) p) (i : ℕ) (d : Due (p .sizes) (p .
         ]
 
   -- "If it has an unfinished call, that call is continued"
-  pub continue-tries : Tries z p (continued p i)
-  unfolding continued
-  continue-tries =
+  pub on-tries : Tries z p (wentOn p i)
+  unfolding wentOn
+  on-tries =
       chosen (Tries z p) (answeredOnly t) others-tries
       (λ e. chosen (Tries z p) (eqb (t .call .kind) 14) (λ n. flags-tries (eqb-true (t .call .kind) 14 n))
       (λ n. chosen (Tries z p) (eqb (t .call .kind) 17) (λ f. fetch-again e n (eqb-true (t .call .kind) 17 f))
@@ -330,9 +331,9 @@ module _ (p : Plant) (w : Whole (p .sizes) p) (i : ℕ) (d : Due (p .sizes) (p .
   hand-lighter o = finish-lighter ok (topOf (poolAt p o))
 
   -- EVERY CONTINUED CALL LOWERS THE WEIGHT
-  continue-lighter : Lighter (continued p i)
-  unfolding continued
-  continue-lighter =
+  on-lighter : Lighter (wentOn p i)
+  unfolding wentOn
+  on-lighter =
       chosen Lighter (answeredOnly (threadAt k' i)) (λ e. finish-lighter (threadAt k' i .message) 0)
       (λ e. chosen Lighter (eqb (threadAt k' i .call .kind) 14) (λ n. flags-lighter (threadAt k' i .call .operand))
       (λ n. chosen Lighter (eqb (threadAt k' i .call .kind) 17)
@@ -381,7 +382,13 @@ continue-at z p w e =
     (w .same)
     (let v = subst (λ (y : Sizes). Whole y p) (sym (w .same)) w in
     let d = unsettled-due z p w e in
-    (continue-tries p v (runningIn p) d, continue-lighter p v (runningIn p) d))
+    let i = runningIn p in
+    let began = caused-done (p .sizes) p (threadAt (p .kernel) i .call .kind) v in
+    let q = caused p (threadAt (p .kernel) i .call .kind) in
+    let at : Due (q .sizes) (q .kernel) i = record { within = d .within; is-ready = d .is-ready; unfinished = d .unfinished } in (
+      tries-then (record { notes = []; done = began }) (on-tries q (began .whole) i at),
+      on-lighter q (began .whole) i at,
+    ))
 
 -- a budget, spent call by call
 pub spent-all : (p : Plant) → settled 0 p ≡ p

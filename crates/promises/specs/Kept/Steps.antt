@@ -1,5 +1,6 @@
 -- "Fresh tables pass, and accepted steps keep it so".
 use Prim.Native.Nat.{ℕ, _≤_}
+use native.Mathlib.Omega.{arith}
 use mathlib.Core.Path.{_≡_, refl, sym, _∙_, subst}
 use mathlib.Core.Bool.{true}
 use mathlib.Core.List.{[]}
@@ -22,14 +23,14 @@ use Rattle.library.specs.Sizes.{sizesFit, noSizes}
 use Rattle.library.specs.Settling.{isSettled, settled}
 use Rattle.library.specs.Tables.{blankMailbox, blankPool, opened, closed}
 use Rattle.steps.specs.declared.stepping.Stepped.{Stepped}
-use Rattle.steps.specs.Stepping.{clockAfter, budgetOf, doneWith, stepped}
+use Rattle.steps.specs.Stepping.{clockAfter, budgetOf, doneWith, started, stepped}
 use Rattle.steps.proofs.StepLaws.{step-code, step-refused}
 use Rattle.promises.specs.Runs.Answers.{step-done}
 use Rattle.promises.specs.Together.Good.{RulesHold}
 use Rattle.promises.specs.Together.Hanging.{test-hangs, all-blank, made-hangs}
-use Rattle.promises.specs.Kept.Accepting.{Accepted, refusal-none}
+use Rattle.promises.specs.Kept.Accepting.{Accepted, refusal-none, accepted-as}
 use Rattle.promises.specs.Kept.Chain.{Move, one, countIn}
-use Rattle.promises.specs.Kept.Whole.{PlantSized, Whole, good-whole, whole-good, whole-sized, kernel-done}
+use Rattle.promises.specs.Kept.Whole.{PlantSized, Whole, good-whole, whole-good, whole-sized, kernel-done, caused-done}
 use Rattle.promises.specs.Kept.KernelActs.{Acts}
 use Rattle.promises.specs.Kept.Acts.{step-acts}
 use Rattle.promises.specs.Kept.Settles.{Settled, settle-ends}
@@ -63,13 +64,16 @@ module _ (t : Tables) (c : Clock) (s : Step) (g : Hangs t c) (e : stepped t c s 
   z = t .sizes
 
   abbrev p : Plant
-  p = opened t
+  p = started t s
 
   accepted : Accepted p c s
-  accepted = refusal-none p c s (sym (step-code t c s) ∙ e)
+  accepted = accepted-as (opened t) c s (s .kind) (refusal-none (opened t) c s (sym (step-code t c s) ∙ e))
+
+  whole : Whole z p
+  whole = caused-done z (opened t) (s .kind) (good-whole (opened t) (g .together .good) (g .sized)) .whole
 
   acts : Acts z p s (acted p (c .time) s)
-  acts = step-acts p c s accepted (good-whole p (g .together .good) (g .sized))
+  acts = step-acts p c s accepted whole
 
   abbrev h : Plant
   h = settled (budgetOf (z .threads)) (acted p (c .time) s)
@@ -93,7 +97,7 @@ step-hangs t c s g =
 fresh-sized : (y : Sizes) → PlantSized (opened (freshTables y))
 fresh-sized y =
     record {
-      kernel = record { threads = refl; counters = refl; references = refl; woken = refl; finished = refl; waiting = refl };
+      kernel = record { threads = refl; counters = refl; references = refl; woken = refl; finished = refl; waiting = refl; cause = omega arith };
       mailboxes = refl;
       messages = λ m h. rw (all-blank 4 blankMailbox m);
       pools = refl;

@@ -4,19 +4,21 @@ use Prim.Native.Nat.{ℕ, _+_, _<_}
 use native.Mathlib.Omega.{arith}
 use mathlib.Core.Path.{_≡_, refl, sym, ap, _∙_, subst}
 use mathlib.Core.Logic.{_⊎_, inl, inr}
-use mathlib.Core.List.{List}
+use mathlib.Core.List.{List, []}
 use lib.ListN.{length}
 use Rattle.kernel.specs.declared.records.Thread.{Thread}
 use Rattle.kernel.specs.declared.records.Kernel.{Kernel}
 use Rattle.kernel.specs.Numbers.{nobody}
 use Rattle.kernel.specs.Places.{poolPlace}
-use Rattle.kernel.specs.Tables.{threadAt, counterAt}
+use Rattle.kernel.specs.Tables.{threadAt, counterAt, withCause}
 use Rattle.kernel.specs.Waiters.{isReady}
 use Rattle.kernel.proofs.Cases.{second-fails}
 use Rattle.kernel.proofs.TablesLaws.{Sized}
 use Rattle.library.specs.declared.sizes.Sizes.{Sizes}
 use Rattle.library.specs.declared.tables.Plant.{Plant}
+use Rattle.library.specs.Causes.{causeOf, caused}
 use Rattle.library.specs.Tables.{mailboxAt, poolAt, withKernel}
+use Rattle.library.proofs.CausesLaws.{cause-listed}
 use Rattle.rules.specs.PoolRules.{promisedCount}
 use Rattle.promises.specs.Together.Good.{GoodSizes, Good}
 use Rattle.promises.specs.Kept.CounterRule.{counters-tally, tally-counters}
@@ -25,7 +27,7 @@ use Rattle.promises.specs.Kept.WordRule.{words-said, said-words}
 use Rattle.promises.specs.Kept.RingKept.{MailboxesGood}
 use Rattle.promises.specs.Kept.PoolKept.{PoolsListed, PoolSized, stock, good-listed, listed-good, good-length, length-promises}
 use Rattle.promises.specs.Kept.Rows.{Idle}
-use Rattle.promises.specs.Kept.Chain.{Note, Chained, countIn, isSlept, Sound, chain-sound, chain-idle}
+use Rattle.promises.specs.Kept.Chain.{Note, Move, one, Chained, countIn, isSlept, Sound, chain-sound, chain-idle}
 use Rattle.promises.specs.Kept.Moving.{Free, Caller}
 use Rattle.promises.specs.Kept.Owed.{isSignal, isTake, owed-is, chain-owed}
 
@@ -149,6 +151,12 @@ kernel-done z p k ms w c e =
       sized = w .pools .sized;
     }) (w .rows)
     (λ q there. ap (λ (x : ℕ). poolAt p q .length + x) (e q there))
+
+-- another call is at work
+pub caused-done : (z : Sizes) (p : Plant) (kind : ℕ) → Whole z p → Done z p (caused p kind) []
+unfolding countIn
+caused-done z p kind w =
+    kernel-done z p (withCause (p .kernel) (causeOf kind)) [] w (one (Move.causes (causeOf kind) (cause-listed kind))) (λ q l. refl)
 
 -- ---- whose step it is
 

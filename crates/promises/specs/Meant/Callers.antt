@@ -8,17 +8,15 @@ use Rattle.kernel.specs.declared.clock.Clock.{Clock}
 use Rattle.kernel.specs.declared.records.Kernel.{Kernel}
 use Rattle.kernel.specs.Numbers.{nobody}
 use Rattle.kernel.specs.Waiters.{firstReady}
-use Rattle.kernel.proofs.TablesLaws.{Sized}
 use Rattle.library.specs.declared.calls.Step.{Step}
 use Rattle.library.specs.declared.tables.Plant.{Plant}
-use Rattle.steps.specs.Refusal.{refusalOf}
 use Rattle.promises.specs.Together.Tests.{either-means}
 use Rattle.promises.specs.Together.Good.{RulesHold}
 use Rattle.promises.specs.Together.Hanging.{test-hangs}
-use Rattle.promises.specs.Kept.Accepting.{Accepted, refusal-none}
+use Rattle.promises.specs.Kept.Accepting.{Accepted}
 use Rattle.promises.specs.Meant.Settling.{FirstReady, NobodyReady, running-first}
 
-module _ (p : Plant) (c : Clock) (s : Step) (z : Sized (p .kernel)) (e : refusalOf p c s ≡ 0) where
+module _ (p : Plant) (c : Clock) (s : Step) (a : Accepted p c s) where
   abbrev k : Kernel
   k = p .kernel
 
@@ -27,9 +25,6 @@ module _ (p : Plant) (c : Clock) (s : Step) (z : Sized (p .kernel)) (e : refusal
 
   abbrev i : ℕ
   i = s .caller
-
-  a : Accepted p c s
-  a = refusal-none p c s e
 
   -- its tables hang together
   pub whole : RulesHold p c

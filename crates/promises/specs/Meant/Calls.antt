@@ -23,7 +23,7 @@ use Rattle.kernel.specs.Semaphore.{taken, waited, signalled}
 use Rattle.kernel.specs.Reference.{resumed}
 use Rattle.kernel.specs.Event.{withPending, flagged, tookFlags, eventSignalled, eventWaited}
 use Rattle.kernel.proofs.Cases.{split, same-or, in-or-out, contrary}
-use Rattle.kernel.proofs.TablesLaws.{Sized, sized-kept, counter-sizes, thread-sizes, thread-same}
+use Rattle.kernel.proofs.TablesLaws.{Sized, SameSizes, sizes-refl, sizes-trans, sized-kept, counter-sizes, thread-sizes, thread-same}
 use Rattle.kernel.proofs.CountersLaws.{down-exact, below-top}
 use Rattle.kernel.proofs.WalkLaws.{Least as FirstOf}
 use Rattle.kernel.proofs.WaitersLaws.{waits, TellsAt, first-waiter-cases}
@@ -138,10 +138,10 @@ module _ (p : Plant) (z : Sized (p .kernel)) where
 
   -- ---- releases
 
-  pub signal-is : n ≤ 16 → (q : ℕ) → TellsAt n k q → InUse p q
+  pub signal-is : k .cause ≡ 1 → n ≤ 16 → (q : ℕ) → TellsAt n k q → InUse p q
       → Signal (worldOf p) q (worldOf (withKernel p (signalled k q .kernel))) (signalled k q .counted)
   unfolding signalled releasedFirst
-  signal-is few q told u =
+  signal-is by few q told u =
       split (ltZ (counterAt k q) (pos 0))
       (λ e.
       let w = signal-finds k z n q few told (u .1) e in
@@ -153,24 +153,25 @@ module _ (p : Plant) (z : Sized (p .kernel)) where
         waits = (w .waits .state, w .waits .place);
         highest = λ j h s x. w .highest j h (record { state = s; place = x });
       })
-      (rw e (wake-world p z i (pos 0) (omega (arith, w .thread, few)) (waiter-room p q i (w .thread) u (w .waits .place))))))
+      (rw e (wake-world p z i (pos 0) (omega (arith, w .thread, few)) (waiter-room p q i (w .thread) u (w .waits .place)) 1 by))))
       (λ e. split (ltZ (counterAt k q) (pos 2147483647))
       (λ b. rw b (Signal.raises e b (rw e (counter-world p z q (u .0) (counterAt k q +ℤ pos 1)))))
       (λ b. subst (Signal (worldOf p) q (worldOf (withKernel p (signalled k q .kernel)))) (sym b)
       (Signal.at-top b (ap (λ (x : Kernel). worldOf (withKernel p x)) (signal-top k q b)))))
 
-  pub binary-is : n ≤ 16 → (q : ℕ) → TellsAt n k q → InUse p q → BinarySignal (worldOf p) q (worldOf (withKernel p (binarySignalled k q)))
+  pub binary-is : k .cause ≡ 1 → n ≤ 16 → (q : ℕ) → TellsAt n k q → InUse p q → BinarySignal (worldOf p) q (worldOf (withKernel p (binarySignalled k q)))
   unfolding binarySignalled
-  binary-is few q told u =
+  binary-is by few q told u =
       split (ltZ (counterAt k q) (pos 1))
-      (λ e. BinarySignal.signals e (signalled k q .counted) (rw e (signal-is few q told u)))
+      (λ e. BinarySignal.signals e (signalled k q .counted) (rw e (signal-is by few q told u)))
       (λ e. BinarySignal.nothing e (rw e))
 
   -- a thread that is not there is not made ready
   nobody-woken : (m : ℤ) → woken k 255 m ≡ k
   nobody-woken m = wake-past k 255 m (omega (arith, z .threads)) (omega (arith, z .woken)) (omega arith)
 
-  pub release-is : n ≤ 16 → (q : ℕ) → TellsAt n k q → (m : ℤ) → InUse p q → Release (worldOf p) q m (worldOf (withKernel p (releasedFirst k q m)))
+  pub release-is : n ≤ 16 → (q : ℕ) → TellsAt n k q → (m : ℤ) → InUse p q
+      → Release (worldOf p) q m (k .cause) (worldOf (withKernel p (releasedFirst k q m)))
   unfolding releasedFirst
   release-is few q told m u =
       elim (first-waiter-cases k n few q told) [
@@ -180,7 +181,7 @@ module _ (p : Plant) (z : Sized (p .kernel)) where
       ]
     where
       found : FirstOf (waits k q) n (firstWaiter k q)
-          → Release (worldOf p) q m (worldOf (withKernel p (woken k (firstWaiter k q) m)))
+          → Release (worldOf p) q m (k .cause) (worldOf (withKernel p (woken k (firstWaiter k q) m)))
       found f =
           let i = firstWaiter k q in
           let w = waits-waiting k q i (f .passes) in
@@ -190,16 +191,16 @@ module _ (p : Plant) (z : Sized (p .kernel)) where
             waits = (w .state, w .place);
             highest = λ j h. waits-not k q j (f .least j h);
           })
-          (wake-world p z i m (omega (arith, f .below)) (waiter-room p q i (f .below) u (w .place)))
+          (wake-world p z i m (omega (arith, f .below)) (waiter-room p q i (f .below) u (w .place)) (k .cause) refl)
 
 -- one thread of a release of all
 release-of-is : (p : Plant) → Sized (p .kernel) → p .sizes .threads ≤ 16 → (q : ℕ) (m : ℤ) (i : ℕ) → i < p .sizes .threads → InUse p q
-    → ReleaseOf (worldOf p) q m i (worldOf (withKernel p (walkedOne q m i (p .kernel))))
+    → ReleaseOf (worldOf p) q m (p .kernel .cause) i (worldOf (withKernel p (walkedOne q m i (p .kernel))))
 release-of-is p z few q m i h u =
     split (waits (p .kernel) q i)
     (λ e.
     let w = waits-waiting (p .kernel) q i e in
-    ReleaseOf.waits (w .state) (w .place) (rw e (wake-world p z i m (omega arith) (waiter-room p q i h u (w .place)))))
+    ReleaseOf.waits (w .state) (w .place) (rw e (wake-world p z i m (omega arith) (waiter-room p q i h u (w .place)) (p .kernel .cause) refl)))
     (λ e. ReleaseOf.elsewhere (apart e) (rw e))
   where
     apart : waits (p .kernel) q i ≡ false → (threadAt (p .kernel) i .state ≢ 3) ⊎ (threadAt (p .kernel) i .place ≢ q)
@@ -212,10 +213,13 @@ module _ (p : Plant) (z : Sized (p .kernel)) (few : p .sizes .threads ≤ 16) (q
   abbrev upTo : ℕ → Kernel
   upTo j = each j (walkedOne q m) (p .kernel)
 
+  same-to : (j : ℕ) → SameSizes (p .kernel) (upTo j)
+  same-to zero = sizes-refl (p .kernel)
+  same-to (suc j) =
+      split (waits (upTo j) q j) (λ e. rw e (sizes-trans (same-to j) (wake-sizes (upTo j) j m))) (λ e. rw e (same-to j))
+
   sized-to : (j : ℕ) → Sized (upTo j)
-  sized-to zero = z
-  sized-to (suc j) =
-      split (waits (upTo j) q j) (λ e. rw e (sized-kept (wake-sizes (upTo j) j m) (sized-to j))) (λ e. rw e (sized-to j))
+  sized-to j = sized-kept (same-to j) z
 
   tallied-to : (r : ℕ) → Tallies (p .sizes .threads) r (p .kernel) → (j : ℕ) → j ≤ p .sizes .threads → Tallies (p .sizes .threads) r (upTo j)
   tallied-to r g zero h = g
@@ -223,15 +227,16 @@ module _ (p : Plant) (z : Sized (p .kernel)) (few : p .sizes .threads ≤ 16) (q
       let before = tallied-to r g j (omega arith) in
       split (waits (upTo j) q j) (λ e. rw e (wake-tallies (upTo j) j m (p .sizes .threads) r h before)) (λ e. rw e before)
 
-  all-to : (j : ℕ) → j ≤ p .sizes .threads → ReleaseAll (worldOf p) q m j (worldOf (withKernel p (upTo j)))
+  all-to : (j : ℕ) → j ≤ p .sizes .threads → ReleaseAll (worldOf p) q m (p .kernel .cause) j (worldOf (withKernel p (upTo j)))
   all-to zero h = refl
   all-to (suc j) h = (
     worldOf (withKernel p (upTo j)),
     all-to j (omega arith),
-    release-of-is (withKernel p (upTo j)) (sized-to j) few q m j h (u .0, tallied-to q (u .1) j (omega arith)),
+    subst (λ (c : ℕ). ReleaseOf (worldOf (withKernel p (upTo j))) q m c j (worldOf (withKernel p (upTo (suc j))))) (same-to j .cause)
+        (release-of-is (withKernel p (upTo j)) (sized-to j) few q m j h (u .0, tallied-to q (u .1) j (omega arith))),
   )
 
-  pub release-all-is : ReleaseAll (worldOf p) q m (p .sizes .threads) (worldOf (withKernel p (releasedAll (p .kernel) q m)))
+  pub release-all-is : ReleaseAll (worldOf p) q m (p .kernel .cause) (p .sizes .threads) (worldOf (withKernel p (releasedAll (p .kernel) q m)))
   release-all-is =
       rw (release-all-walk (p .kernel) q m (p .sizes .threads) few told) (all-to (p .sizes .threads) (omega arith))
 
@@ -250,13 +255,13 @@ module _ (p : Plant) (w : Whole (p .sizes) p) where
   pub good : Good p
   good = whole-good p (p .sizes) w
 
-  pub resume-is : (r : ℕ) (m : ℤ) → r < p .sizes .references → Resume (worldOf p) r m (worldOf (withKernel p (resumed k₁ r m)))
+  pub resume-is : k₁ .cause ≡ 3 → (r : ℕ) (m : ℤ) → r < p .sizes .references → Resume (worldOf p) r m (worldOf (withKernel p (resumed k₁ r m)))
   unfolding resumed
-  resume-is r m h =
+  resume-is by r m h =
       same-or (holderAt k₁ r) 255
       (λ e. Resume.empty e
       (ap (λ (i : ℕ). worldOf (withKernel p (woken k₁ i m))) e ∙ ap (λ (x : Kernel). worldOf (withKernel p x)) (nobody-woken p sized m)))
-      (λ d. Resume.held d (wake-world p sized (holderAt k₁ r) m (omega (arith, within d, few)) (λ s. absurd (omega (arith, s, state d)))))
+      (λ d. Resume.held d (wake-world p sized (holderAt k₁ r) m (omega (arith, within d, few)) (λ s. absurd (omega (arith, s, state d))) 3 by))
     where
       within : holderAt k₁ r ≢ 255 → holderAt k₁ r < p .sizes .threads
       within d = elim (good .references .holder r h) [ inl e ↦ absurd (d e) | inr l ↦ l ]
@@ -283,24 +288,24 @@ module _ (p : Plant) (z : Sized (p .kernel)) (i : ℕ) (here : i < 16) where
       ≡ flaggedOf (worldOf p) i a
   flagged-is a = thread-world p z i here (flagged (threadAt k₂ i) a)
 
-  came-is : (a : ℕ) → threadAt k₂ i .state ≡ 4
-      → worldOf (withKernel p (woken (withThread k₂ i (flagged (threadAt k₂ i) a)) i ok)) ≡ madeReady (flaggedOf (worldOf p) i a) i (pos 0)
-  came-is a s =
+  came-is : k₂ .cause ≡ 4 → (a : ℕ) → threadAt k₂ i .state ≡ 4
+      → worldOf (withKernel p (woken (withThread k₂ i (flagged (threadAt k₂ i) a)) i ok)) ≡ madeReady (flaggedOf (worldOf p) i a) i (pos 0) 4
+  came-is by a s =
       let told = withThread k₂ i (flagged (threadAt k₂ i) a) in
       let y = sized-kept (thread-sizes k₂ i (flagged (threadAt k₂ i) a)) z in
       let row : threadAt told i ≡ flagged (threadAt k₂ i) a =
       thread-same k₂ i (flagged (threadAt k₂ i) a) (rw (z .threads) here) in
-      wake-world (withKernel p told) y i (pos 0) here (λ x. absurd (omega (arith, s, ap (λ (t : Thread). t .state) row, x)))
-      ∙ ap (λ (w : World). madeReady w i (pos 0)) (flagged-is a)
+      wake-world (withKernel p told) y i (pos 0) here (λ x. absurd (omega (arith, s, ap (λ (t : Thread). t .state) row, x))) 4 by
+      ∙ ap (λ (w : World). madeReady w i (pos 0) 4) (flagged-is a)
 
-  pub event-signal-is : (a : ℕ) → EventSignal (worldOf p) i a (worldOf (withKernel p (eventSignalled k₂ i a)))
+  pub event-signal-is : k₂ .cause ≡ 4 → (a : ℕ) → EventSignal (worldOf p) i a (worldOf (withKernel p (eventSignalled k₂ i a)))
   unfolding eventSignalled
-  event-signal-is a =
+  event-signal-is by a =
       same-or (threadAt k₂ i .state) 4
       (λ s. same-or (bitAnd (bitOr (threadAt k₂ i .pending) a) (threadAt k₂ i .awaited)) 0
       (λ e. EventSignal.only-flagged (inr e) (rw (eq-eqb (threadAt k₂ i .state) 4 s, eq-eqb (bitAnd (bitOr (threadAt k₂ i .pending) a) (threadAt k₂ i .awaited)) 0 e) (flagged-is a)))
       (λ d. EventSignal.comes s d
-      (rw (eq-eqb (threadAt k₂ i .state) 4 s, ne-eqb (bitAnd (bitOr (threadAt k₂ i .pending) a) (threadAt k₂ i .awaited)) 0 d) (came-is a s))))
+      (rw (eq-eqb (threadAt k₂ i .state) 4 s, ne-eqb (bitAnd (bitOr (threadAt k₂ i .pending) a) (threadAt k₂ i .awaited)) 0 d) (came-is by a s))))
       (λ d. EventSignal.only-flagged (inl d) (rw (ne-eqb (threadAt k₂ i .state) 4 d) (flagged-is a)))
 
   pub event-wait-is : (c : Call) → EventWait (worldOf p) i c (worldOf (withKernel p (eventWaited k₂ i c)))
@@ -361,14 +366,15 @@ module _ (p : Plant) (w : Whole (p .sizes) p) (i : ℕ) (c : Call) (there : c .o
       (readers-told (p .kernel) (p .sizes) (w .sizes) (w .kernel .rules .words) b there)
 
   -- a release, the end of the call, and the mailbox
-  served : (q : ℕ) → TellsAt (p .sizes .threads) (p .kernel) q → InUse p q → (d : ℕ) (x : Mailbox) (h : Plant)
+  served : (o : ℕ) → p .kernel .cause ≡ o → (q : ℕ) → TellsAt (p .sizes .threads) (p .kernel) q → InUse p q → (d : ℕ) (x : Mailbox) (h : Plant)
       → h ≡ withMailbox
       (withKernel p (finished (releasedFirst (p .kernel) q ok) i ok d)) b x
-      → (v : World) × Release (worldOf p) q (pos 0) v × (worldOf h ≡ ended (boxTo v b x) i (pos 0) d)
-  served q told u d x h e =
+      → (v : World) × Release (worldOf p) q (pos 0) o v × (worldOf h ≡ ended (boxTo v b x) i (pos 0) d)
+  served o by q told u d x h e =
       let k = releasedFirst (p .kernel) q ok in (
         worldOf (withKernel p k),
-        release-is p (sized p w) (few p w) q told (pos 0) u,
+        subst (λ (y : ℕ). Release (worldOf p) q (pos 0) y (worldOf (withKernel p (releasedFirst (p .kernel) q ok)))) by
+            (release-is p (sized p w) (few p w) q told (pos 0) u),
         ap worldOf e ∙ box-world (withKernel p (finished k i ok d)) b x (box-there .row)
             ∙ ap (λ (v : World). boxTo v b x)
             (finish-world (withKernel p k) (sized-kept (release-first-sizes (p .kernel) q ok) (sized p w)) i (pos 0) d who),
@@ -406,8 +412,8 @@ module _ (p : Plant) (w : Whole (p .sizes) p) (i : ℕ) (c : Call) (there : c .o
       ∙ rw (eq-eqb (c .kind) 16 e, lt-ltb (box .positions .count) slots room, at-readers)
       (same-or (box .positions .read) 0 (λ x. rw (x)) (λ x. rw (ne-eqb (box .positions .read) 0 x, lt-ltb 0 (box .positions .read) (omega arith))))
 
-  pub post-is : (c .kind ≡ 15) ⊎ (c .kind ≡ 16) → Post (worldOf p) i c (worldOf (postTried p i c))
-  post-is kind =
+  pub post-is : p .kernel .cause ≡ 5 → (c .kind ≡ 15) ⊎ (c .kind ≡ 16) → Post (worldOf p) i c (worldOf (postTried p i c))
+  post-is by kind =
       same-or (box .reset) 0
       (λ works. in-or-out (box .positions .count) slots
       (λ room. goes-in works room kind)
@@ -421,10 +427,10 @@ module _ (p : Plant) (w : Whole (p .sizes) p) (i : ℕ) (c : Call) (there : c .o
       goes-in : box .reset ≡ 0 → box .positions .count < slots → (c .kind ≡ 15) ⊎ (c .kind ≡ 16)
           → Post (worldOf p) i c (worldOf (postTried p i c))
       goes-in works room (inl e) =
-          let x = served (32 + b) told-readers readers 0 (written box slots (c .operand)) (postTried p i c) (behind-is works room (λ y. absurd (omega (arith, e, y)))) in
+          let x = served 5 by (32 + b) told-readers readers 0 (written box slots (c .operand)) (postTried p i c) (behind-is works room (λ y. absurd (omega (arith, e, y)))) in
           Post.behind works room e (x .0) (x .1) (x .2)
       goes-in works room (inr e) =
-          let x = served (32 + b) told-readers readers 0 (writtenAhead box slots (c .operand)) (postTried p i c) (ahead-is works room e) in
+          let x = served 5 by (32 + b) told-readers readers 0 (writtenAhead box slots (c .operand)) (postTried p i c) (ahead-is works room e) in
           Post.ahead works room e (x .0) (x .1) (x .2)
 
   fetch-reset : box .reset ≢ 0 → fetchTried p i c ≡ withKernel p (finished (p .kernel) i wasReset 0)
@@ -441,13 +447,13 @@ module _ (p : Plant) (w : Whole (p .sizes) p) (i : ℕ) (c : Call) (there : c .o
   taken-is works some =
       message-done p i c box-there works some ∙ rw (at-writers, after-mod (box .positions .read) slots (box-there .good .read))
 
-  pub fetch-is : Fetch (worldOf p) i c (worldOf (fetchTried p i c))
-  fetch-is =
+  pub fetch-is : p .kernel .cause ≡ 6 → Fetch (worldOf p) i c (worldOf (fetchTried p i c))
+  fetch-is by =
       same-or (box .reset) 0
       (λ works. in-or-out 0 (box .positions .count)
       (λ some.
       let x =
-      served (28 + b) told-writers writers (getD (box .messages) (box .positions .read) 0) (takenFrom box slots) (fetchTried p i c)
+      served 6 by (28 + b) told-writers writers (getD (box .messages) (box .positions .read) 0) (takenFrom box slots) (fetchTried p i c)
       (taken-is works some) in
       Fetch.message works some (x .0) (x .1) (x .2))
       (λ none.

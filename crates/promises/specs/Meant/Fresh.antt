@@ -31,6 +31,7 @@ fresh-tables z few =
       counters = refl;
       references = refl;
       words = rw (used-all (z .threads) few);
+      steps = refl;
       mailboxes = refl;
       pools = refl;
     }
@@ -53,16 +54,30 @@ made-is z rate =
     (record { code = refl; tables = fresh-tables nothing (omega arith); clock = fresh-clock 0 })))))
     (λ e. rw e (MadeOf.no-size (out-of-limits z e) (record { code = refl; tables = fresh-tables nothing (omega arith); clock = fresh-clock 0 }))))
 
+-- tables that are not refused are fresh
+pub made-fresh : (z : Sizes) (rate : Rate) → made z rate .code ≡ 0 → FreshTables z (made z rate .tables)
+made-fresh z rate legal = by (made-is z rate)
+  where
+    by : MadeOf z rate (made z rate) → FreshTables z (made z rate .tables)
+    by (MadeOf.no-size n m) = absurd (omega (arith, m .code, legal))
+    by (MadeOf.no-frequency f n m) = absurd (omega (arith, m .code, legal))
+    by (MadeOf.fresh f p m) = m .tables
+
 -- two that hold the same are the same: every field of a table is one of its record's
-abbrev of-parts : List Thread → List ℤ → List ℕ → Words → List Mailbox → List Pool → Sizes → Tables
-of-parts t c r w b p z =
-    record { kernel = record { threads = t; counters = c; references = r; words = w }; mailboxes = b; pools = p; sizes = z }
+abbrev of-parts : List Thread → List ℤ → List ℕ → Words → ℕ → List Mailbox → List Pool → Sizes → Tables
+of-parts t c r w n b p z =
+    record {
+      kernel = record { threads = t; counters = c; references = r; words = w; steps = n };
+      mailboxes = b;
+      pools = p;
+      sizes = z;
+    }
 
 same-tables : {z : Sizes} {t u : Tables} → FreshTables z t → FreshTables z u → t ≡ u
 same-tables {z} {t} {u} a b =
-    let parts : of-parts (t .kernel .threads) (t .kernel .counters) (t .kernel .references) (t .kernel .words) (t .mailboxes) (t .pools) (t .sizes)
-    ≡ of-parts (u .kernel .threads) (u .kernel .counters) (u .kernel .references) (u .kernel .words) (u .mailboxes) (u .pools) (u .sizes) =
-    rw (a .threads, a .counters, a .references, a .words, a .mailboxes, a .pools, a .sizes, b .threads, b .counters, b .references, b .words, b .mailboxes, b .pools, b .sizes) in
+    let parts : of-parts (t .kernel .threads) (t .kernel .counters) (t .kernel .references) (t .kernel .words) (t .kernel .steps) (t .mailboxes) (t .pools) (t .sizes)
+    ≡ of-parts (u .kernel .threads) (u .kernel .counters) (u .kernel .references) (u .kernel .words) (u .kernel .steps) (u .mailboxes) (u .pools) (u .sizes) =
+    rw (a .threads, a .counters, a .references, a .words, a .steps, a .mailboxes, a .pools, a .sizes, b .threads, b .counters, b .references, b .words, b .steps, b .mailboxes, b .pools, b .sizes) in
     parts
 
 same-clock : {f : ℕ} {c d : Clock} → FreshClock f c → FreshClock f d → c ≡ d

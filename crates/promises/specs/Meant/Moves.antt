@@ -1,7 +1,7 @@
 -- The moves of the meanings, in the words of `StepOf`.
 use Prim.Native.Nat.{ℕ, _<_}
 use native.Mathlib.Omega.{arith}
-use mathlib.Core.Path.{_≡_, refl, sym, _∙_}
+use mathlib.Core.Path.{_≡_, refl, sym, _∙_, subst}
 use mathlib.Core.Logic.{_≢_, _⊎_, inl, inr}
 use mathlib.Core.Bool.{true, false}
 use lib.Dec.{eqb}
@@ -29,6 +29,7 @@ use Rattle.kernel.proofs.MovesLaws.{
   wake-flag-others,
   wake-finished,
   wake-answer,
+  wake-sizes,
   finish-row,
   finish-others,
   finish-flag,
@@ -37,6 +38,7 @@ use Rattle.kernel.proofs.MovesLaws.{
   finish-counters,
   finish-references,
   finish-woken,
+  finish-sizes,
   sleep-row,
   sleep-others,
   sleep-counter,
@@ -46,6 +48,7 @@ use Rattle.kernel.proofs.MovesLaws.{
   sleep-woken,
   sleep-finished,
   sleep-answer,
+  sleep-sizes,
 }
 use Rattle.library.specs.declared.tables.Plant.{Plant}
 use Rattle.library.specs.declared.tables.Tables.{Tables}
@@ -81,6 +84,7 @@ worldOf p =
       holder = λ r. getD (p .kernel .references) r 255;
       box = λ m. getD (p .mailboxes) m noBox;
       pool = λ q. getD (p .pools) q noPool;
+      step = p .kernel .steps;
       woken = λ i. getD (p .kernel .woken) i false;
       finished = λ i. getD (p .kernel .finished) i false;
       answer = p .kernel .answer;
@@ -94,6 +98,7 @@ pub record Alike (w v : World) : Type 0 where
   pub holder : (r : ℕ) → w .holder r ≡ v .holder r
   pub box : (m : ℕ) → w .box m ≡ v .box m
   pub pool : (q : ℕ) → w .pool q ≡ v .pool q
+  pub step : w .step ≡ v .step
   pub woken : (i : ℕ) → w .woken i ≡ v .woken i
   pub finished : (i : ℕ) → w .finished i ≡ v .finished i
   pub answer : w .answer ≡ v .answer
@@ -107,6 +112,7 @@ alike-same a =
       holder = λ i. a .holder i x;
       box = λ i. a .box i x;
       pool = λ i. a .pool i x;
+      step = a .step x;
       woken = λ i. a .woken i x;
       finished = λ i. a .finished i x;
       answer = a .answer x;
@@ -122,6 +128,7 @@ found-is t =
       holder = λ i. refl;
       box = λ i. refl;
       pool = λ i. refl;
+      step = refl;
       woken = all-blank 16 false;
       finished = all-blank 16 false;
       answer = refl;
@@ -154,6 +161,7 @@ thread-world p z i here u =
       holder = λ j. refl;
       box = λ j. refl;
       pool = λ j. refl;
+      step = refl;
       woken = λ j. refl;
       finished = λ j. refl;
       answer = refl;
@@ -170,6 +178,7 @@ counter-world p z q within c =
       holder = λ j. refl;
       box = λ j. refl;
       pool = λ j. refl;
+      step = refl;
       woken = λ j. refl;
       finished = λ j. refl;
       answer = refl;
@@ -185,6 +194,7 @@ box-world p m b row =
       box = at-put (mailboxAt p) (mailboxAt (withMailbox p m b)) m b (getD-set-same (p .mailboxes) m b blankMailbox row)
           (λ j d. getD-set-other (p .mailboxes) m j b blankMailbox d);
       pool = λ j. refl;
+      step = refl;
       woken = λ j. refl;
       finished = λ j. refl;
       answer = refl;
@@ -200,6 +210,7 @@ pool-world p q x row =
       box = λ j. refl;
       pool = at-put (poolAt p) (poolAt (withPool p q x)) q x (getD-set-same (p .pools) q x blankPool row)
           (λ j d. getD-set-other (p .pools) q j x blankPool d);
+      step = refl;
       woken = λ j. refl;
       finished = λ j. refl;
       answer = refl;
@@ -213,7 +224,7 @@ module _ (p : Plant) (z : Sized (p .kernel)) (i : ℕ) where
     abbrev q : ℕ
     q = threadAt k i .place
 
-    wake-counters-world : (j : ℕ) → counterAt (woken k i m) j ≡ madeReady (worldOf p) i m .counter j
+    wake-counters-world : (j : ℕ) → counterAt (woken k i m) j ≡ madeReady (worldOf p) i m (k .cause) .counter j
     wake-counters-world j =
         split (eqb (threadAt k i .state) 3)
         (λ e.
@@ -224,7 +235,7 @@ module _ (p : Plant) (z : Sized (p .kernel)) (i : ℕ) where
         (λ j d. wake-counter-others k i m j (second-fails (eqb (threadAt k i .state) 3) (ne-eqb q j (λ x. d (sym x))))) j))
         (λ e. rw e (wake-counter-others k i m j (first-fails (eqb q j) e)))
 
-    wake-holders-world : (j : ℕ) → holderAt (woken k i m) j ≡ madeReady (worldOf p) i m .holder j
+    wake-holders-world : (j : ℕ) → holderAt (woken k i m) j ≡ madeReady (worldOf p) i m (k .cause) .holder j
     wake-holders-world j =
         split (eqb (threadAt k i .state) 2)
         (λ e. rw e
@@ -232,8 +243,8 @@ module _ (p : Plant) (z : Sized (p .kernel)) (i : ℕ) where
         (λ j d. wake-holder k i m j ∙ rw (e, ne-eqb q j (λ x. d (sym x)))) j))
         (λ e. rw e (wake-holder k i m j ∙ rw e))
 
-    pub wake-world : worldOf (withKernel p (woken k i m)) ≡ madeReady (worldOf p) i m
-    wake-world =
+    wake-by : worldOf (withKernel p (woken k i m)) ≡ madeReady (worldOf p) i m (k .cause)
+    wake-by =
         alike-same (record {
           sizes = refl;
           thread = at-put (threadAt k) (threadAt (woken k i m)) i _ (wake-row k i m (rw (z .threads) here)) (wake-others k i m);
@@ -241,10 +252,14 @@ module _ (p : Plant) (z : Sized (p .kernel)) (i : ℕ) where
           holder = wake-holders-world;
           box = λ j. refl;
           pool = λ j. refl;
+          step = wake-sizes k i m .steps;
           woken = at-put (wokenAt k) (wokenAt (woken k i m)) i true (wake-flag k i m (rw (z .woken) here)) (wake-flag-others k i m);
           finished = λ j. rw (wake-finished k i m);
           answer = wake-answer k i m;
         })
+
+    pub wake-world : (c : ℕ) → k .cause ≡ c → worldOf (withKernel p (woken k i m)) ≡ madeReady (worldOf p) i m c
+    wake-world c by = subst (λ (x : ℕ). worldOf (withKernel p (woken k i m)) ≡ madeReady (worldOf p) i m x) by wake-by
 
   module _ (m : ℤ) (d : ℕ) where
     finish-thread : i < 16 → worldOf (withKernel p (finished k i m d)) ≡ ended (worldOf p) i m d
@@ -259,6 +274,7 @@ module _ (p : Plant) (z : Sized (p .kernel)) (i : ℕ) where
           holder = λ j. rw (finish-references k i m d);
           box = λ j. refl;
           pool = λ j. refl;
+          step = finish-sizes k i m d .steps;
           woken = λ j. rw (finish-woken k i m d);
           finished = λ j. rw (ne-eqb i 255 someone)
               (at-put (finishedAt k) (finishedAt (finished k i m d)) i true (finish-flag k i m d someone (rw (z .finished) here))
@@ -306,6 +322,7 @@ module _ (p : Plant) (z : Sized (p .kernel)) (i : ℕ) where
           holder = sleep-holders-world;
           box = λ j. refl;
           pool = λ j. refl;
+          step = sleep-sizes k i s q c .steps;
           woken = λ j. rw (sleep-woken k i s q c);
           finished = λ j. rw (sleep-finished k i s q c);
           answer = sleep-answer k i s q c;

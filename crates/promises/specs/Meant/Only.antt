@@ -116,7 +116,7 @@ signal-only w p x y n m (Signal.raises a l e) (Signal.wakes b j g d) = contrary 
 signal-only w p x y n m (Signal.raises a l e) (Signal.at-top b d) = contrary l b
 signal-only w p x y n m (Signal.wakes a i f e) (Signal.raises b h d) = contrary a b
 signal-only w p x y n m (Signal.wakes a i f e) (Signal.wakes b j g d) =
-    (e ∙ ap (λ (k : ℕ). madeReady w k (pos 0)) (highest-only w p i j f g) ∙ sym d, refl)
+    (e ∙ ap (λ (k : ℕ). madeReady w k (pos 0) 1) (highest-only w p i j f g) ∙ sym d, refl)
 signal-only w p x y n m (Signal.wakes a i f e) (Signal.at-top b d) = contrary a (top-not-below (w .counter p) b)
 signal-only w p x y n m (Signal.at-top a e) (Signal.raises b h d) = contrary h a
 signal-only w p x y n m (Signal.at-top a e) (Signal.wakes b j g d) = contrary b (top-not-below (w .counter p) a)
@@ -140,27 +140,27 @@ semaphore-only w i p c x y (SemaphoreWait.above a e) (SemaphoreWait.not-above b 
 semaphore-only w i p c x y (SemaphoreWait.not-above a e) (SemaphoreWait.above b d) = contrary b a
 semaphore-only w i p c x y (SemaphoreWait.not-above a e) (SemaphoreWait.not-above b d) = waits-only w i 3 p c x y e d
 
-release-only : (w : World) (p : ℕ) (m : ℤ) (x y : World) → Release w p m x → Release w p m y → x ≡ y
-release-only w p m x y (Release.first i f e) (Release.first j g d) = e ∙ ap (λ (k : ℕ). madeReady w k m) (highest-only w p i j f g) ∙ sym d
-release-only w p m x y (Release.first i f e) (Release.nobody g d) = absurd (g i f)
-release-only w p m x y (Release.nobody f e) (Release.first j g d) = absurd (f j g)
-release-only w p m x y (Release.nobody f e) (Release.nobody g d) = e ∙ sym d
+release-only : (w : World) (p : ℕ) (m : ℤ) (c : ℕ) (x y : World) → Release w p m c x → Release w p m c y → x ≡ y
+release-only w p m c x y (Release.first i f e) (Release.first j g d) = e ∙ ap (λ (k : ℕ). madeReady w k m c) (highest-only w p i j f g) ∙ sym d
+release-only w p m c x y (Release.first i f e) (Release.nobody g d) = absurd (g i f)
+release-only w p m c x y (Release.nobody f e) (Release.first j g d) = absurd (f j g)
+release-only w p m c x y (Release.nobody f e) (Release.nobody g d) = e ∙ sym d
 
 not-elsewhere : {a b : Type 0} → a → b → (a → ⊥) ⊎ (b → ⊥) → ⊥
 not-elsewhere x y (inl f) = f x
 not-elsewhere x y (inr f) = f y
 
-release-of-only : (w : World) (p : ℕ) (m : ℤ) (i : ℕ) (x y : World) → ReleaseOf w p m i x → ReleaseOf w p m i y → x ≡ y
-release-of-only w p m i x y (ReleaseOf.waits a b e) (ReleaseOf.waits f g d) = e ∙ sym d
-release-of-only w p m i x y (ReleaseOf.waits a b e) (ReleaseOf.elsewhere f d) = absurd (not-elsewhere a b f)
-release-of-only w p m i x y (ReleaseOf.elsewhere a e) (ReleaseOf.waits f g d) = absurd (not-elsewhere f g a)
-release-of-only w p m i x y (ReleaseOf.elsewhere a e) (ReleaseOf.elsewhere f d) = e ∙ sym d
+release-of-only : (w : World) (p : ℕ) (m : ℤ) (c i : ℕ) (x y : World) → ReleaseOf w p m c i x → ReleaseOf w p m c i y → x ≡ y
+release-of-only w p m c i x y (ReleaseOf.waits a b e) (ReleaseOf.waits f g d) = e ∙ sym d
+release-of-only w p m c i x y (ReleaseOf.waits a b e) (ReleaseOf.elsewhere f d) = absurd (not-elsewhere a b f)
+release-of-only w p m c i x y (ReleaseOf.elsewhere a e) (ReleaseOf.waits f g d) = absurd (not-elsewhere f g a)
+release-of-only w p m c i x y (ReleaseOf.elsewhere a e) (ReleaseOf.elsewhere f d) = e ∙ sym d
 
-release-all-only : (w : World) (p : ℕ) (m : ℤ) (n : ℕ) (x y : World) → ReleaseAll w p m n x → ReleaseAll w p m n y → x ≡ y
-release-all-only w p m zero x y a b = a ∙ sym b
-release-all-only w p m (suc n) x y a b =
-    release-of-only (b .0) p m n x y
-    (subst (λ (v : World). ReleaseOf v p m n x) (release-all-only w p m n (a .0) (b .0) (a .1) (b .1)) (a .2)) (b .2)
+release-all-only : (w : World) (p : ℕ) (m : ℤ) (c n : ℕ) (x y : World) → ReleaseAll w p m c n x → ReleaseAll w p m c n y → x ≡ y
+release-all-only w p m c zero x y a b = a ∙ sym b
+release-all-only w p m c (suc n) x y a b =
+    release-of-only (b .0) p m c n x y
+    (subst (λ (v : World). ReleaseOf v p m c n x) (release-all-only w p m c n (a .0) (b .0) (a .1) (b .1)) (a .2)) (b .2)
 
 resume-only : (w : World) (r : ℕ) (m : ℤ) (x y : World) → Resume w r m x → Resume w r m y → x ≡ y
 resume-only w r m x y (Resume.held a e) (Resume.held b d) = e ∙ sym d
@@ -193,7 +193,7 @@ post-only w i c x y (Post.behind a l k v r e) (Post.in-reset b d) = absurd (b a)
 post-only w i c x y (Post.behind a l k v r e) (Post.behind b m f u q d) =
     e
     ∙ ap (λ (z : World). ended (boxTo z (c .object) (written (w .box (c .object)) (slotsOf w (c .object)) (c .operand))) i (pos 0) 0)
-    (release-only w (32 + c .object) (pos 0) v u r q)
+    (release-only w (32 + c .object) (pos 0) 5 v u r q)
     ∙ sym d
 post-only w i c x y (Post.behind a l k v r e) (Post.ahead b m f u q d) = absurd (omega arith)
 post-only w i c x y (Post.behind a l k v r e) (Post.no-room b m d) = absurd (omega arith)
@@ -202,7 +202,7 @@ post-only w i c x y (Post.ahead a l k v r e) (Post.behind b m f u q d) = absurd 
 post-only w i c x y (Post.ahead a l k v r e) (Post.ahead b m f u q d) =
     e
     ∙ ap (λ (z : World). ended (boxTo z (c .object) (writtenAhead (w .box (c .object)) (slotsOf w (c .object)) (c .operand))) i (pos 0) 0)
-    (release-only w (32 + c .object) (pos 0) v u r q)
+    (release-only w (32 + c .object) (pos 0) 5 v u r q)
     ∙ sym d
 post-only w i c x y (Post.ahead a l k v r e) (Post.no-room b m d) = absurd (omega arith)
 post-only w i c x y (Post.no-room a l e) (Post.in-reset b d) = absurd (b a)
@@ -219,7 +219,7 @@ fetch-only w i c x y (Fetch.message a l v r e) (Fetch.message b m u q d) =
     e
     ∙ ap (λ (z : World). ended (boxTo z (c .object) (takenFrom (w .box (c .object)) (slotsOf w (c .object)))) i (pos 0)
     (getD (w .box (c .object) .messages) (w .box (c .object) .positions .read) 0))
-    (release-only w (28 + c .object) (pos 0) v u r q)
+    (release-only w (28 + c .object) (pos 0) 6 v u r q)
     ∙ sym d
 fetch-only w i c x y (Fetch.message a l v r e) (Fetch.no-message b m d) = absurd (omega arith)
 fetch-only w i c x y (Fetch.no-message a l e) (Fetch.in-reset b d) = absurd (b a)
@@ -255,11 +255,11 @@ module _ (t : Tables) (now : SystemTime) (s : Step) where
       e ∙ ap (λ (z : World). ended z i (cond j (pos 0) (pos 1)) 0) (same .0) ∙ ap (λ (f : Bool). ended u i (cond f (pos 0) (pos 1)) 0) (same .1)
       ∙ sym d
   act-only n x y (Act.reset v a e) (Act.reset u b d) =
-      e ∙ ap (λ (z : World). done (counterTo z o (pos (s .a)))) (release-all-only w₀ o (negsuc 1) (t .sizes .threads) v u a b) ∙ sym d
+      e ∙ ap (λ (z : World). done (counterTo z o (pos (s .a)))) (release-all-only w₀ o (negsuc 1) 7 (t .sizes .threads) v u a b) ∙ sym d
   act-only n x y (Act.binary-signal v a e) (Act.binary-signal u b d) = e ∙ ap done (binary-only w₀ o v u a b) ∙ sym d
   act-only n x y (Act.queue-wait a) (Act.queue-wait b) = waits-only w₀ i 3 (20 + o) _ x y a b
-  act-only n x y (Act.release-first v a e) (Act.release-first u b d) = e ∙ ap done (release-only w₀ (20 + o) _ v u a b) ∙ sym d
-  act-only n x y (Act.release-all v a e) (Act.release-all u b d) = e ∙ ap done (release-all-only w₀ (20 + o) (signed (s .a)) (t .sizes .threads) v u a b) ∙ sym d
+  act-only n x y (Act.release-first v a e) (Act.release-first u b d) = e ∙ ap done (release-only w₀ (20 + o) _ 2 v u a b) ∙ sym d
+  act-only n x y (Act.release-all v a e) (Act.release-all u b d) = e ∙ ap done (release-all-only w₀ (20 + o) (signed (s .a)) 2 (t .sizes .threads) v u a b) ∙ sym d
   act-only n x y (Act.suspend a) (Act.suspend b) = waits-only w₀ i 2 o _ x y a b
   act-only n x y (Act.resume v a e) (Act.resume u b d) = e ∙ ap done (resume-only w₀ o _ v u a b) ∙ sym d
   act-only n x y (Act.sleep-for e) (Act.sleep-for d) = e ∙ sym d
@@ -270,10 +270,10 @@ module _ (t : Tables) (now : SystemTime) (s : Step) where
   act-only n x y (Act.post-ahead a) (Act.post-ahead b) = post-only w₀ i _ x y a b
   act-only n x y (Act.fetch a) (Act.fetch b) = fetch-only w₀ i _ x y a b
   act-only n x y (Act.mailbox-reset v u a b e) (Act.mailbox-reset k l f g d) =
-      let first = release-all-only w₀ (28 + o) (negsuc 1) (t .sizes .threads) v k a f in
+      let first = release-all-only w₀ (28 + o) (negsuc 1) 7 (t .sizes .threads) v k a f in
       let second =
-      release-all-only k (32 + o) (negsuc 1) (t .sizes .threads) u l
-      (subst (λ (z : World). ReleaseAll z (32 + o) (negsuc 1) (t .sizes .threads) u) first b) g in
+      release-all-only k (32 + o) (negsuc 1) 7 (t .sizes .threads) u l
+      (subst (λ (z : World). ReleaseAll z (32 + o) (negsuc 1) 7 (t .sizes .threads) u) first b) g in
       e ∙ ap (λ (z : World). done (boxTo z o (inReset (w₀ .box o)))) second ∙ sym d
   act-only n x y (Act.mailbox-resume e) (Act.mailbox-resume d) = e ∙ sym d
   act-only n x y (Act.alloc a) (Act.alloc b) = alloc-only w₀ i _ x y a b
@@ -376,12 +376,14 @@ left-only w g u v a b x y =
     let ready = ready-only w g (u .kernel .words) (v .kernel .words) x y in
     let waiting = list-only 0 (u .kernel .words .waiting) (v .kernel .words .waiting) (x .places ∙ sym (y .places)) (waiting-only w g (u .kernel .words) (v .kernel .words) x y) in
     let filler = x .filler ∙ sym (y .filler) in
+    let steps = a .steps ∙ sym (b .steps) in
     λ i. record {
       kernel = record {
         threads = threads i;
         counters = counters i;
         references = references i;
         words = record { ready = ready i; waiting = waiting i; unused = filler i };
+        steps = steps i;
       };
       mailboxes = boxes i;
       pools = pools i;

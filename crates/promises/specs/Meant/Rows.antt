@@ -41,6 +41,7 @@ use Rattle.library.specs.Settling.{isBoxCall}
 use Rattle.library.specs.Tables.{opened, mailboxAt, poolAt, withKernel, withMailbox, withPool}
 use Rattle.rules.specs.PlaceRules.{inUse}
 use Rattle.steps.specs.Refusal.{refusalOf}
+use Rattle.steps.specs.Stepping.{started}
 use Rattle.promises.specs.Together.Good.{GoodSizes, GoodThread}
 use Rattle.promises.specs.Kept.Tallies.{Tallies, wake-tallies, row-tallies, release-all-tallies}
 use Rattle.promises.specs.Kept.CounterRule.{semaphore-place, queue-place}
@@ -49,7 +50,7 @@ use Rattle.promises.specs.Kept.Moving.{release-all-chained}
 use Rattle.promises.specs.Kept.Chain.{queueing-place, chain-sound}
 use Rattle.promises.specs.Kept.PoolKept.{push-is}
 use Rattle.promises.specs.Kept.Whole.{Whole}
-use Rattle.promises.specs.Kept.Accepting.{Accepted, refusal-none, waits-thread}
+use Rattle.promises.specs.Kept.Accepting.{Accepted, refusal-none, accepted-as, waits-thread}
 use Rattle.promises.specs.Meant.Waiters.{rule-below}
 use Rattle.promises.specs.Meant.Kinds.{object-byte, message-up, message-down, Rows, rows, atOnceWith, atOnce}
 use Rattle.promises.specs.Meant.Callers.{caller-runs}
@@ -129,7 +130,7 @@ tick-none k = refl
 
 module _ (p : Plant) (z : Sized (p .kernel)) (few : p .sizes .threads ≤ 16) (g : GoodSizes (p .sizes))
     (good : (i : ℕ) → i < p .sizes .threads → GoodThread (p .sizes) (threadAt (p .kernel) i))
-    (rule : (q : ℕ) → q < 36 → inUse (p .sizes) q ≡ true → Tallies (p .sizes .threads) q (p .kernel)) where
+    (rule : (q : ℕ) → q < 36 → inUse (p .sizes) q ≡ true → Tallies (p .sizes .threads) q (p .kernel)) (by : p .kernel .cause ≡ 8) where
   abbrev k : Kernel
   k = p .kernel
 
@@ -138,6 +139,9 @@ module _ (p : Plant) (z : Sized (p .kernel)) (few : p .sizes .threads ≤ 16) (g
 
   sized-at : (n : ℕ) → Sized (ticked k n)
   sized-at n = sized-kept (tick-sizes k n) z
+
+  by-at : (n : ℕ) → ticked k n .cause ≡ 8
+  by-at n = tick-sizes k n .cause ∙ by
 
   -- the row that is next is as it was
   next-row : (n : ℕ) → suc n ≤ 16 → threadAt (ticked k n) n ≡ threadAt k n
@@ -181,7 +185,7 @@ module _ (p : Plant) (z : Sized (p .kernel)) (few : p .sizes .threads ≤ 16) (g
   tick-of n h =
       let t = threadAt (ticked k n) n in
       same-or (t .remaining) 1
-      (λ e. TickOf.last e (rw (eq-eqb (t .remaining) 1 e) (wake-world (at n) (sized-at n) n timedOut (omega arith) (room n h))))
+      (λ e. TickOf.last e (rw (eq-eqb (t .remaining) 1 e) (wake-world (at n) (sized-at n) n timedOut (omega arith) (room n h) 8 (by-at n))))
       (λ d. same-or (t .remaining) 0
       (λ e. TickOf.no-ticks e (rw (ne-eqb (t .remaining) 1 d) (none e)))
       (λ o. TickOf.falls (omega arith) (rw (ne-eqb (t .remaining) 1 d) (thread-world (at n) (sized-at n) n (omega arith) (countedOff t)))))
@@ -197,6 +201,8 @@ module _ (p : Plant) (z : Sized (p .kernel)) (few : p .sizes .threads ≤ 16) (g
             message = t .message;
             call = t .call;
             answer = t .answer;
+            cause = t .cause;
+            step = t .step;
           }
 
       none : threadAt (ticked k n) n .remaining ≡ 0
@@ -210,6 +216,7 @@ module _ (p : Plant) (z : Sized (p .kernel)) (few : p .sizes .threads ≤ 16) (g
             holder = λ j. refl;
             box = λ j. refl;
             pool = λ j. refl;
+            step = refl;
             woken = λ j. refl;
             finished = λ j. refl;
             answer = refl;
@@ -230,13 +237,13 @@ signed-is s h =
     in-or-out (s .a) 2147483648 (λ l. message-up s l ∙ rw (lt-ltb (s .a) 2147483648 l))
     (λ l. message-down s l h ∙ rw (le-ltb (s .a) 2147483648 l))
 
-module _ (t : Tables) (c : Clock) (s : Step) (w : Whole (t .sizes) (opened t)) (word : s .a < 4294967296)
+module _ (t : Tables) (c : Clock) (s : Step) (w : Whole (t .sizes) (started t s)) (word : s .a < 4294967296)
     (e : refusalOf (opened t) c s ≡ 0) where
   abbrev p : Plant
-  p = opened t
+  p = started t s
 
   abbrev kern : Kernel
-  kern = opened t .kernel
+  kern = p .kernel
 
   abbrev n : ℕ
   n = t .sizes .threads
@@ -254,14 +261,14 @@ module _ (t : Tables) (c : Clock) (s : Step) (w : Whole (t .sizes) (opened t)) (
   low = w .sizes .threads .1
 
   accepts : Accepted p c s
-  accepts = refusal-none p c s e
+  accepts = accepted-as (opened t) c s (s .kind) (refusal-none (opened t) c s e)
 
   row : Rows p h kern n (s .caller) o (c .time) s
   row = rows p (c .time) s
 
   -- an interrupt, or a thread with a row
   who : There (s .caller)
-  who = elim (caller-runs p c s z e) [ inl b ↦ inl b | inr f ↦ inr (omega (arith, f .thread, low)) ]
+  who = elim (caller-runs p c s accepts) [ inl b ↦ inl b | inr f ↦ inr (omega (arith, f .thread, low)) ]
 
   -- 2, 6, 9, 11, 12, 14 are a thread's
   thread : kernelWaits (s .kind) ≡ true → s .caller < 16
@@ -303,6 +310,10 @@ module _ (t : Tables) (c : Clock) (s : Step) (w : Whole (t .sizes) (opened t)) (
   from : (P : World → Type 0) → P (worldOf p) → P (found t)
   from P x = subst P (found-is t) x
 
+  -- the cause at work is the kind's
+  named : (c : ℕ) → kern .cause ≡ c → (P : ℕ → Type 0) → P (kern .cause) → P c
+  named c by P x = subst P by x
+
   -- an effect, and the end of the call
   at-once-with : (m : ℤ) (x : Plant) → Sized (x .kernel) → h ≡ atOnceWith x (s .caller) m → worldOf h ≡ ended (worldOf x) (s .caller) m 0
   at-once-with m x y b = ap worldOf b ∙ finish-world x y (s .caller) m 0 who
@@ -321,7 +332,7 @@ module _ (t : Tables) (c : Clock) (s : Step) (w : Whole (t .sizes) (opened t)) (
   row-1 k =
       Act.tick (worldOf (withKernel p (ticked kern n)))
       (subst (λ (v : World). Ticks v n (worldOf (withKernel p (ticked kern n)))) (found-is t)
-      (ticks-is p z low (w .sizes) (w .kernel .rows) (w .kernel .rules .places) n (omega arith)))
+      (ticks-is p z low (w .sizes) (w .kernel .rows) (w .kernel .rules .places) (rw k) n (omega arith)))
       (kernel-at-once (ticked kern n) (tick-sizes kern n) (row .tick k))
 
   row-2 : s .kind ≡ 2 → Row 2
@@ -336,7 +347,7 @@ module _ (t : Tables) (c : Clock) (s : Step) (w : Whole (t .sizes) (opened t)) (
       let done = signalled kern o in
       Act.signal (worldOf (withKernel p (done .kernel))) (done .counted)
       (from (λ v. Signal v o (worldOf (withKernel p (signalled kern o .kernel))) (signalled kern o .counted))
-      (signal-is p z low o (told-semaphore (rw k at (accepts .object))) (semaphore (rw k at (accepts .object)))))
+      (signal-is p z (rw k) low o (told-semaphore (rw k at (accepts .object))) (semaphore (rw k at (accepts .object)))))
       (at-once-with (cond (done .counted) (pos 0) (pos 1)) (withKernel p (done .kernel)) (sized-kept (signal-sizes kern o) z) (row .signal k))
 
   row-4 : s .kind ≡ 4 → Row 4
@@ -345,7 +356,9 @@ module _ (t : Tables) (c : Clock) (s : Step) (w : Whole (t .sizes) (opened t)) (
       let u = semaphore (rw k at (accepts .object)) in
       let v = releasedAll kern o wasReset in
       Act.reset (worldOf (withKernel p v))
-      (from (λ v. ReleaseAll v o (negsuc 1) n (worldOf (withKernel p (releasedAll kern o wasReset)))) (release-all-is p z low o (told-semaphore (rw k at (accepts .object))) wasReset u))
+      (from (λ v. ReleaseAll v o (negsuc 1) 7 n (worldOf (withKernel p (releasedAll kern o wasReset))))
+      (named 7 (rw k) (λ x. ReleaseAll (worldOf p) o (negsuc 1) x n (worldOf (withKernel p (releasedAll kern o wasReset))))
+      (release-all-is p z low o (told-semaphore (rw k at (accepts .object))) wasReset u)))
       (kernel-at-once (resetTo kern o (pos (s .a))) (reset-sizes kern o (pos (s .a)))
       (row .reset k (leb-true (s .a) 2147483647 (rw k at (accepts .value))))
       ∙ ap (λ (x : World). ended x (s .caller) (pos 0) 0)
@@ -355,7 +368,7 @@ module _ (t : Tables) (c : Clock) (s : Step) (w : Whole (t .sizes) (opened t)) (
   row-5 k =
       Act.binary-signal (worldOf (withKernel p (binarySignalled kern o)))
       (from (λ v. BinarySignal v o (worldOf (withKernel p (binarySignalled kern o))))
-      (binary-is p z low o (told-semaphore (rw k at (accepts .object))) (semaphore (rw k at (accepts .object)))))
+      (binary-is p z (rw k) low o (told-semaphore (rw k at (accepts .object))) (semaphore (rw k at (accepts .object)))))
       (kernel-at-once (binarySignalled kern o) binary-sizes (row .binary-signal k))
     where
       binary-sizes : SameSizes kern (binarySignalled kern o)
@@ -377,8 +390,9 @@ module _ (t : Tables) (c : Clock) (s : Step) (w : Whole (t .sizes) (opened t)) (
       let l : o < t .sizes .queues = rw k at (accepts .object) in
       let v = releasedFirst kern (20 + o) (signed (s .a)) in
       Act.release-first (worldOf (withKernel p v))
-      (from (λ x. Release x (20 + o) (signed (s .a)) (worldOf (withKernel p (releasedFirst kern (20 + o) (signed (s .a))))))
-      (release-is p z low (20 + o) (told-queue l) (signed (s .a)) (queue l)))
+      (from (λ x. Release x (20 + o) (signed (s .a)) 2 (worldOf (withKernel p (releasedFirst kern (20 + o) (signed (s .a))))))
+      (named 2 (rw k) (λ x. Release (worldOf p) (20 + o) (signed (s .a)) x (worldOf (withKernel p (releasedFirst kern (20 + o) (signed (s .a))))))
+      (release-is p z low (20 + o) (told-queue l) (signed (s .a)) (queue l))))
       (kernel-at-once v (release-first-sizes kern (20 + o) (signed (s .a))) (row .release-first k ∙ rw (at-queue l, signed-is s word)))
 
   row-8 : s .kind ≡ 8 → Row 8
@@ -386,8 +400,9 @@ module _ (t : Tables) (c : Clock) (s : Step) (w : Whole (t .sizes) (opened t)) (
       let l : o < t .sizes .queues = rw k at (accepts .object) in
       let v = releasedAll kern (20 + o) (signed (s .a)) in
       Act.release-all (worldOf (withKernel p v))
-      (from (λ x. ReleaseAll x (20 + o) (signed (s .a)) n (worldOf (withKernel p (releasedAll kern (20 + o) (signed (s .a))))))
-      (release-all-is p z low (20 + o) (told-queue l) (signed (s .a)) (queue l)))
+      (from (λ x. ReleaseAll x (20 + o) (signed (s .a)) 2 n (worldOf (withKernel p (releasedAll kern (20 + o) (signed (s .a))))))
+      (named 2 (rw k) (λ x. ReleaseAll (worldOf p) (20 + o) (signed (s .a)) x n (worldOf (withKernel p (releasedAll kern (20 + o) (signed (s .a))))))
+      (release-all-is p z low (20 + o) (told-queue l) (signed (s .a)) (queue l))))
       (kernel-at-once v (release-all-sizes kern (20 + o) (signed (s .a))) (row .release-all k ∙ rw (at-queue l, signed-is s word)))
 
   row-9 : s .kind ≡ 9 → Row 9
@@ -405,7 +420,7 @@ module _ (t : Tables) (c : Clock) (s : Step) (w : Whole (t .sizes) (opened t)) (
       let v = resumed kern o (signed (s .a)) in
       Act.resume (worldOf (withKernel p v))
       (from (λ x. Resume x o (signed (s .a)) (worldOf (withKernel p (resumed kern o (signed (s .a))))))
-      (resume-is p w o (signed (s .a)) (rw k at (accepts .object))))
+      (resume-is p w (rw k) o (signed (s .a)) (rw k at (accepts .object))))
       (kernel-at-once v (resume-sizes kern o (signed (s .a))) (row .resume k ∙ rw (signed-is s word)))
 
   -- a plain sleep joins nothing
@@ -433,7 +448,7 @@ module _ (t : Tables) (c : Clock) (s : Step) (w : Whole (t .sizes) (opened t)) (
       let v = eventSignalled kern o (s .a) in
       Act.event-signal (worldOf (withKernel p v))
       (from (λ x. EventSignal x o (s .a) (worldOf (withKernel p (eventSignalled kern o (s .a)))))
-      (event-signal-is p z o (omega (arith, l, low)) (s .a)))
+      (event-signal-is p z o (omega (arith, l, low)) (rw k) (s .a)))
       (kernel-at-once v (event-signal-sizes kern o (s .a)) (row .event-signal k))
 
   row-14 : s .kind ≡ 14 → Row 14
@@ -447,21 +462,21 @@ module _ (t : Tables) (c : Clock) (s : Step) (w : Whole (t .sizes) (opened t)) (
       Act.post
       (from (λ v. Post v (s .caller) (kept 15 o (s .a) (s .timeout)) (worldOf h))
       (rw (row .post k)
-      (post-is p w (s .caller) (kept 15 o (s .a) (s .timeout)) (rw k at (accepts .object)) who (boxed (rw k) (rw k)) (inl refl))))
+      (post-is p w (s .caller) (kept 15 o (s .a) (s .timeout)) (rw k at (accepts .object)) who (boxed (rw k) (rw k)) (rw k) (inl refl))))
 
   row-16 : s .kind ≡ 16 → Row 16
   row-16 k =
       Act.post-ahead
       (from (λ v. Post v (s .caller) (kept 16 o (s .a) (s .timeout)) (worldOf h))
       (rw (row .post-ahead k)
-      (post-is p w (s .caller) (kept 16 o (s .a) (s .timeout)) (rw k at (accepts .object)) who (boxed (rw k) (rw k)) (inr refl))))
+      (post-is p w (s .caller) (kept 16 o (s .a) (s .timeout)) (rw k at (accepts .object)) who (boxed (rw k) (rw k)) (rw k) (inr refl))))
 
   row-17 : s .kind ≡ 17 → Row 17
   row-17 k =
       Act.fetch
       (from (λ v. Fetch v (s .caller) (kept 17 o 0 (s .timeout)) (worldOf h))
       (rw (row .fetch k)
-      (fetch-is p w (s .caller) (kept 17 o 0 (s .timeout)) (rw k at (accepts .object)) who (boxed (rw k) (rw k)))))
+      (fetch-is p w (s .caller) (kept 17 o 0 (s .timeout)) (rw k at (accepts .object)) who (boxed (rw k) (rw k)) (rw k))))
 
   row-18 : s .kind ≡ 18 → Row 18
   unfolding mailboxReset bothReleased emptied
@@ -477,13 +492,16 @@ module _ (t : Tables) (c : Clock) (s : Step) (w : Whole (t .sizes) (opened t)) (
       let d : readersPlace o ≡ 32 + o = omega (arith, w .sizes .mailboxes, l) in
       let told = told-writers p w (s .caller) c0 l who (λ d. absurd (d refl)) in
       let left = chain-sound (t .sizes) (w .sizes) (release-all-chained (t .sizes) (w .sizes) kern (28 + o) told wasReset (λ h. refl)) (w .kernel) in
+      let by-reset : v .cause ≡ 7 = release-all-sizes kern (28 + o) wasReset .cause ∙ (rw k) in
       let zv = sized-kept (release-all-sizes kern (28 + o) wasReset) z in
       let zx = sized-kept (release-all-sizes v (32 + o) wasReset) zv in
       Act.mailbox-reset (worldOf (withKernel p v)) (worldOf (withKernel p x))
-      (from (λ q. ReleaseAll q (28 + o) (negsuc 1) n (worldOf (withKernel p (releasedAll kern (28 + o) wasReset))))
-      (release-all-is p z low (28 + o) told wasReset u))
+      (from (λ q. ReleaseAll q (28 + o) (negsuc 1) 7 n (worldOf (withKernel p (releasedAll kern (28 + o) wasReset))))
+      (named 7 (rw k) (λ x. ReleaseAll (worldOf p) (28 + o) (negsuc 1) x n (worldOf (withKernel p (releasedAll kern (28 + o) wasReset))))
+      (release-all-is p z low (28 + o) told wasReset u)))
+      (subst (λ (x : ℕ). ReleaseAll (worldOf (withKernel p v)) (32 + o) (negsuc 1) x n (worldOf (withKernel p (releasedAll v (32 + o) wasReset)))) by-reset
       (release-all-is (withKernel p v) zv low (32 + o) (subst (TellsAt n v) d (readers-told v (t .sizes) (w .sizes) (left .rules .words) o l))
-      wasReset (y .0, release-all-tallies kern (28 + o) wasReset n low told (32 + o) (y .1)))
+      wasReset (y .0, release-all-tallies kern (28 + o) wasReset n low told (32 + o) (y .1))))
       (at-once (withMailbox (withKernel p x) o b) zx (row .mailbox-reset k ∙ rw (a, d))
       ∙ ap (λ (q : World). ended q (s .caller) (pos 0) 0)
       (box-world (withKernel p x) o b (omega (arith, w .boxes, w .sizes .mailboxes, l))))
@@ -506,7 +524,7 @@ module _ (t : Tables) (c : Clock) (s : Step) (w : Whole (t .sizes) (opened t)) (
       (alloc-is p w (s .caller) (kept 20 o 0 (s .timeout)) (rw k at (accepts .object)) who (boxed (rw k) (rw k)))))
 
   -- 21 and 22: an object that is not free is put on top
-  module _ (l : o < t .sizes .pools) (small : s .a ≤ 31) (unlisted : markAt (poolAt p o) (s .a) ≢ free)
+  module _ (by : kern .cause ≡ 1) (l : o < t .sizes .pools) (small : s .a ≤ 31) (unlisted : markAt (poolAt p o) (s .a) ≢ free)
       (puts : h ≡ atOnce (putBack p o (s .a)) (s .caller)) where
     abbrev after : World
     after = worldOf (withKernel p (signalled kern (16 + o) .kernel))
@@ -514,7 +532,7 @@ module _ (t : Tables) (c : Clock) (s : Step) (w : Whole (t .sizes) (opened t)) (
     put-signals : Signal (found t) (16 + o) after (signalled kern (16 + o) .counted)
     put-signals =
         from (λ v. Signal v (16 + o) (worldOf (withKernel p (signalled kern (16 + o) .kernel))) (signalled kern (16 + o) .counted))
-        (signal-is p z low (16 + o)
+        (signal-is p z by low (16 + o)
         (subst (TellsAt n kern) (at-pool p w o l) (pool-told kern (t .sizes) (w .sizes) (w .kernel .rules .words) o l)) (pool-used p w o l))
 
     put-is : worldOf h ≡ ended (poolTo after o (onTop (poolAt p o) (s .a))) (s .caller) (pos 0) 0
@@ -533,7 +551,7 @@ module _ (t : Tables) (c : Clock) (s : Step) (w : Whole (t .sizes) (opened t)) (
       let mark = eqb-true (markAt (poolAt p o) (s .a)) out (rw (k, object-byte s small) at (accepts .state)) in
       let puts = row .free k small in
       let not-free : markAt (poolAt p o) (s .a) ≢ free = λ x. absurd (omega (arith, mark, x)) in
-      Act.free (after l small not-free puts) _ (put-signals l small not-free puts) (put-is l small not-free puts)
+      Act.free (after (rw k) l small not-free puts) _ (put-signals (rw k) l small not-free puts) (put-is (rw k) l small not-free puts)
 
   row-22 : s .kind ≡ 22 → Row 22
   row-22 k =
@@ -542,7 +560,7 @@ module _ (t : Tables) (c : Clock) (s : Step) (w : Whole (t .sizes) (opened t)) (
       let mark = eqb-true (markAt (poolAt p o) (s .a)) absent (rw (k, object-byte s small) at (accepts .state)) in
       let puts = row .add k small in
       let not-free : markAt (poolAt p o) (s .a) ≢ free = λ x. absurd (omega (arith, mark, x)) in
-      Act.add (after l small not-free puts) _ (put-signals l small not-free puts) (put-is l small not-free puts)
+      Act.add (after (rw k) l small not-free puts) _ (put-signals (rw k) l small not-free puts) (put-is (rw k) l small not-free puts)
 
   -- each kind is its row
   pub act-is : Row (s .kind)

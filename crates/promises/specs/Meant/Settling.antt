@@ -16,7 +16,7 @@ use Rattle.library.specs.declared.tables.Plant.{Plant}
 use Rattle.kernel.specs.Event.{tookFlags}
 use Rattle.library.specs.Mailbox.{postTried, fetchTried}
 use Rattle.library.specs.Pool.{handedOver}
-use Rattle.library.specs.Settling.{doesMore, answeredOnly, continued, runningIn, settled}
+use Rattle.library.specs.Settling.{doesMore, answeredOnly, wentOn, continued, runningIn, settled}
 use Rattle.library.specs.Tables.{withKernel}
 use Rattle.library.proofs.SettlingLaws.{settled-quiet}
 use Rattle.promises.specs.Together.Good.{Good}
@@ -63,24 +63,24 @@ module _ (p : Plant) (i : ℕ) where
   not-answered b m = rw (b, m)
 
   -- an event wait "clears and answers all pending flags in its mask"
-  pub flags-now : t .call .kind ≡ 14 → t .message ≡ pos 0 → continued p i ≡ withKernel p (tookFlags (p .kernel) i (t .call .operand))
-  unfolding continued
+  pub flags-now : t .call .kind ≡ 14 → t .message ≡ pos 0 → wentOn p i ≡ withKernel p (tookFlags (p .kernel) i (t .call .operand))
+  unfolding wentOn
   flags-now e m = rw (not-answered (rw e) m, e)
 
   -- "mailbox, wake message 0: the whole mailbox rule is tried again"
-  pub post-again : (t .call .kind ≡ 15) ⊎ (t .call .kind ≡ 16) → t .message ≡ pos 0 → continued p i ≡ postTried p i (t .call)
-  unfolding continued
+  pub post-again : (t .call .kind ≡ 15) ⊎ (t .call .kind ≡ 16) → t .message ≡ pos 0 → wentOn p i ≡ postTried p i (t .call)
+  unfolding wentOn
   post-again (inl e) m = rw (not-answered (rw e) m, e)
   post-again (inr e) m = rw (not-answered (rw e) m, e)
 
   -- .. of a fetch
-  pub fetch-again : t .call .kind ≡ 17 → t .message ≡ pos 0 → continued p i ≡ fetchTried p i (t .call)
-  unfolding continued
+  pub fetch-again : t .call .kind ≡ 17 → t .message ≡ pos 0 → wentOn p i ≡ fetchTried p i (t .call)
+  unfolding wentOn
   fetch-again e m = rw (not-answered (rw e) m, e)
 
   -- "pool, message 0: it takes the top"
-  pub alloc-again : t .call .kind ≡ 20 → t .message ≡ pos 0 → continued p i ≡ handedOver p i (t .call .object)
-  unfolding continued
+  pub alloc-again : t .call .kind ≡ 20 → t .message ≡ pos 0 → wentOn p i ≡ handedOver p i (t .call .object)
+  unfolding wentOn
   alloc-again e m = rw (not-answered (rw e) m, e)
 
 -- ---- "Then the running thread is chosen anew"

@@ -21,12 +21,13 @@ use Rattle.library.specs.declared.tables.Plant.{Plant}
 use Rattle.library.specs.declared.tables.Tables.{Tables}
 use Rattle.library.specs.Signs.{same}
 use Rattle.library.specs.Acting.{acted}
-use Rattle.library.specs.Settling.{doesMore, answeredOnly, continued, runningIn, isSettled, settled}
+use Rattle.library.specs.Causes.{caused}
+use Rattle.library.specs.Settling.{doesMore, answeredOnly, wentOn, continued, runningIn, isSettled, settled}
 use Rattle.library.specs.Tables.{opened, closed}
 use Rattle.rules.specs.Hanging.{hangsTogether}
 use Rattle.steps.specs.declared.stepping.Stepped.{Stepped}
 use Rattle.steps.specs.Refusal.{refusalOf}
-use Rattle.steps.specs.Stepping.{clockAfter, budgetOf, outcomeOf, doneWith, refusedWith, stepped}
+use Rattle.steps.specs.Stepping.{clockAfter, budgetOf, outcomeOf, doneWith, refusedWith, started, stepped}
 use Rattle.steps.proofs.StepLaws.{step-code}
 use Rattle.promises.specs.Runs.Answers.{step-done, step-stopped}
 use Rattle.promises.specs.Together.Tests.{same-means}
@@ -35,11 +36,12 @@ use Rattle.promises.specs.Kept.Chain.{chain-rest}
 use Rattle.promises.specs.Meant.Words.{unused-test, bit-one, said-agree}
 use Rattle.promises.specs.Meant.Masks.{mask-digit}
 use Rattle.promises.specs.Together.Hanging.{test-hangs}
-use Rattle.promises.specs.Kept.Accepting.{refusal-none}
+use Rattle.promises.specs.Kept.Accepting.{refusal-none, accepted-as}
+use Rattle.promises.specs.Kept.KernelActs.{Acts}
 use Rattle.promises.specs.Kept.Acts.{step-acts}
 use Rattle.promises.specs.Together.Good.{Good}
-use Rattle.promises.specs.Kept.Whole.{PlantSized, Whole, good-whole, whole-good}
-use Rattle.promises.specs.Kept.Settles.{continue-tries, spent-all}
+use Rattle.promises.specs.Kept.Whole.{PlantSized, Whole, good-whole, whole-good, caused-done}
+use Rattle.promises.specs.Kept.Settles.{on-tries, spent-all}
 use Rattle.promises.specs.Kept.Steps.{Hangs, settles}
 use Rattle.promises.specs.Meant.Clock.{tick-time, tick-time-wraps, other-time}
 use Rattle.promises.specs.Meant.Pools.{promise-stocked}
@@ -60,7 +62,7 @@ use Rattle.promises.specs.Meant.Only.{first-only, step-only}
 pub host-sized : (t : Tables) → HostTables t → PlantSized (opened t)
 host-sized t h =
     record {
-      kernel = record { threads = h .threads; counters = h .counters; references = h .references; woken = refl; finished = refl; waiting = h .waiting };
+      kernel = record { threads = h .threads; counters = h .counters; references = h .references; woken = refl; finished = refl; waiting = h .waiting; cause = omega arith };
       mailboxes = h .mailboxes;
       messages = h .messages;
       pools = h .pools;
@@ -123,9 +125,16 @@ module _ (p : Plant) (w : Whole (p .sizes) p) where
     here : i < 16
     here = omega (arith, f .thread, few p w)
 
+    -- its call is at work
+    abbrev v : Plant
+    v = caused p (t .call .kind)
+
+    whole-at : Whole (v .sizes) v
+    whole-at = caused-done (p .sizes) p (t .call .kind) w .whole
+
     answer-is : answeredOnly t ≡ true → worldOf (continued p i) ≡ ended (worldOf p) i (t .message) 0
-    unfolding continued
-    answer-is e = rw e (finish-world p (sized p w) i (t .message) 0 (inr here))
+    unfolding wentOn
+    answer-is e = rw e (finish-world v (sized v whole-at) i (t .message) 0 (inr here))
 
     other-kind : IsOther (t .call .kind) → answeredOnly t ≡ true
     other-kind n =
@@ -139,32 +148,36 @@ module _ (p : Plant) (w : Whole (p .sizes) p) where
 
     -- "then clears and answers all pending flags in its mask"
     flags-on : t .call .kind ≡ 14 → t .message ≡ pos 0 → Continued (worldOf p) i (worldOf (continued p i))
-    flags-on e m = Continued.flags e m (ap worldOf (flags-now p i e m) ∙ took-is p (sized p w) i here (t .call .operand))
+    flags-on e m = Continued.flags e m (ap worldOf (flags-now v i e m) ∙ took-is v (sized v whole-at) i here (t .call .operand))
 
     -- "mailbox, wake message 0: the whole mailbox rule is tried again"
     post-on : (t .call .kind ≡ 15) ⊎ (t .call .kind ≡ 16) → t .message ≡ pos 0 → Continued (worldOf p) i (worldOf (continued p i))
     post-on e m =
         Continued.posts e m
-        (subst (λ (h : Plant). Post (worldOf p) i (t .call) (worldOf h)) (sym (post-again p i e m))
-        (post-is p w i (t .call) (there e) (inr here) (λ d. here) e))
+        (subst (λ (h : Plant). Post (worldOf p) i (t .call) (worldOf h)) (sym (post-again v i e m))
+        (post-is v whole-at i (t .call) (there e) (inr here) (λ d. here) (by e) e))
       where
         there : (t .call .kind ≡ 15) ⊎ (t .call .kind ≡ 16) → o < p .sizes .mailboxes
         there (inl e) = rw e at (good p w .threads i (f .thread) .object call)
         there (inr e) = rw e at (good p w .threads i (f .thread) .object call)
 
+        by : (t .call .kind ≡ 15) ⊎ (t .call .kind ≡ 16) → v .kernel .cause ≡ 5
+        by (inl e) = rw e
+        by (inr e) = rw e
+
     fetch-on : t .call .kind ≡ 17 → t .message ≡ pos 0 → Continued (worldOf p) i (worldOf (continued p i))
     fetch-on e m =
         Continued.fetches e m
-        (subst (λ (h : Plant). Fetch (worldOf p) i (t .call) (worldOf h)) (sym (fetch-again p i e m))
-        (fetch-is p w i (t .call) (rw e at (good p w .threads i (f .thread) .object call)) (inr here) (λ d. here)))
+        (subst (λ (h : Plant). Fetch (worldOf p) i (t .call) (worldOf h)) (sym (fetch-again v i e m))
+        (fetch-is v whole-at i (t .call) (rw e at (good p w .threads i (f .thread) .object call)) (inr here) (λ d. here) (rw e)))
 
     -- "pool, message 0: it takes the top"
     take-on : t .call .kind ≡ 20 → t .message ≡ pos 0 → Continued (worldOf p) i (worldOf (continued p i))
     take-on e m =
         let there : o < p .sizes .pools = rw e at (good p w .threads i (f .thread) .object call) in
         Continued.takes e m
-        (ap worldOf (alloc-again p i e m)
-        ∙ top-is p (sized p w) i (inr here) o (pool-row p w o there)
+        (ap worldOf (alloc-again v i e m)
+        ∙ top-is v (sized v whole-at) i (inr here) o (pool-row p w o there)
         (promise-stocked p (good p w) o there i (f .thread) (f .is-ready) e m refl))
 
     -- the bullets, and document 02's
@@ -184,8 +197,8 @@ module _ (p : Plant) (w : Whole (p .sizes) p) where
 
     whole-on : Whole (continued p i .sizes) (continued p i)
     whole-on =
-        let v = continue-tries p w i (record { within = f .thread; is-ready = f .is-ready; unfinished = call }) .done .whole in
-        subst (λ (y : Sizes). Whole y (continued p i)) (sym (v .same)) v
+        let y = on-tries v whole-at i (record { within = f .thread; is-ready = f .is-ready; unfinished = call }) .done .whole in
+        subst (λ (x : Sizes). Whole x (continued p i)) (sym (y .same)) y
 
 -- settling that ended with a budget of b
 abbrev SettlesWith : ℕ → Type 0
@@ -258,6 +271,7 @@ left-is p w =
       references = λ i. refl;
       boxes = λ i. refl;
       pools = λ i. refl;
+      steps = refl;
       thread-rows = w .kernel .rules .sized .threads;
       counter-rows = w .kernel .rules .sized .counters;
       reference-rows = w .kernel .rules .sized .references;
@@ -294,18 +308,25 @@ module _ (t : Tables) (c : Clock) (s : Step) (host : Host t c s) where
         datum = refl;
       }
 
+  -- an accepted one begins
+  abbrev pub q : Plant
+  q = started t s
+
   abbrev pub h : Plant
-  h = settled (budgetOf (t .sizes .threads)) (acted p (c .time) s)
+  h = settled (budgetOf (t .sizes .threads)) (acted q (c .time) s)
 
   module _ (e : n ≡ 0) where
     pub hangs : Hangs t c
     hangs = record { together = test-hangs p c (refusal-none p c s e .hangs); sized = host-sized t (host .tables) }
 
-    pub begun-whole : Whole (t .sizes) p
-    begun-whole = good-whole p (hangs .together .good) (host-sized t (host .tables))
+    pub begun-whole : Whole (t .sizes) q
+    begun-whole = caused-done (t .sizes) p (s .kind) (good-whole p (hangs .together .good) (host-sized t (host .tables))) .whole
 
-    pub acted-whole : Whole (t .sizes) (acted p (c .time) s)
-    acted-whole = step-acts p c s (refusal-none p c s e) begun-whole .done .whole
+    acts : Acts (t .sizes) q s (acted q (c .time) s)
+    acts = step-acts q c s (accepted-as p c s (s .kind) (refusal-none p c s e)) begun-whole
+
+    pub acted-whole : Whole (t .sizes) (acted q (c .time) s)
+    acted-whole = acts .done .whole
 
     pub code : stepped t c s .outcome .code ≡ 0
     code = step-code t c s ∙ e
@@ -319,14 +340,14 @@ module _ (t : Tables) (c : Clock) (s : Step) (host : Host t c s) where
     -- the words are the walk's; where no place is, they are as they were
     words-left : WordsLeft (worldOf h) (t .kernel .words) (closed h .kernel .words)
     words-left =
-        let done = step-acts p c s (refusal-none p c s e) begun-whole .done in
+        let done = acts .done in
         let settles-done = settles t c s hangs code .tries .done in
         let size = settles-done .whole .same in
         let kept = rest-trans (chain-rest (t .sizes) (begun-whole .sizes) (done .chained) (begun-whole .kernel))
         (chain-rest (t .sizes) (begun-whole .sizes) (settles-done .chained) (acted-whole .kernel)) in
         record {
           agree = said-agree h (settled-whole .sizes) (settled-whole .kernel .rules .words);
-          rest = λ q n. kept .waiting q (unused-test (p .kernel) (t .sizes) (begun-whole .sizes) q (rw size at n));
+          rest = λ r n. kept .waiting r (unused-test (p .kernel) (t .sizes) (begun-whole .sizes) r (rw size at n));
           filler = kept .filler;
           places = settled-whole .kernel .rules .sized .waiting;
         }
@@ -334,9 +355,9 @@ module _ (t : Tables) (c : Clock) (s : Step) (host : Host t c s) where
     accepted-is : StepOf t c s (doneWith h c s)
     unfolding doneWith
     accepted-is =
-        StepOf.accepted (first-broken t c s (host .tables .threads) (host .step .object) .none e) (worldOf (acted p (c .time) s)) (worldOf h)
+        StepOf.accepted (first-broken t c s (host .tables .threads) (host .step .object) .none e) (worldOf (acted q (c .time) s)) (worldOf h)
         (act-is t c s begun-whole (host .step .operand) e)
-        (settles-is (budgetOf (t .sizes .threads)) (acted p (c .time) s) (own acted-whole) (settles t c s hangs code .ended))
+        (settles-is (budgetOf (t .sizes .threads)) (acted q (c .time) s) (own acted-whole) (settles t c s hangs code .ended))
         (left-is h settled-whole) words-left (clock-is c (host .time) (s .kind)) (result-is h settled-whole (s .caller))
 
   -- EVERY STEP IS AS DOCUMENT 01 TELLS IT

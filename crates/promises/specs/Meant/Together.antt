@@ -194,6 +194,7 @@ module _ (z : Sizes) (t : Thread) where
             awaited = same-or kind 14 (λ e. AwaitedFit.mask e (g .awaited ∙ rw e))
                 (λ d. AwaitedFit.none d (g .awaited ∙ rw (ne-eqb kind 14 d)));
             none-pending = g .none-pending;
+            cause = g .cause;
           }
 
   -- and back
@@ -341,6 +342,7 @@ module _ (z : Sizes) (t : Thread) where
             operand = fits-operand (f .call);
             awaited = awaited (f .awaited);
             none-pending = f .none-pending;
+            cause = f .cause;
           }
 
 -- ---- counters, pools

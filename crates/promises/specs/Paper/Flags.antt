@@ -30,7 +30,7 @@ pub data GoesOn (t : Tables) (s : Step) (i : ℕ) : ℕ → ℤ → Type 0 where
   -- one that was woken before this step, and not continued yet
   woken : s .caller ≢ i → rowOf t i .state ≡ 0 → rowOf t i .call .kind ≡ 14 → GoesOn t s i (rowOf t i .call .operand) (rowOf t i .message)
   -- one that this step wakes
-  wakes : {m : ℤ} → s .caller ≢ i → rowOf t i .call .kind ≡ 14 → WokenBy t s i (rowOf t i) m → GoesOn t s i (rowOf t i .call .operand) m
+  wakes : {m : ℤ} {c : ℕ} → s .caller ≢ i → rowOf t i .call .kind ≡ 14 → WokenBy t s i (rowOf t i) m c → GoesOn t s i (rowOf t i .call .operand) m
 
 -- what an accepted step s, on the tables t, has made of the flags of thread i: b is its record then, beside whether its call finished.
 -- `heard` is what is pending for it once the flags of this step have come

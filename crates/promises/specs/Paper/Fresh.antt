@@ -26,11 +26,14 @@ pub record FreshTables (z : Sizes) (t : Tables) : Type 0 where
         message = pos 0;
         call = record { kind = 0; object = 0; operand = 0; timeout = 0 };
         answer = record { message = pos 0; datum = 0 };
+        cause = 0;
+        step = 0;
       })
   pub counters : t .kernel .counters ≡ replicate 36 (pos 0)
   pub references : t .kernel .references ≡ replicate 8 255
   -- "bit i set exactly when thread i is ready", and nobody waits
   pub words : t .kernel .words ≡ record { ready = 2 ^ z .threads - 1; waiting = replicate 36 0; unused = 0 }
+  pub steps : t .kernel .steps ≡ 0
   pub mailboxes : t .mailboxes
       ≡ replicate 4 (record { positions = record { read = 0; write = 0; count = 0 }; reset = 0; messages = replicate 16 0 })
   pub pools : t .pools ≡ replicate 4 (record { length = 0; list = replicate 32 0; marks = replicate 32 0 })

@@ -30,7 +30,7 @@ use Rattle.promises.specs.Paper.World.{
   Highest,
 }
 
--- ---- the acts: x is what an accepted step has made of the world w before settling
+-- ---- the acts. Of document 02, the cause of a waking: 1 signal, 2 release, 3 resume, 4 event, 5 post, 6 fetch, 7 reset, 8 tick. x is what an accepted step has made of the world w before settling
 
 -- "each remaining count above 0 falls by 1; at 0 the thread is taken off its queue .. and made ready with -1": of thread i
 pub data TickOf (w : World) (i : ℕ) (x : World) : Type 0 where
@@ -46,9 +46,11 @@ pub data TickOf (w : World) (i : ℕ) (x : World) : Type 0 where
         message = w .thread i .message;
         call = w .thread i .call;
         answer = w .thread i .answer;
+        cause = w .thread i .cause;
+        step = w .thread i .step;
       })
       → TickOf w i x
-  last : w .thread i .remaining ≡ 1 → x ≡ madeReady w i (negsuc 0) → TickOf w i x
+  last : w .thread i .remaining ≡ 1 → x ≡ madeReady w i (negsuc 0) 8 → TickOf w i x
 
 -- "in index order": of the threads below n
 abbrev pub Ticks : World → ℕ → World → Type 0
@@ -61,7 +63,7 @@ pub data Signal (w : World) (p : ℕ) (x : World) : Bool → Type 0 where
   raises : ltZ (w .counter p) (pos 0) ≡ false → ltZ (w .counter p) (pos 2147483647) ≡ true → x ≡ counterTo w p (w .counter p +ℤ pos 1)
       → Signal w p x true
   -- being taken off the queue is the counter's +1
-  wakes : ltZ (w .counter p) (pos 0) ≡ true → (i : ℕ) → Highest w p i → x ≡ madeReady w i (pos 0) → Signal w p x true
+  wakes : ltZ (w .counter p) (pos 0) ≡ true → (i : ℕ) → Highest w p i → x ≡ madeReady w i (pos 0) 1 → Signal w p x true
   -- "at counter 2147483647 .. leaves the counter, wakes nobody"
   at-top : ltZ (w .counter p) (pos 2147483647) ≡ false → x ≡ w → Signal w p x false
 
@@ -80,24 +82,24 @@ pub data SemaphoreWait (w : World) (i p : ℕ) (c : Call) (x : World) : Type 0 w
   above : ltZ (pos 0) (w .counter p) ≡ true → x ≡ ended (counterTo w p (w .counter p -ℤ pos 1)) i (pos 0) 0 → SemaphoreWait w i p c x
   not-above : ltZ (pos 0) (w .counter p) ≡ false → Waits w i 3 p c x → SemaphoreWait w i p c x
 
--- the first of the waiters at p is made ready with m; "an empty queue is accepted with nothing woken"
-pub data Release (w : World) (p : ℕ) (m : ℤ) (x : World) : Type 0 where
-  first : (i : ℕ) → Highest w p i → x ≡ madeReady w i m → Release w p m x
-  nobody : ((i : ℕ) → Highest w p i → ⊥) → x ≡ w → Release w p m x
+-- the first of the waiters at p is made ready with m, by the cause c; "an empty queue is accepted with nothing woken"
+pub data Release (w : World) (p : ℕ) (m : ℤ) (c : ℕ) (x : World) : Type 0 where
+  first : (i : ℕ) → Highest w p i → x ≡ madeReady w i m c → Release w p m c x
+  nobody : ((i : ℕ) → Highest w p i → ⊥) → x ≡ w → Release w p m c x
 
--- thread i, if it waits at p, is made ready with m
-pub data ReleaseOf (w : World) (p : ℕ) (m : ℤ) (i : ℕ) (x : World) : Type 0 where
-  waits : w .thread i .state ≡ 3 → w .thread i .place ≡ p → x ≡ madeReady w i m → ReleaseOf w p m i x
-  elsewhere : (w .thread i .state ≢ 3) ⊎ (w .thread i .place ≢ p) → x ≡ w → ReleaseOf w p m i x
+-- thread i, if it waits at p, is made ready with m, by the cause c
+pub data ReleaseOf (w : World) (p : ℕ) (m : ℤ) (c i : ℕ) (x : World) : Type 0 where
+  waits : w .thread i .state ≡ 3 → w .thread i .place ≡ p → x ≡ madeReady w i m c → ReleaseOf w p m c i x
+  elsewhere : (w .thread i .state ≢ 3) ⊎ (w .thread i .place ≢ p) → x ≡ w → ReleaseOf w p m c i x
 
 -- "all waiters are made ready": of the threads below n
-abbrev pub ReleaseAll : World → ℕ → ℤ → ℕ → World → Type 0
-ReleaseAll w p m zero x = x ≡ w
-ReleaseAll w p m (suc n) x = (v : World) × ReleaseAll w p m n v × ReleaseOf v p m n x
+abbrev pub ReleaseAll : World → ℕ → ℤ → ℕ → ℕ → World → Type 0
+ReleaseAll w p m c zero x = x ≡ w
+ReleaseAll w p m c (suc n) x = (v : World) × ReleaseAll w p m c n v × ReleaseOf v p m c n x
 
 -- "resume of an empty reference does nothing"
 pub data Resume (w : World) (r : ℕ) (m : ℤ) (x : World) : Type 0 where
-  held : w .holder r ≢ 255 → x ≡ madeReady w (w .holder r) m → Resume w r m x
+  held : w .holder r ≢ 255 → x ≡ madeReady w (w .holder r) m 3 → Resume w r m x
   empty : w .holder r ≡ 255 → x ≡ w → Resume w r m x
 
 -- a record with these flags pending
@@ -112,6 +114,8 @@ pendingTo t flags =
       message = t .message;
       call = t .call;
       answer = t .answer;
+      cause = t .cause;
+      step = t .step;
     }
 
 -- thread i's "pending flags in a are cleared and are the datum"
@@ -128,7 +132,7 @@ flagged w i a = threadTo w i (pendingTo (w .thread i) (bitOr (w .thread i .pendi
 -- Awaiting events is state 4
 pub data EventSignal (w : World) (i a : ℕ) (x : World) : Type 0 where
   comes : w .thread i .state ≡ 4 → bitAnd (bitOr (w .thread i .pending) a) (w .thread i .awaited) ≢ 0
-      → x ≡ madeReady (flagged w i a) i (pos 0) → EventSignal w i a x
+      → x ≡ madeReady (flagged w i a) i (pos 0) 4 → EventSignal w i a x
   only-flagged : (w .thread i .state ≢ 4) ⊎ (bitAnd (bitOr (w .thread i .pending) a) (w .thread i .awaited) ≡ 0) → x ≡ flagged w i a
       → EventSignal w i a x
 
@@ -182,11 +186,11 @@ takenFrom b slots =
 pub data Post (w : World) (i : ℕ) (c : Call) (x : World) : Type 0 where
   in-reset : w .box (c .object) .reset ≢ 0 → x ≡ ended w i (negsuc 1) 0 → Post w i c x
   behind : w .box (c .object) .reset ≡ 0 → w .box (c .object) .positions .count < slotsOf w (c .object) → c .kind ≡ 15
-      → (v : World) → Release w (32 + c .object) (pos 0) v
+      → (v : World) → Release w (32 + c .object) (pos 0) 5 v
       → x ≡ ended (boxTo v (c .object) (written (w .box (c .object)) (slotsOf w (c .object)) (c .operand))) i (pos 0) 0
       → Post w i c x
   ahead : w .box (c .object) .reset ≡ 0 → w .box (c .object) .positions .count < slotsOf w (c .object) → c .kind ≡ 16
-      → (v : World) → Release w (32 + c .object) (pos 0) v
+      → (v : World) → Release w (32 + c .object) (pos 0) 5 v
       → x ≡ ended (boxTo v (c .object) (writtenAhead (w .box (c .object)) (slotsOf w (c .object)) (c .operand))) i (pos 0) 0
       → Post w i c x
   no-room : w .box (c .object) .reset ≡ 0 → slotsOf w (c .object) ≤ w .box (c .object) .positions .count → Waits w i 3 (28 + c .object) c x
@@ -196,7 +200,7 @@ pub data Post (w : World) (i : ℕ) (c : Call) (x : World) : Type 0 where
 pub data Fetch (w : World) (i : ℕ) (c : Call) (x : World) : Type 0 where
   in-reset : w .box (c .object) .reset ≢ 0 → x ≡ ended w i (negsuc 1) 0 → Fetch w i c x
   message : w .box (c .object) .reset ≡ 0 → 0 < w .box (c .object) .positions .count
-      → (v : World) → Release w (28 + c .object) (pos 0) v
+      → (v : World) → Release w (28 + c .object) (pos 0) 6 v
       → x
       ≡ ended (boxTo v (c .object) (takenFrom (w .box (c .object)) (slotsOf w (c .object)))) i (pos 0)
       (getD (w .box (c .object) .messages) (w .box (c .object) .positions .read) 0)
@@ -243,13 +247,13 @@ pub data Act (t : Tables) (now : SystemTime) (s : Step) (x : World) : ℕ → Ty
   signal : (v : World) (counted : Bool) → Signal (found t) (s .object) v counted → x ≡ ended v (s .caller) (cond counted (pos 0) (pos 1)) 0
       → Act t now s x 3
   -- "counter becomes a; all waiters are made ready with -2"
-  reset : (v : World) → ReleaseAll (found t) (s .object) (negsuc 1) (t .sizes .threads) v
+  reset : (v : World) → ReleaseAll (found t) (s .object) (negsuc 1) 7 (t .sizes .threads) v
       → x ≡ ended (counterTo v (s .object) (pos (s .a))) (s .caller) (pos 0) 0 → Act t now s x 4
   binary-signal : (v : World) → BinarySignal (found t) (s .object) v → x ≡ ended v (s .caller) (pos 0) 0 → Act t now s x 5
   queue-wait : Waits (found t) (s .caller) 3 (20 + s .object) (kept 6 (s .object) 0 (s .timeout)) x → Act t now s x 6
   -- "the waker's a is the message"
-  release-first : (v : World) → Release (found t) (20 + s .object) (signed (s .a)) v → x ≡ ended v (s .caller) (pos 0) 0 → Act t now s x 7
-  release-all : (v : World) → ReleaseAll (found t) (20 + s .object) (signed (s .a)) (t .sizes .threads) v
+  release-first : (v : World) → Release (found t) (20 + s .object) (signed (s .a)) 2 v → x ≡ ended v (s .caller) (pos 0) 0 → Act t now s x 7
+  release-all : (v : World) → ReleaseAll (found t) (20 + s .object) (signed (s .a)) 2 (t .sizes .threads) v
       → x ≡ ended v (s .caller) (pos 0) 0 → Act t now s x 8
   suspend : Waits (found t) (s .caller) 2 (s .object) (kept 9 (s .object) 0 (s .timeout)) x → Act t now s x 9
   resume : (v : World) → Resume (found t) (s .object) (signed (s .a)) v → x ≡ ended v (s .caller) (pos 0) 0 → Act t now s x 10
@@ -263,8 +267,8 @@ pub data Act (t : Tables) (now : SystemTime) (s : Step) (x : World) : ℕ → Ty
   post-ahead : Post (found t) (s .caller) (kept 16 (s .object) (s .a) (s .timeout)) x → Act t now s x 16
   fetch : Fetch (found t) (s .caller) (kept 17 (s .object) 0 (s .timeout)) x → Act t now s x 17
   -- "releases both queues with -2"
-  mailbox-reset : (v u : World) → ReleaseAll (found t) (28 + s .object) (negsuc 1) (t .sizes .threads) v
-      → ReleaseAll v (32 + s .object) (negsuc 1) (t .sizes .threads) u
+  mailbox-reset : (v u : World) → ReleaseAll (found t) (28 + s .object) (negsuc 1) 7 (t .sizes .threads) v
+      → ReleaseAll v (32 + s .object) (negsuc 1) 7 (t .sizes .threads) u
       → x ≡ ended (boxTo u (s .object) (inReset (found t .box (s .object)))) (s .caller) (pos 0) 0 → Act t now s x 18
   mailbox-resume : x ≡ ended (boxTo (found t) (s .object) (atWork (found t .box (s .object)))) (s .caller) (pos 0) 0 → Act t now s x 19
   alloc : Alloc (found t) (s .caller) (kept 20 (s .object) 0 (s .timeout)) x → Act t now s x 20

@@ -66,16 +66,18 @@ joinsIn p i ms = anyOf (λ m. isAccepted m && joinsAt p i (m .step)) ms
 abbrev pub higher : Tables → ℕ → ℕ → ℕ
 higher t p i = number (isQueued (found t) p) i
 
--- thread i is woken in some moment of a run, and in none before it; P says of that moment and of the message in i's record what holds then
-pub data WokenIn (i : ℕ) (P : Moment → ℤ → Type 0) : List Moment → Type 0 where
-  now : {m : Moment} {ms : List Moment} → m .result .code ≡ 0 → inMask i (m .result .woken) ≡ true → P m (rowOf (m .after) i .message)
+-- thread i is woken in some moment of a run, and in none before it; P says of that moment and of the message and the cause in i's record
+-- what holds then
+pub data WokenIn (i : ℕ) (P : Moment → ℤ → ℕ → Type 0) : List Moment → Type 0 where
+  now : {m : Moment} {ms : List Moment} → m .result .code ≡ 0 → inMask i (m .result .woken) ≡ true → P m (rowOf (m .after) i .message) (rowOf (m .after) i .cause)
       → WokenIn i P (m ∷ ms)
   later : {m : Moment} {ms : List Moment} → inMask i (m .result .woken) ≡ false → WokenIn i P ms → WokenIn i P (m ∷ ms)
 
--- the waking of a waiter at a semaphore or a pool, whose record was a: "with 0 unless its timeout or a reset made it ready sooner"
-pub data TurnOf (p : ℕ) (a : Thread) (s : Step) : ℤ → Type 0 where
-  signal : (s .kind ≡ 3) ⊎ (s .kind ≡ 5) → s .object ≡ p → TurnOf p a s (pos 0)
-  object : (s .kind ≡ 21) ⊎ (s .kind ≡ 22) → 16 + s .object ≡ p → TurnOf p a s (pos 0)
-  last-tick : s .kind ≡ 1 → a .remaining ≡ 1 → TurnOf p a s (negsuc 0)
+-- the waking of a waiter at a semaphore or a pool, whose record was a: "with 0 unless its timeout or a reset made it ready sooner".
+-- Its record names the cause: 0 is with 1 signal, -1 with 8 tick, -2 with 7 reset
+pub data TurnOf (p : ℕ) (a : Thread) (s : Step) : ℤ → ℕ → Type 0 where
+  signal : (s .kind ≡ 3) ⊎ (s .kind ≡ 5) → s .object ≡ p → TurnOf p a s (pos 0) 1
+  object : (s .kind ≡ 21) ⊎ (s .kind ≡ 22) → 16 + s .object ≡ p → TurnOf p a s (pos 0) 1
+  last-tick : s .kind ≡ 1 → a .remaining ≡ 1 → TurnOf p a s (negsuc 0) 8
   -- of a semaphore only
-  reset : s .kind ≡ 4 → s .object ≡ p → p < 16 → TurnOf p a s (negsuc 1)
+  reset : s .kind ≡ 4 → s .object ≡ p → p < 16 → TurnOf p a s (negsuc 1) 7

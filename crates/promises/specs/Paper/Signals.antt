@@ -11,7 +11,7 @@ use Rattle.kernel.specs.declared.clock.Clock.{Clock}
 use Rattle.library.specs.declared.calls.Step.{Step}
 use Rattle.library.specs.declared.tables.Tables.{Tables}
 use Rattle.steps.specs.declared.stepping.Stepped.{Stepped}
-use Rattle.promises.specs.Paper.World.{found, Running}
+use Rattle.promises.specs.Paper.World.{risen, found, Running}
 use Rattle.promises.specs.Paper.Waking.{rowOf, inMask}
 
 -- the step's own call finishes in this step with m and 0: in the result, and of a thread in its record; an interrupt has none
@@ -21,7 +21,23 @@ pub record AnswersWith (s : Step) (r : Stepped) (m : ℤ) : Type 0 where
   pub last : s .caller ≢ 255 → rowOf (r .tables) (s .caller) .answer ≡ record { message = m; datum = 0 }
   pub finished : s .caller ≢ 255 → inMask (s .caller) (r .outcome .finished) ≡ true
 
--- the tables, but for the last answer of thread i, which is m and 0
+-- the tables, but for the step number, which has risen
+abbrev pub risenIn : Tables → Tables
+risenIn t =
+    record {
+      kernel = record {
+        threads = t .kernel .threads;
+        counters = t .kernel .counters;
+        references = t .kernel .references;
+        words = t .kernel .words;
+        steps = risen (t .kernel .steps);
+      };
+      mailboxes = t .mailboxes;
+      pools = t .pools;
+      sizes = t .sizes;
+    }
+
+-- and for the last answer of thread i, which is m and 0
 abbrev pub answeredIn : Tables → ℕ → ℤ → Tables
 answeredIn t i m =
     record {
@@ -35,10 +51,13 @@ answeredIn t i m =
           message = rowOf t i .message;
           call = rowOf t i .call;
           answer = record { message = m; datum = 0 };
+          cause = rowOf t i .cause;
+          step = rowOf t i .step;
         });
         counters = t .kernel .counters;
         references = t .kernel .references;
         words = t .kernel .words;
+        steps = risen (t .kernel .steps);
       };
       mailboxes = t .mailboxes;
       pools = t .pools;
@@ -51,9 +70,9 @@ pub record AtTop (t : Tables) (c : Clock) (s : Step) (r : Stepped) : Type 0 wher
   pub nobody-woken : (i : ℕ) → inMask i (r .outcome .woken) ≡ false
   pub no-other-finished : (i : ℕ) → i ≢ s .caller → inMask i (r .outcome .finished) ≡ false
   pub running : Running (found t) (r .outcome .running)
-  -- no byte changes but a calling thread's last answer
+  -- no byte changes but a calling thread's last answer and the step number
   pub thread : s .caller ≢ 255 → r .tables ≡ answeredIn t (s .caller) (pos 1)
-  pub interrupt : s .caller ≡ 255 → r .tables ≡ t
+  pub interrupt : s .caller ≡ 255 → r .tables ≡ risenIn t
   pub clock : r .clock ≡ c
 
 -- below it: "counter +1", and the answer is 0

@@ -77,6 +77,8 @@ pub record ThreadFits (z : Sizes) (t : Thread) : Type 0 where
   pub awaited : AwaitedFit t
   -- "A thread awaiting events has none of its flags pending"
   pub none-pending : t .state ≡ 4 → bitAnd (t .pending) (t .awaited) ≡ 0
+  -- of document 02: "Refusal 1 also covers a cause outside the list": none is 0, tick 8
+  pub cause : t .cause ≤ 8
 
 -- ---- counters, references, mailboxes, pools
 

@@ -34,26 +34,37 @@ pub data Tried (t : Tables) (s : Step) (kind object : ℕ) : Type 0 where
   own : s .kind ≡ kind → s .object ≡ object → Tried t s kind object
   kept : (j : ℕ) → j < t .sizes .threads → rowOf t j .call .kind ≡ kind → rowOf t j .call .object ≡ object → Tried t s kind object
 
--- the step s calls out a thread that waits in this state at this place, with this message: "the highest-priority waiter is made ready with
--- 0"; "all waiters are made ready with -2"; "the waker's a is the message"; "releases the first of the other side's waiters with 0"; ..
-pub data CalledOut (t : Tables) (s : Step) (state place : ℕ) : ℤ → Type 0 where
-  signal : (s .kind ≡ 3) ⊎ (s .kind ≡ 5) → state ≡ 3 → place ≡ s .object → CalledOut t s state place (pos 0)
-  reset : s .kind ≡ 4 → state ≡ 3 → place ≡ s .object → CalledOut t s state place (negsuc 1)
-  release : (s .kind ≡ 7) ⊎ (s .kind ≡ 8) → state ≡ 3 → place ≡ 20 + s .object → CalledOut t s state place (signed (s .a))
-  resume : s .kind ≡ 10 → state ≡ 2 → place ≡ s .object → CalledOut t s state place (signed (s .a))
-  -- a reader by a post, a writer by a fetch
-  post : (b : ℕ) → Tried t s 15 b ⊎ Tried t s 16 b → state ≡ 3 → place ≡ 32 + b → CalledOut t s state place (pos 0)
-  fetch : (b : ℕ) → Tried t s 17 b → state ≡ 3 → place ≡ 28 + b → CalledOut t s state place (pos 0)
-  box-reset : s .kind ≡ 18 → state ≡ 3 → (place ≡ 28 + s .object) ⊎ (place ≡ 32 + s .object) → CalledOut t s state place (negsuc 1)
-  object : (s .kind ≡ 21) ⊎ (s .kind ≡ 22) → state ≡ 3 → place ≡ 16 + s .object → CalledOut t s state place (pos 0)
+-- a mailbox call that the step tries serves the other side, "releases the first of the other side's waiters with 0": a reader by a post, a
+-- writer by a fetch. In a mailbox that the step resets both only "finish with -2". Of document 02, the cause is the tried call's own: 5 post,
+-- 6 fetch
+pub data Served (t : Tables) (s : Step) (state place : ℕ) : ℤ → ℕ → Type 0 where
+  post : (b : ℕ) → (s .kind ≡ 18 → b ≢ s .object) → Tried t s 15 b ⊎ Tried t s 16 b → state ≡ 3 → place ≡ 32 + b → Served t s state place (pos 0) 5
+  fetch : (b : ℕ) → (s .kind ≡ 18 → b ≢ s .object) → Tried t s 17 b → state ≡ 3 → place ≡ 28 + b → Served t s state place (pos 0) 6
 
--- the waking, and its message, that document 01 gives thread i in the step s, if its record was a
-pub data WokenBy (t : Tables) (s : Step) (i : ℕ) (a : Thread) : ℤ → Type 0 where
+-- the step s calls out a thread that waits in this state at this place, with this message: "the highest-priority waiter is made ready with
+-- 0"; "all waiters are made ready with -2"; "the waker's a is the message"; .. Of document
+-- 02, the cause: 1 signal, 2 release, 3 resume, 7 reset; "A pool's free and add count as signal"
+pub data CalledOut (t : Tables) (s : Step) (state place : ℕ) : ℤ → ℕ → Type 0 where
+  signal : (s .kind ≡ 3) ⊎ (s .kind ≡ 5) → state ≡ 3 → place ≡ s .object → CalledOut t s state place (pos 0) 1
+  reset : s .kind ≡ 4 → state ≡ 3 → place ≡ s .object → CalledOut t s state place (negsuc 1) 7
+  release : (s .kind ≡ 7) ⊎ (s .kind ≡ 8) → state ≡ 3 → place ≡ 20 + s .object → CalledOut t s state place (signed (s .a)) 2
+  resume : s .kind ≡ 10 → state ≡ 2 → place ≡ s .object → CalledOut t s state place (signed (s .a)) 3
+  served : {m : ℤ} {c : ℕ} → Served t s state place m c → CalledOut t s state place m c
+  box-reset : s .kind ≡ 18 → state ≡ 3 → (place ≡ 28 + s .object) ⊎ (place ≡ 32 + s .object) → CalledOut t s state place (negsuc 1) 7
+  object : (s .kind ≡ 21) ⊎ (s .kind ≡ 22) → state ≡ 3 → place ≡ 16 + s .object → CalledOut t s state place (pos 0) 1
+
+-- its last tick comes in this step
+abbrev pub LastTick : Step → Thread → Type 0
+LastTick s a = (s .kind ≡ 1) × (a .remaining ≡ 1)
+
+-- the waking, its message and its cause (8 tick, 4 event), that the papers give thread i in the step s, if its record was a
+pub data WokenBy (t : Tables) (s : Step) (i : ℕ) (a : Thread) : ℤ → ℕ → Type 0 where
   -- "at 0 the thread is taken off its queue .. and made ready with -1"
-  last-tick : s .kind ≡ 1 → a .remaining ≡ 1 → WokenBy t s i a (negsuc 0)
+  last-tick : s .kind ≡ 1 → a .remaining ≡ 1 → WokenBy t s i a (negsuc 0) 8
   -- "if its state is awaiting events, for any of them, it is made ready"
-  events : s .kind ≡ 13 → s .object ≡ i → a .state ≡ 4 → bitAnd (bitOr (a .pending) (s .a)) (a .awaited) ≢ 0 → WokenBy t s i a (pos 0)
-  call : {m : ℤ} → CalledOut t s (a .state) (a .place) m → WokenBy t s i a m
+  events : s .kind ≡ 13 → s .object ≡ i → a .state ≡ 4 → bitAnd (bitOr (a .pending) (s .a)) (a .awaited) ≢ 0 → WokenBy t s i a (pos 0) 4
+  -- a tick's own wakings come first: whoever has its last one is not called out any more
+  call : {m : ℤ} {c : ℕ} → (LastTick s a → ⊥) → CalledOut t s (a .state) (a .place) m c → WokenBy t s i a m c
 
 -- the flags pending for thread i, once those of the step have come
 abbrev pub heard : Step → ℕ → Thread → ℕ
@@ -71,6 +82,8 @@ sleptOn s i a =
       message = a .message;
       call = a .call;
       answer = a .answer;
+      cause = a .cause;
+      step = a .step;
     }
 
 -- the answer of a call that was woken with m: message, datum, and the flags that stay pending
@@ -87,9 +100,9 @@ pub data AnswerOf (a : Thread) (flags : ℕ) (m : ℤ) : ℤ → ℕ → ℕ →
   posted : IsPost (a .call .kind) → m ≡ pos 0 → AnswerOf a flags m (pos 0) 0 flags
   fetched : a .call .kind ≡ 17 → m ≡ pos 0 → (x : ℕ) → AnswerOf a flags m (pos 0) x flags
 
--- a record that was woken with m and whose call is not continued yet; l is its last answer
-abbrev pub wokenRow : Step → ℕ → Thread → ℤ → Answer → Thread
-wokenRow s i a m l =
+-- a record that was woken with m, by the cause c, in the step n, and whose call is not continued yet; l is its last answer
+abbrev pub wokenRow : Step → ℕ → Thread → ℤ → ℕ → ℕ → Answer → Thread
+wokenRow s i a m c n l =
     record {
       state = 0;
       place = 0;
@@ -99,11 +112,13 @@ wokenRow s i a m l =
       message = m;
       call = a .call;
       answer = l;
+      cause = c;
+      step = n;
     }
 
--- a record that was woken with m and whose call finished with x and d; the flags f stay pending
-abbrev pub doneRow : ℤ → ℤ → ℕ → ℕ → Thread
-doneRow m x d f =
+-- a record that was woken with m, by the cause c, in the step n, and whose call finished with x and d; the flags f stay pending
+abbrev pub doneRow : ℤ → ℕ → ℕ → ℤ → ℕ → ℕ → Thread
+doneRow m c n x d f =
     record {
       state = 0;
       place = 0;
@@ -113,11 +128,13 @@ doneRow m x d f =
       message = m;
       call = noCall;
       answer = record { message = x; datum = d };
+      cause = c;
+      step = n;
     }
 
--- a record whose mailbox call was tried again and sleeps again, "with its FULL timeout"
-abbrev pub againRow : Step → ℕ → Thread → Thread
-againRow s i a =
+-- a record whose mailbox call, woken by the cause c in the step n, was tried again and sleeps again, "with its FULL timeout"
+abbrev pub againRow : Step → ℕ → Thread → ℕ → ℕ → Thread
+againRow s i a c n =
     record {
       state = 3;
       place = a .place;
@@ -127,23 +144,26 @@ againRow s i a =
       message = pos 0;
       call = a .call;
       answer = noAnswer;
+      cause = c;
+      step = n;
     }
 
 -- what an accepted step s, on the tables t, has made of thread i that slept before it: b is its record then, beside whether it was woken
--- and whether its call finished
+-- and whether its call finished. The record names the cause of the waking and the number of this step
 pub data SleeperAfter (t : Tables) (s : Step) (i : ℕ) (b : Thread) (woken finished : Bool) : Type 0 where
   -- it sleeps on
-  on : b ≡ sleptOn s i (rowOf t i) → woken ≡ false → finished ≡ false → SleeperAfter t s i b woken finished
+  on : (LastTick s (rowOf t i) → ⊥) → b ≡ sleptOn s i (rowOf t i) → woken ≡ false → finished ≡ false → SleeperAfter t s i b woken finished
   -- it was made ready, and its call is not continued yet. Its last answer is 0 and 0 if the call was tried in between
-  ready : (m : ℤ) → WokenBy t s i (rowOf t i) m → (l : Answer)
-      → (l ≡ rowOf t i .answer) ⊎ (IsMailing (rowOf t i .call .kind) × (l ≡ noAnswer)) → b ≡ wokenRow s i (rowOf t i) m l
+  ready : (m : ℤ) (c : ℕ) → WokenBy t s i (rowOf t i) m c → (l : Answer)
+      → (l ≡ rowOf t i .answer) ⊎ (IsMailing (rowOf t i .call .kind) × (l ≡ noAnswer)) → b ≡ wokenRow s i (rowOf t i) m c (found t .step) l
       → woken ≡ true → finished ≡ false → SleeperAfter t s i b woken finished
   -- it was made ready, and its call finished with the answer that follows
-  done : (m x : ℤ) (d f : ℕ) → WokenBy t s i (rowOf t i) m → AnswerOf (rowOf t i) (heard s i (rowOf t i)) m x d f → b ≡ doneRow m x d f
+  done : (m x : ℤ) (c d f : ℕ) → WokenBy t s i (rowOf t i) m c → AnswerOf (rowOf t i) (heard s i (rowOf t i)) m x d f
+      → b ≡ doneRow m c (found t .step) x d f
       → woken ≡ true → finished ≡ true → SleeperAfter t s i b woken finished
   -- it was made ready with 0, and its mailbox call, tried again, sleeps again at the same place
-  again : IsMailing (rowOf t i .call .kind) → WokenBy t s i (rowOf t i) (pos 0) → b ≡ againRow s i (rowOf t i) → woken ≡ true
-      → finished ≡ false → SleeperAfter t s i b woken finished
+  again : (c : ℕ) → IsMailing (rowOf t i .call .kind) → WokenBy t s i (rowOf t i) (pos 0) c
+      → b ≡ againRow s i (rowOf t i) c (found t .step) → woken ≡ true → finished ≡ false → SleeperAfter t s i b woken finished
 
 -- a ready record as it was, once flags of the step have come
 abbrev pub readyOn : Step → ℕ → Thread → Thread
@@ -157,6 +177,8 @@ readyOn s i a =
       message = a .message;
       call = a .call;
       answer = a .answer;
+      cause = a .cause;
+      step = a .step;
     }
 
 -- what it has made of thread i that was made ready by an earlier step, and whose call was not continued yet
@@ -165,7 +187,7 @@ pub data ReadyAfter (t : Tables) (s : Step) (i : ℕ) (b : Thread) (woken finish
   on : b ≡ readyOn s i (rowOf t i) → woken ≡ false → finished ≡ false → ReadyAfter t s i b woken finished
   -- its call finished, with the answer that follows from the message with which it was woken
   done : (x : ℤ) (d f : ℕ) → AnswerOf (rowOf t i) (heard s i (rowOf t i)) (rowOf t i .message) x d f
-      → b ≡ doneRow (rowOf t i .message) x d f → woken ≡ false → finished ≡ true → ReadyAfter t s i b woken finished
+      → b ≡ doneRow (rowOf t i .message) (rowOf t i .cause) (rowOf t i .step) x d f → woken ≡ false → finished ≡ true → ReadyAfter t s i b woken finished
   -- its mailbox call was tried again, and slept again in this step; whether it sleeps still or not, the call is the same or none
   tried : IsMailing (rowOf t i .call .kind) → rowOf t i .message ≡ pos 0 → b .pending ≡ heard s i (rowOf t i)
       → (b .call ≡ rowOf t i .call) ⊎ (b .call ≡ noCall) → ReadyAfter t s i b woken finished

@@ -1,6 +1,6 @@
 -- THE WORLD OF A STEP: all that document 01 speaks of, read by index, and the words for what becomes of it. The ready word and the words of
 -- the waiting threads are no part of it: they are told once, where a step has ended.
-use Prim.Native.Nat.{ℕ, _-_, _/_, _%_, _^_, _<_}
+use Prim.Native.Nat.{ℕ, _+_, _-_, _/_, _%_, _^_, _<_}
 use mathlib.Core.Path.{_≡_}
 use mathlib.Core.Logic.{_≢_}
 use mathlib.Core.Bool.{Bool, true, false, cond}
@@ -26,6 +26,8 @@ pub record World : Type 0 where
   pub holder : ℕ → ℕ
   pub box : ℕ → Mailbox
   pub pool : ℕ → Pool
+  -- the number of this step
+  pub step : ℕ
   -- in this step: who was woken, whose call finished, an interrupt's answer
   pub woken : ℕ → Bool
   pub finished : ℕ → Bool
@@ -41,7 +43,18 @@ noAnswer = record { message = pos 0; datum = 0 }
 -- what is read past a table's end
 abbrev pub noThread : Thread
 noThread =
-    record { state = 0; place = 0; remaining = 0; pending = 0; awaited = 0; message = pos 0; call = noCall; answer = noAnswer }
+    record {
+      state = 0;
+      place = 0;
+      remaining = 0;
+      pending = 0;
+      awaited = 0;
+      message = pos 0;
+      call = noCall;
+      answer = noAnswer;
+      cause = 0;
+      step = 0;
+    }
 
 abbrev pub noBox : Mailbox
 noBox = record { positions = record { read = 0; write = 0; count = 0 }; reset = 0; messages = replicate 16 0 }
@@ -49,7 +62,11 @@ noBox = record { positions = record { read = 0; write = 0; count = 0 }; reset = 
 abbrev pub noPool : Pool
 noPool = record { length = 0; list = replicate 32 0; marks = replicate 32 0 }
 
--- what a step finds: the tables, nobody woken, no call finished, no answer
+-- of document 02: "rises by 1 at the start of each accepted step; at 4294967295 it stays there"
+abbrev pub risen : ℕ → ℕ
+risen n = cond (eqb n 4294967295) n (n + 1)
+
+-- what a step finds: the tables, its own number, nobody woken, no call finished, no answer
 abbrev pub found : Tables → World
 found t =
     record {
@@ -59,6 +76,7 @@ found t =
       holder = λ r. getD (t .kernel .references) r 255;
       box = λ m. getD (t .mailboxes) m noBox;
       pool = λ q. getD (t .pools) q noPool;
+      step = risen (t .kernel .steps);
       woken = λ i. false;
       finished = λ i. false;
       answer = noAnswer;
@@ -72,6 +90,7 @@ pub record Left (w : World) (u : Tables) : Type 0 where
   pub references : (r : ℕ) → getD (u .kernel .references) r 255 ≡ w .holder r
   pub boxes : (m : ℕ) → getD (u .mailboxes) m noBox ≡ w .box m
   pub pools : (q : ℕ) → getD (u .pools) q noPool ≡ w .pool q
+  pub steps : u .kernel .steps ≡ w .step
   pub thread-rows : length (u .kernel .threads) ≡ 16
   pub counter-rows : length (u .kernel .counters) ≡ 36
   pub reference-rows : length (u .kernel .references) ≡ 8
@@ -94,6 +113,7 @@ counterTo w p c =
       holder = w .holder;
       box = w .box;
       pool = w .pool;
+      step = w .step;
       woken = w .woken;
       finished = w .finished;
       answer = w .answer;
@@ -109,6 +129,7 @@ threadTo w i u =
       holder = w .holder;
       box = w .box;
       pool = w .pool;
+      step = w .step;
       woken = w .woken;
       finished = w .finished;
       answer = w .answer;
@@ -124,6 +145,7 @@ boxTo w m b =
       holder = w .holder;
       box = put (w .box) m b;
       pool = w .pool;
+      step = w .step;
       woken = w .woken;
       finished = w .finished;
       answer = w .answer;
@@ -139,14 +161,16 @@ poolTo w q x =
       holder = w .holder;
       box = w .box;
       pool = put (w .pool) q x;
+      step = w .step;
       woken = w .woken;
       finished = w .finished;
       answer = w .answer;
     }
 
--- ""Made ready" stores the message and sets remaining ticks to 0"; it waits "nowhere if ready"; its call is unfinished still
-abbrev pub readyWith : Thread → ℤ → Thread
-readyWith t m =
+-- ""Made ready" stores the message and sets remaining ticks to 0"; it waits "nowhere if ready"; its call is unfinished still. Of document
+-- 02: "the cause of its last waking .. and the number of that step"
+abbrev pub readyWith : Thread → ℤ → ℕ → ℕ → Thread
+readyWith t m c n =
     record {
       state = 0;
       place = 0;
@@ -156,20 +180,23 @@ readyWith t m =
       message = m;
       call = t .call;
       answer = t .answer;
+      cause = c;
+      step = n;
     }
 
--- thread i "is taken off its queue (counter +1) or reference (emptied) and made ready with" m. A queued thread's state is 3, a suspended
--- one's 2
-abbrev pub madeReady : World → ℕ → ℤ → World
-madeReady w i m =
+-- thread i "is taken off its queue (counter +1) or reference (emptied) and made ready with" m, by the cause c, in this step. A queued
+-- thread's state is 3, a suspended one's 2
+abbrev pub madeReady : World → ℕ → ℤ → ℕ → World
+madeReady w i m c =
     record {
       sizes = w .sizes;
-      thread = put (w .thread) i (readyWith (w .thread i) m);
+      thread = put (w .thread) i (readyWith (w .thread i) m c (w .step));
       counter = cond (eqb (w .thread i .state) 3)
           (put (w .counter) (w .thread i .place) (w .counter (w .thread i .place) +ℤ pos 1)) (w .counter);
       holder = cond (eqb (w .thread i .state) 2) (put (w .holder) (w .thread i .place) 255) (w .holder);
       box = w .box;
       pool = w .pool;
+      step = w .step;
       woken = put (w .woken) i true;
       finished = w .finished;
       answer = w .answer;
@@ -187,6 +214,8 @@ callEnded t m d =
       message = t .message;
       call = noCall;
       answer = record { message = m; datum = d };
+      cause = t .cause;
+      step = t .step;
     }
 
 -- the call of i finishes with m and d. "For an interrupt they are the step's answer, and no finished bit stands for it"
@@ -199,6 +228,7 @@ ended w i m d =
       holder = w .holder;
       box = w .box;
       pool = w .pool;
+      step = w .step;
       woken = w .woken;
       finished = cond (eqb i 255) (w .finished) (put (w .finished) i true);
       answer = cond (eqb i 255) (record { message = m; datum = d }) (w .answer);
@@ -217,6 +247,8 @@ asleep t state place c =
       message = t .message;
       call = c;
       answer = noAnswer;
+      cause = t .cause;
+      step = t .step;
     }
 
 -- thread i sleeps in a call: in state 3 on a queue ("counter less 1"), in state 2 on a reference (which holds it), in 1 and 4 on neither
@@ -229,6 +261,7 @@ fallAsleep w i state place c =
       holder = cond (eqb state 2) (put (w .holder) place i) (w .holder);
       box = w .box;
       pool = w .pool;
+      step = w .step;
       woken = w .woken;
       finished = w .finished;
       answer = w .answer;

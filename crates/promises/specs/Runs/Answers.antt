@@ -10,13 +10,13 @@ use Rattle.library.specs.Tables.{opened}
 use Rattle.library.specs.Acting.{acted}
 use Rattle.library.specs.Settling.{settled}
 use Rattle.steps.specs.Refusal.{refusalOf}
-use Rattle.steps.specs.Stepping.{budgetOf, doneWith, refusedWith, stepped}
+use Rattle.steps.specs.Stepping.{budgetOf, doneWith, refusedWith, started, stepped}
 use Rattle.steps.proofs.StepLaws.{step-code}
 
 module _ (t : Tables) (c : Clock) (s : Step) where
   -- an accepted step is what document 01's table says of its kind, settled "After every accepted step"
   pub step-done : stepped t c s .outcome .code ≡ 0
-      → stepped t c s ≡ doneWith (settled (budgetOf (t .sizes .threads)) (acted (opened t) (c .time) s)) c s
+      → stepped t c s ≡ doneWith (settled (budgetOf (t .sizes .threads)) (acted (started t s) (c .time) s)) c s
   unfolding stepped
   step-done e = rw (eq-eqb (refusalOf (opened t) c s) 0 (sym (step-code t c s) ∙ e))
 

@@ -105,14 +105,14 @@ calm-thread w i u c a =
       answer = refl;
     }
 
-calm-ready : (w : World) (i : ℕ) (m : ℤ) → Calm w (madeReady w i m)
-calm-ready w i m =
+calm-ready : (w : World) (i : ℕ) (m : ℤ) (c : ℕ) → Calm w (madeReady w i m c)
+calm-ready w i m c =
     record {
       sizes = refl;
       boxes = refl;
       pools = refl;
-      calls = put-part (λ (v : Thread). v .call) (w .thread) i (readyWith (w .thread i) m) refl;
-      answers = put-part (λ (v : Thread). v .answer) (w .thread) i (readyWith (w .thread i) m) refl;
+      calls = put-part (λ (v : Thread). v .call) (w .thread) i (readyWith (w .thread i) m c (w .step)) refl;
+      answers = put-part (λ (v : Thread). v .answer) (w .thread) i (readyWith (w .thread i) m c (w .step)) refl;
       finished = λ j. refl;
       answer = refl;
     }
@@ -120,22 +120,22 @@ calm-ready w i m =
 tick-calm : (w x : World) (i : ℕ) → TickOf w i x → Calm w x
 tick-calm w x i (TickOf.no-ticks a e) = calm-to e (calm-same w)
 tick-calm w x i (TickOf.falls a e) = calm-to e (calm-thread w i _ refl refl)
-tick-calm w x i (TickOf.last a e) = calm-to e (calm-ready w i (negsuc 0))
+tick-calm w x i (TickOf.last a e) = calm-to e (calm-ready w i (negsuc 0) 8)
 
 pub ticks-calm : (n : ℕ) (w x : World) → Ticks w n x → Calm w x
 ticks-calm zero w x e = calm-to e (calm-same w)
 ticks-calm (suc n) w x h = calm-on (ticks-calm n w (h .0) (h .1)) (tick-calm (h .0) x n (h .2))
 
-pub release-calm : {w : World} {p : ℕ} {m : ℤ} {x : World} → Release w p m x → Calm w x
-release-calm {w} {p} {m} (Release.first i h e) = calm-to e (calm-ready w i m)
+pub release-calm : {w : World} {p : ℕ} {m : ℤ} {c : ℕ} {x : World} → Release w p m c x → Calm w x
+release-calm {w} {p} {m} {c} (Release.first i h e) = calm-to e (calm-ready w i m c)
 release-calm {w} (Release.nobody h e) = calm-to e (calm-same w)
 
-pub release-all-calm : (w : World) (p : ℕ) (m : ℤ) (n : ℕ) (x : World) → ReleaseAll w p m n x → Calm w x
-release-all-calm w p m zero x e = calm-to e (calm-same w)
-release-all-calm w p m (suc n) x r = calm-on (release-all-calm w p m n (r .0) (r .1)) (one (r .2))
+pub release-all-calm : (w : World) (p : ℕ) (m : ℤ) (c n : ℕ) (x : World) → ReleaseAll w p m c n x → Calm w x
+release-all-calm w p m c zero x e = calm-to e (calm-same w)
+release-all-calm w p m c (suc n) x r = calm-on (release-all-calm w p m c n (r .0) (r .1)) (one (r .2))
   where
-    one : {v y : World} → ReleaseOf v p m n y → Calm v y
-    one {v} (ReleaseOf.waits a b e) = calm-to e (calm-ready v n m)
+    one : {v y : World} → ReleaseOf v p m c n y → Calm v y
+    one {v} (ReleaseOf.waits a b e) = calm-to e (calm-ready v n m c)
     one {v} (ReleaseOf.elsewhere a e) = calm-to e (calm-same v)
 
 -- a counter changes
@@ -154,7 +154,7 @@ counter-calm w x z b p t f a =
 
 pub signal-calm : {w : World} {p : ℕ} {x : World} {b : Bool} → Signal w p x b → Calm w x
 signal-calm {w} {p} (Signal.raises a l e) = calm-to e (counter-calm w _ refl refl refl refl refl refl)
-signal-calm {w} (Signal.wakes a i h e) = calm-to e (calm-ready w i (pos 0))
+signal-calm {w} (Signal.wakes a i h e) = calm-to e (calm-ready w i (pos 0) 1)
 signal-calm {w} (Signal.at-top a e) = calm-to e (calm-same w)
 
 pub binary-calm : {w : World} {p : ℕ} {x : World} → BinarySignal w p x → Calm w x
@@ -162,12 +162,12 @@ binary-calm (BinarySignal.signals a n h) = signal-calm h
 binary-calm {w} (BinarySignal.nothing a e) = calm-to e (calm-same w)
 
 pub resume-calm : {w : World} {r : ℕ} {m : ℤ} {x : World} → Resume w r m x → Calm w x
-resume-calm {w} {r} {m} (Resume.held a e) = calm-to e (calm-ready w (w .holder r) m)
+resume-calm {w} {r} {m} (Resume.held a e) = calm-to e (calm-ready w (w .holder r) m 3)
 resume-calm {w} (Resume.empty a e) = calm-to e (calm-same w)
 
 pub event-calm : {w : World} {i a : ℕ} {x : World} → EventSignal w i a x → Calm w x
 event-calm {w} {i} {a} (EventSignal.comes g h e) =
-    calm-to e (calm-on (calm-thread w i _ refl refl) (calm-ready (flagged w i a) i (pos 0)))
+    calm-to e (calm-on (calm-thread w i _ refl refl) (calm-ready (flagged w i a) i (pos 0) 4))
 event-calm {w} {i} {a} (EventSignal.only-flagged g e) = calm-to e (calm-thread w i _ refl refl)
 
 -- ---- one call

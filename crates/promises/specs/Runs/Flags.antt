@@ -18,7 +18,7 @@ use Rattle.promises.specs.Paper.World.{World, found, readyWith, callEnde
 use Rattle.promises.specs.Paper.Waking.{rowOf, IsMailing, CalledOut, heard, AnswerOf, SleeperAfter, ReadyAfter, OwnWait}
 use Rattle.promises.specs.Paper.Flags.{awaitsFlags, GoesOn, FlagsAfter}
 use Rattle.promises.specs.Runs.Keeping.{ownFlags, OwnEnd, Keeps}
-use Rattle.promises.specs.Runs.OneRow.{flagsTaken, mail-other, Stands, row-keeps}
+use Rattle.promises.specs.Runs.OneRow.{flagsTaken, mail-other, Stands, Steady, row-keeps}
 use Rattle.promises.specs.Runs.Passing.{Passed, found-passed, ticks-passed, events-passed}
 use Rattle.promises.specs.Runs.Sleepers.{no-event, called-state}
 
@@ -61,11 +61,11 @@ module _ (t : Tables) (s : Step) (i : ℕ) (apart : s .caller ≢ i) where
 
   -- and of whom slept
   pub sleeper-flags : {b : Thread} {w f : Bool} → SleeperAfter t s i b w f → FlagsAfter t s i b f
-  sleeper-flags (SleeperAfter.on e p q) = unfinished (ap (λ (u : Thread). u .pending) e) q
-  sleeper-flags (SleeperAfter.ready m by l g e p q) = unfinished (ap (λ (u : Thread). u .pending) e) q
-  sleeper-flags {b} {w} {f} (SleeperAfter.done m x d g by h e p q) =
+  sleeper-flags (SleeperAfter.on u e p q) = unfinished (ap (λ (u : Thread). u .pending) e) q
+  sleeper-flags (SleeperAfter.ready m o by l g e p q) = unfinished (ap (λ (u : Thread). u .pending) e) q
+  sleeper-flags {b} {w} {f} (SleeperAfter.done m x o d g by h e p q) =
       answered b f m q (λ k. GoesOn.wakes apart k by) h (ap (λ (u : Thread). u .pending) e) (ap (λ (u : Thread). u .answer) e)
-  sleeper-flags (SleeperAfter.again g by e p q) = unfinished (ap (λ (u : Thread). u .pending) e) q
+  sleeper-flags (SleeperAfter.again o g by e p q) = unfinished (ap (λ (u : Thread). u .pending) e) q
 
 -- ---- the caller
 
@@ -160,14 +160,14 @@ module _ (t : Tables) (s : Step) (someone : s .caller ≢ 255) (was-ready : rowO
     sleeps-on pl g (Flagged.done n e p k) = Flagged.done n e p k
 
     -- it is woken, if it fell asleep before
-    wakes : (m : ℤ) → CalledOut t s (r .state) (r .place) m → Flagged r q → Flagged (readyWith r m) q
-    wakes m c (Flagged.waits p e (inl k)) = Flagged.waits p e (inl k)
-    wakes m c (Flagged.waits p e (inr k)) =
+    wakes : (m : ℤ) (o v : ℕ) → CalledOut t s (r .state) (r .place) m o → Flagged r q → Flagged (readyWith r m o v) q
+    wakes m o v c (Flagged.waits p e (inl k)) = Flagged.waits p e (inl k)
+    wakes m o v c (Flagged.waits p e (inr k)) =
         Flagged.waits p e
         (inr (k .0, λ x. elim (called-state c) [ inl y ↦ absurd (omega (arith, y, k .1 x)) | inr y ↦ absurd (omega (arith, y, k .1 x)) ]))
-    wakes m c (Flagged.taken x n e g p k) = Flagged.taken x n e g p k
-    wakes m c (Flagged.late x z l e g p k) = Flagged.late x z l e g p k
-    wakes m c (Flagged.done n e p k) = Flagged.done n e p k
+    wakes m o v c (Flagged.taken x n e g p k) = Flagged.taken x n e g p k
+    wakes m o v c (Flagged.late x z l e g p k) = Flagged.late x z l e g p k
+    wakes m o v c (Flagged.done n e p k) = Flagged.done n e p k
 
   -- it takes flags at once, or not at all
   own-takes : s .kind ≡ 14 → ownFlags t s ≢ 0 → {q : Bool} → q ≡ false → Flagged b q → Flagged (flagsTaken b (s .a)) true
@@ -177,22 +177,23 @@ module _ (t : Tables) (s : Step) (someone : s .caller ≢ 255) (was-ready : rowO
   own-takes k n z (Flagged.late g x l q r p e) = contrary q z
   own-takes k n z (Flagged.done g q p e) = contrary q z
 
-  pub flags-keep : Keeps t s Flags
+  pub flags-keep : Keeps t s (Steady t s i someone P)
   flags-keep =
       row-keeps t s i someone P
       (record {
-        wakes = λ m n c h. wakes m c h;
+        wakes = λ m o n c h. wakes m o (found t .step) (CalledOut.served c) h;
         ends-on = λ m d z n g h. ends-on m d z n h;
         takes-on = λ z k m h. absurd (no-takes z k h);
         sleeps-on = λ q z g m side h. sleeps-on q g h;
       })
       (record {
+        wakes = λ m o n c h. wakes m o (found t .step) c h;
         begins = λ x y. passed (found t) (found-passed t s i was-ready no-ticks y);
         ticks = λ v e h. passed v (ticks-passed t s i was-ready no-ticks v e h);
         events = λ v e h. passed v (events-passed t s i was-ready no-ticks e v h);
         ends = λ e m d o h. own-ends m d o h;
         takes = λ e k n z h. own-takes k n z h;
-        sleeps = λ e st pl c o k none h. own-sleeps st pl c o k none h;
+        sleeps = λ e st pl c o k none b h. own-sleeps st pl c o k none h;
       })
 
   own-awaits : s .kind ≢ 14 → (q : Bool) → (awaitsFlags t s i && q) ≡ false

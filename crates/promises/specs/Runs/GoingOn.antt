@@ -85,13 +85,13 @@ module _ (i : ℕ) (someone : i ≢ 255) where
   waiting-on w x e f h = record { kind = ap (λ (c : Call). c .kind) e ∙ h .kind; unfinished = f ∙ h .unfinished }
 
   -- another is woken, or it is itself: its call stays
-  ready-call : (w : World) (j : ℕ) (m : ℤ) → madeReady w j m .thread i .call ≡ w .thread i .call
-  ready-call w j m =
-      same-or i j (λ e. rw e (ap (λ (u : Thread). u .call) (put-same (w .thread) j (readyWith (w .thread j) m))))
-      (λ d. ap (λ (u : Thread). u .call) (put-other (w .thread) j i (readyWith (w .thread j) m) d))
+  ready-call : (w : World) (j : ℕ) (m : ℤ) (c : ℕ) → madeReady w j m c .thread i .call ≡ w .thread i .call
+  ready-call w j m c =
+      same-or i j (λ e. rw e (ap (λ (u : Thread). u .call) (put-same (w .thread) j (readyWith (w .thread j) m c (w .step)))))
+      (λ d. ap (λ (u : Thread). u .call) (put-other (w .thread) j i (readyWith (w .thread j) m c (w .step)) d))
 
-  release-waiting : {w v : World} {p : ℕ} {m : ℤ} → Release w p m v → Waiting w → Waiting v
-  release-waiting {w} {v} {p} {m} (Release.first j h e) g = subst Waiting (sym e) (waiting-on w (madeReady w j m) (ready-call w j m) refl g)
+  release-waiting : {w v : World} {p : ℕ} {m : ℤ} {c : ℕ} → Release w p m c v → Waiting w → Waiting v
+  release-waiting {w} {v} {p} {m} {c} (Release.first j h e) g = subst Waiting (sym e) (waiting-on w (madeReady w j m c) (ready-call w j m c) refl g)
   release-waiting (Release.nobody h e) g = subst Waiting (sym e) g
 
   -- another's call ends, or sleeps
@@ -170,13 +170,13 @@ module _ (t : Tables) (s : Step) (i : ℕ) (someone : i ≢ 255) where
         (same-or i j (λ x. rw x (ap (λ (v : Thread). v .call) (put-same (w .thread) j u) ∙ e))
         (λ d. ap (λ (v : Thread). v .call) (put-other (w .thread) j i u d))) refl
 
-    ready-waiting : (w : World) (j : ℕ) (m : ℤ) → W w → W (madeReady w j m)
-    ready-waiting w j m = waiting-on i someone w (madeReady w j m) (ready-call i someone w j m) refl
+    ready-waiting : (w : World) (j : ℕ) (m : ℤ) (o : ℕ) → W w → W (madeReady w j m o)
+    ready-waiting w j m o = waiting-on i someone w (madeReady w j m o) (ready-call i someone w j m o) refl
 
     tick-waiting : {w x : World} (j : ℕ) → TickOf w j x → W w → W x
     tick-waiting j (TickOf.no-ticks z e) g = subst W (sym e) g
     tick-waiting {w} j (TickOf.falls z e) g = subst W (sym e) (row-waiting w j _ refl g)
-    tick-waiting {w} j (TickOf.last z e) g = subst W (sym e) (ready-waiting w j _ g)
+    tick-waiting {w} j (TickOf.last z e) g = subst W (sym e) (ready-waiting w j _ 8 g)
 
     ticks-waiting : (n : ℕ) {x : World} → Ticks (found t) n x → W x
     ticks-waiting zero e = subst W (sym e) waiting-found
@@ -184,7 +184,7 @@ module _ (t : Tables) (s : Step) (i : ℕ) (someone : i ≢ 255) where
 
     events-waiting : {x : World} (j a : ℕ) → EventSignal (found t) j a x → W x
     events-waiting j a (EventSignal.comes g h e) =
-        subst W (sym e) (ready-waiting (flagged (found t) j a) j (pos 0) (row-waiting (found t) j _ refl waiting-found))
+        subst W (sym e) (ready-waiting (flagged (found t) j a) j (pos 0) 4 (row-waiting (found t) j _ refl waiting-found))
     events-waiting j a (EventSignal.only-flagged h e) = subst W (sym e) (row-waiting (found t) j _ refl waiting-found)
 
     kept-act : KeepsAct t s W
@@ -194,7 +194,7 @@ module _ (t : Tables) (s : Step) (i : ℕ) (someone : i ≢ 255) where
             counter = λ w p c g. waiting-on i someone w (counterTo w p c) refl refl g;
             box = λ w b x g. waiting-on i someone w (boxTo w b x) refl refl g;
             pool = λ w q x g. waiting-on i someone w (poolTo w q x) refl refl g;
-            wakes = λ w j m n c g. ready-waiting w j m g;
+            wakes = λ w j m o n c g. ready-waiting w j m o g;
           };
           begins = λ x y. waiting-found;
           ticks = λ v e h. ticks-waiting (t .sizes .threads) h;

@@ -22,9 +22,9 @@ use Rattle.library.specs.declared.tables.Plant.{Plant}
 use Rattle.library.specs.declared.tables.Pool.{Pool}
 use Rattle.library.specs.declared.tables.Tables.{Tables}
 use Rattle.library.specs.Acting.{acted}
-use Rattle.library.specs.Tables.{opened, closed, poolAt}
+use Rattle.library.specs.Tables.{closed, poolAt}
 use Rattle.steps.specs.declared.stepping.Stepped.{Stepped}
-use Rattle.steps.specs.Stepping.{budgetOf, outcomeOf, doneWith, stepped}
+use Rattle.steps.specs.Stepping.{budgetOf, outcomeOf, doneWith, started, stepped}
 use Rattle.steps.proofs.StepLaws.{step-refused}
 use Rattle.promises.specs.Paper.World.{World, found, boxTo, poolTo, ended, signed, kept, First}
 use Rattle.promises.specs.Paper.Host.{Host, HostSteps}
@@ -175,7 +175,7 @@ module _ (n : ℕ) (t : Tables) (c : Clock) (s : Step) (host : Host t c s) (e : 
   mine = own-call n t s
 
   fit-found : Fit w₀
-  fit-found = subst Fit (found-is t) (fit-plant (opened t) (begun-whole t c s host (accepted t c s host e)))
+  fit-found = subst Fit (found-is t) (fit-plant (started t s) (begun-whole t c s host (accepted t c s host e)))
 
   -- 2, 6, 9, 11, 12 and 14 are a thread's
   by-thread : KernelWait (s .kind) → j ≢ 255
@@ -353,12 +353,12 @@ module _ (n : ℕ) (t : Tables) (c : Clock) (s : Step) (host : Host t c s) (e : 
   act-does q x (Act.signal v b h z) = wakes-with _ q refl v x (signal-calm h) z
   act-does q x (Act.reset v h z) =
       wakes q refl _ x
-      (calm-on (release-all-calm w₀ (s .object) (negsuc 1) (t .sizes .threads) v h) (counter-calm v _ refl refl refl refl refl refl)) z
+      (calm-on (release-all-calm w₀ (s .object) (negsuc 1) 7 (t .sizes .threads) v h) (counter-calm v _ refl refl refl refl refl refl)) z
   act-does q x (Act.binary-signal v h z) = wakes q refl v x (binary-calm h) z
   act-does q x (Act.queue-wait h) = waits q refl (inr (inl q)) (kept 6 (s .object) 0 (s .timeout)) refl 3 (20 + s .object) x h
   act-does q x (Act.release-first v h z) = wakes q refl v x (release-calm h) z
   act-does q x (Act.release-all v h z) =
-      wakes q refl v x (release-all-calm w₀ (20 + s .object) (signed (s .a)) (t .sizes .threads) v h) z
+      wakes q refl v x (release-all-calm w₀ (20 + s .object) (signed (s .a)) 2 (t .sizes .threads) v h) z
   act-does q x (Act.suspend h) = waits q refl (inr (inr (inl q))) (kept 9 (s .object) 0 (s .timeout)) refl 2 (s .object) x h
   act-does q x (Act.resume v h z) = wakes q refl v x (resume-calm h) z
   act-does q x (Act.sleep-for z) =
@@ -373,8 +373,8 @@ module _ (n : ℕ) (t : Tables) (c : Clock) (s : Step) (host : Host t c s) (e : 
   act-does q x (Act.post-ahead h) = post-own 16 x q (inr refl) h
   act-does q x (Act.fetch h) = fetch-own x q h
   act-does q x (Act.mailbox-reset v u h g z) =
-      reset-does v u x q (release-all-calm w₀ (28 + s .object) (negsuc 1) (t .sizes .threads) v h)
-      (release-all-calm v (32 + s .object) (negsuc 1) (t .sizes .threads) u g) z
+      reset-does v u x q (release-all-calm w₀ (28 + s .object) (negsuc 1) 7 (t .sizes .threads) v h)
+      (release-all-calm v (32 + s .object) (negsuc 1) 7 (t .sizes .threads) u g) z
   act-does q x (Act.mailbox-resume z) = mail-resume-does x q z
   act-does q x (Act.alloc h) = alloc-does x q h
   act-does q x (Act.free v b h z) = free-does (inl q) v (signal-calm h) x q z
@@ -384,9 +384,9 @@ module _ (n : ℕ) (t : Tables) (c : Clock) (s : Step) (host : Host t c s) (e : 
   abbrev Told : World → Type 0
   Told x = (es : List Event) × Dealt w₀ es x × Seen n t s x es × OwnFirst es
 
-  act-told : Told (worldOf (acted (opened t) (c .time) s))
+  act-told : Told (worldOf (acted (started t s) (c .time) s))
   act-told =
-      let x = worldOf (acted (opened t) (c .time) s) in
+      let x = worldOf (acted (started t s) (c .time) s) in
       let d = act-does refl x (act t c s host e) in
       (d .0, d .1 .dealt, act-seen n t s (λ z. caller-first t c s host e z .thread) x (d .0) (d .1), own-first n t j mine w₀ x (d .0) (d .1 .own))
 
@@ -406,7 +406,7 @@ module _ (n : ℕ) (t : Tables) (c : Clock) (s : Step) (host : Host t c s) (e : 
 
   step-told : Told x₁
   step-told =
-      settled-keeps Told continue-told (budgetOf (t .sizes .threads)) (acted (opened t) (c .time) s)
+      settled-keeps Told continue-told (budgetOf (t .sizes .threads)) (acted (started t s) (c .time) s)
       (own t c s host (accepted t c s host e) (acted-whole t c s host (accepted t c s host e))) act-told
 
   -- what is seen in the world where settling has ended is what the result shows

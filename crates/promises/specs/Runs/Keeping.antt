@@ -51,7 +51,7 @@ use Rattle.promises.specs.Paper.Rows.{
   Act,
 }
 use Rattle.promises.specs.Paper.Settling.{IsOther, Continued}
-use Rattle.promises.specs.Paper.Waking.{IsPost, IsMailing, Tried, CalledOut, OwnWait}
+use Rattle.promises.specs.Paper.Waking.{IsPost, IsMailing, Tried, Served, CalledOut, OwnWait}
 
 -- ---- one entry of a table, and the others
 
@@ -84,17 +84,17 @@ pub data SideOf (c : Call) : ℕ → Type 0 where
   writers : IsPost (c .kind) → SideOf c (28 + c .object)
   readers : c .kind ≡ 17 → SideOf c (32 + c .object)
 
--- P is kept by each move that the step's own act and a continued call share
-pub record Moves (t : Tables) (s : Step) (P : World → Type 0) : Type 0 where
+-- P is kept by each move that the step's own act and a continued call share; C is who calls out a thread, by its state and place
+pub record Moves (t : Tables) (s : Step) (C : ℕ → ℕ → ℤ → ℕ → Type 0) (P : World → Type 0) : Type 0 where
   pub counter : (w : World) (p : ℕ) (c : ℤ) → P w → P (counterTo w p c)
   pub box : (w : World) (b : ℕ) (x : Mailbox) → P w → P (boxTo w b x)
   pub pool : (w : World) (q : ℕ) (x : Pool) → P w → P (poolTo w q x)
-  pub wakes : (w : World) (j : ℕ) (m : ℤ) → w .thread j .state ≢ 0 → CalledOut t s (w .thread j .state) (w .thread j .place) m → P w
-      → P (madeReady w j m)
+  pub wakes : (w : World) (j : ℕ) (m : ℤ) (c : ℕ) → w .thread j .state ≢ 0 → C (w .thread j .state) (w .thread j .place) m c → P w
+      → P (madeReady w j m c)
 
--- and by each that a continued call makes: thread r's call ends, takes flags or sleeps again
+-- and by each that a continued call makes, which wakes others only where it serves: thread r's call ends, takes flags or sleeps again
 pub record KeepsOn (t : Tables) (s : Step) (P : World → Type 0) : Type 0 where
-  pub moves : Moves t s P
+  pub moves : Moves t s (Served t s) P
   pub ends-on : (w : World) (r : ℕ) (m : ℤ) (d : ℕ) → r < t .sizes .threads → w .thread r .state ≡ 0 → w .thread r .call .kind ≢ 0
       → Ends (w .thread r) m d → P w → P (ended w r m d)
   pub takes-on : (w : World) (r : ℕ) → r < t .sizes .threads → w .thread r .state ≡ 0 → w .thread r .call .kind ≡ 14
@@ -112,7 +112,7 @@ OwnEnd t s m d = s .kind ≡ 14 → (m ≡ negsuc 0) × (d ≡ 0) × (ownFlags t
 
 -- or by each that the step's own act makes
 pub record KeepsAct (t : Tables) (s : Step) (P : World → Type 0) : Type 0 where
-  pub moves : Moves t s P
+  pub moves : Moves t s (CalledOut t s) P
   -- what the step finds, but for a tick and an event signal, which are told as a whole
   pub begins : s .kind ≢ 1 → s .kind ≢ 13 → P (found t)
   pub ticks : (v : World) → s .kind ≡ 1 → Ticks (found t) (t .sizes .threads) v → P v
@@ -121,7 +121,7 @@ pub record KeepsAct (t : Tables) (s : Step) (P : World → Type 0) : Type 0 wher
   pub ends : (w : World) (m : ℤ) (d : ℕ) → OwnEnd t s m d → P w → P (ended w (s .caller) m d)
   pub takes : s .kind ≡ 14 → ownFlags t s ≢ 0 → P (found t) → P (tookFlags (found t) (s .caller) (s .a))
   pub sleeps : (w : World) (st pl : ℕ) (c : Call) → OwnWait s st pl → c .kind ≡ s .kind → (s .kind ≡ 14 → ownFlags t s ≡ 0)
-      → (IsMailing (c .kind) → Tried t s (c .kind) (c .object)) → P w → P (fallAsleep w (s .caller) st pl c)
+      → (IsMailing (c .kind) → c .object ≡ s .object) → P w → P (fallAsleep w (s .caller) st pl c)
 
 -- and so by the whole step
 pub record Keeps (t : Tables) (s : Step) (P : World → Type 0) : Type 0 where
@@ -136,25 +136,25 @@ both-on t s P Q k l =
         counter = λ w p c h. (k .moves .counter w p c (h .0), l .moves .counter w p c (h .1));
         box = λ w b x h. (k .moves .box w b x (h .0), l .moves .box w b x (h .1));
         pool = λ w q x h. (k .moves .pool w q x (h .0), l .moves .pool w q x (h .1));
-        wakes = λ w j m n c h. (k .moves .wakes w j m n c (h .0), l .moves .wakes w j m n c (h .1));
+        wakes = λ w j m b n c h. (k .moves .wakes w j m b n c (h .0), l .moves .wakes w j m b n c (h .1));
       };
       ends-on = λ w r m d g z n e h. (k .ends-on w r m d g z n e (h .0), l .ends-on w r m d g z n e (h .1));
       takes-on = λ w r g z e m h. (k .takes-on w r g z e m (h .0), l .takes-on w r g z e m (h .1));
       sleeps-on = λ w r q g z b m e h. (k .sleeps-on w r q g z b m e (h .0), l .sleeps-on w r q g z b m e (h .1));
     }
 
-module _ (t : Tables) (s : Step) (P : World → Type 0) (k : Moves t s P) where
+module _ (t : Tables) (s : Step) (P : World → Type 0) {C : ℕ → ℕ → ℤ → ℕ → Type 0} (k : Moves t s C P) where
   to : {x y : World} → x ≡ y → P y → P x
   to e h = subst P (sym e) h
 
   -- the first of the waiters at p
-  highest-keeps : (w : World) (p i : ℕ) (m : ℤ) → Highest w p i → ((st pl : ℕ) → st ≡ 3 → pl ≡ p → CalledOut t s st pl m) → P w
-      → P (madeReady w i m)
-  highest-keeps w p i m h by = k .wakes w i m (queued-asleep (h .waits .0)) (by (w .thread i .state) (w .thread i .place) (h .waits .0) (h .waits .1))
+  highest-keeps : (w : World) (p i : ℕ) (m : ℤ) (c : ℕ) → Highest w p i → ((st pl : ℕ) → st ≡ 3 → pl ≡ p → C st pl m c) → P w
+      → P (madeReady w i m c)
+  highest-keeps w p i m c h by = k .wakes w i m c (queued-asleep (h .waits .0)) (by (w .thread i .state) (w .thread i .place) (h .waits .0) (h .waits .1))
 
-  release-keeps : {w x : World} (p : ℕ) (m : ℤ) → Release w p m x → ((st pl : ℕ) → st ≡ 3 → pl ≡ p → CalledOut t s st pl m) → P w → P x
-  release-keeps {w} p m (Release.first i h e) by g = to e (highest-keeps w p i m h by g)
-  release-keeps p m (Release.nobody h e) by g = to e g
+  release-keeps : {w x : World} (p : ℕ) (m : ℤ) (c : ℕ) → Release w p m c x → ((st pl : ℕ) → st ≡ 3 → pl ≡ p → C st pl m c) → P w → P x
+  release-keeps {w} p m c (Release.first i h e) by g = to e (highest-keeps w p i m c h by g)
+  release-keeps p m c (Release.nobody h e) by g = to e g
 
   -- a post that is tried is of one of two kinds
   posts : (c : Call) → (IsMailing (c .kind) → Tried t s (c .kind) (c .object)) → IsMailing (c .kind) → IsPost (c .kind)
@@ -165,15 +165,17 @@ module _ (t : Tables) (s : Step) (P : World → Type 0) (k : Moves t s P) where
 -- ---- settling
 
 module _ (t : Tables) (s : Step) (P : World → Type 0) (k : KeepsOn t s P) where
-  -- thread r's call is continued. Its mailbox call is one that the step tries, its timeout is not 0, and a top is an object's number
+  -- thread r's call is continued. Its mailbox call is one that the step tries, its timeout is not 0, a top is an object's number, and the mailbox that the step
+  -- resets is not at work
   module _ (w : World) (r : ℕ) (thread : r < t .sizes .threads) (is-ready : w .thread r .state ≡ 0) (call : w .thread r .call .kind ≢ 0)
       (timed : w .thread r .call .timeout ≢ 0) (tried : IsMailing (w .thread r .call .kind) → Tried t s (w .thread r .call .kind) (w .thread r .call .object))
-      (top : w .thread r .call .kind ≡ 20 → w .thread r .message ≡ pos 0 → topIn (w .pool (w .thread r .call .object)) < 32) where
+      (top : w .thread r .call .kind ≡ 20 → w .thread r .message ≡ pos 0 → topIn (w .pool (w .thread r .call .object)) < 32)
+      (shut : s .kind ≡ 18 → w .box (w .thread r .call .object) .reset ≡ 0 → w .thread r .call .object ≢ s .object) where
     abbrev c : Call
     c = w .thread r .call
 
     -- whoever is released is another
-    released-row : {v : World} {p : ℕ} {m : ℤ} → Release w p m v → v .thread r ≡ w .thread r
+    released-row : {v : World} {p : ℕ} {m : ℤ} {b : ℕ} → Release w p m b v → v .thread r ≡ w .thread r
     released-row (Release.first i h e) = ap (λ (x : World). x .thread r) e ∙ put-other (w .thread) i r _ (λ x. queued-asleep (rw (← x) at (h .waits .0)) is-ready)
     released-row (Release.nobody h e) = ap (λ (x : World). x .thread r) e
 
@@ -191,12 +193,12 @@ module _ (t : Tables) (s : Step) (P : World → Type 0) (k : KeepsOn t s P) wher
         to t s P (k .moves) e
         (ends-at (boxTo v (c .object) _) (pos 0) 0 (released-row h) (Ends.posted p m)
         (k .moves .box v (c .object) _
-        (release-keeps t s P (k .moves) (32 + c .object) (pos 0) h (λ st pl x y. CalledOut.post (c .object) (posts t s P (k .moves) c tried (inl p) p) x y) g)))
+        (release-keeps t s P (k .moves) (32 + c .object) (pos 0) 5 h (λ st pl x y. Served.post (c .object) (λ z. shut z a) (posts t s P (k .moves) c tried (inl p) p) x y) g)))
     on-post p m (Post.ahead a l b v h e) g =
         to t s P (k .moves) e
         (ends-at (boxTo v (c .object) _) (pos 0) 0 (released-row h) (Ends.posted p m)
         (k .moves .box v (c .object) _
-        (release-keeps t s P (k .moves) (32 + c .object) (pos 0) h (λ st pl x y. CalledOut.post (c .object) (posts t s P (k .moves) c tried (inl p) p) x y) g)))
+        (release-keeps t s P (k .moves) (32 + c .object) (pos 0) 5 h (λ st pl x y. Served.post (c .object) (λ z. shut z a) (posts t s P (k .moves) c tried (inl p) p) x y) g)))
     on-post p m (Post.no-room a l h) g = sleeps-at (28 + c .object) (inl p) m (SideOf.writers p) h g
 
     on-fetch : {x : World} → c .kind ≡ 17 → w .thread r .message ≡ pos 0 → Fetch w r c x → P w → P x
@@ -205,8 +207,8 @@ module _ (t : Tables) (s : Step) (P : World → Type 0) (k : KeepsOn t s P) wher
         to t s P (k .moves) e
         (ends-at (boxTo v (c .object) _) (pos 0) _ (released-row h) (Ends.fetched p m _)
         (k .moves .box v (c .object) _
-        (release-keeps t s P (k .moves) (28 + c .object) (pos 0) h
-        (λ st pl x y. CalledOut.fetch (c .object) (subst (λ (n : ℕ). Tried t s n (c .object)) p (tried (inr p))) x y) g)))
+        (release-keeps t s P (k .moves) (28 + c .object) (pos 0) 6 h
+        (λ st pl x y. Served.fetch (c .object) (λ z. shut z a) (subst (λ (n : ℕ). Tried t s n (c .object)) p (tried (inr p))) x y) g)))
     on-fetch p m (Fetch.no-message a l h) g = sleeps-at (32 + c .object) (inr p) m (SideOf.readers p) h g
 
     -- EACH CONTINUED CALL KEEPS IT
@@ -219,31 +221,34 @@ module _ (t : Tables) (s : Step) (P : World → Type 0) (k : KeepsOn t s P) wher
     continue-keeps (Continued.answers h e) g = to t s P (k .moves) e (ends-at w (w .thread r .message) 0 refl (Ends.message h) g)
 
 module _ (t : Tables) (s : Step) (P : World → Type 0) (k : KeepsAct t s P) where
-  release-all-keeps : {w : World} (p : ℕ) (m : ℤ) (n : ℕ) {x : World} → ReleaseAll w p m n x
-      → ((st pl : ℕ) → st ≡ 3 → pl ≡ p → CalledOut t s st pl m) → P w → P x
-  release-all-keeps p m zero e by g = to t s P (k .moves) e g
-  release-all-keeps p m (suc n) r by g = one (r .2) (release-all-keeps p m n (r .1) by g)
+  release-all-keeps : {w : World} (p : ℕ) (m : ℤ) (c n : ℕ) {x : World} → ReleaseAll w p m c n x
+      → ((st pl : ℕ) → st ≡ 3 → pl ≡ p → CalledOut t s st pl m c) → P w → P x
+  release-all-keeps p m c zero e by g = to t s P (k .moves) e g
+  release-all-keeps p m c (suc n) r by g = one (r .2) (release-all-keeps p m c n (r .1) by g)
     where
-      one : {v x : World} → ReleaseOf v p m n x → P v → P x
-      one {v} (ReleaseOf.waits a b e) h = to t s P (k .moves) e (k .moves .wakes v n m (queued-asleep a) (by (v .thread n .state) (v .thread n .place) a b) h)
+      one : {v x : World} → ReleaseOf v p m c n x → P v → P x
+      one {v} (ReleaseOf.waits a b e) h = to t s P (k .moves) e (k .moves .wakes v n m c (queued-asleep a) (by (v .thread n .state) (v .thread n .place) a b) h)
       one (ReleaseOf.elsewhere a e) h = to t s P (k .moves) e h
 
-  signal-keeps : {w x : World} {b : Bool} (p : ℕ) → Signal w p x b → ((st pl : ℕ) → st ≡ 3 → pl ≡ p → CalledOut t s st pl (pos 0)) → P w → P x
+  signal-keeps : {w x : World} {b : Bool} (p : ℕ) → Signal w p x b → ((st pl : ℕ) → st ≡ 3 → pl ≡ p → CalledOut t s st pl (pos 0) 1) → P w → P x
   signal-keeps {w} p (Signal.raises a l e) by g = to t s P (k .moves) e (k .moves .counter w p _ g)
-  signal-keeps {w} p (Signal.wakes a i h e) by g = to t s P (k .moves) e (highest-keeps t s P (k .moves) w p i (pos 0) h by g)
+  signal-keeps {w} p (Signal.wakes a i h e) by g = to t s P (k .moves) e (highest-keeps t s P (k .moves) w p i (pos 0) 1 h by g)
   signal-keeps p (Signal.at-top a e) by g = to t s P (k .moves) e g
 
-  binary-keeps : {w x : World} (p : ℕ) → BinarySignal w p x → ((st pl : ℕ) → st ≡ 3 → pl ≡ p → CalledOut t s st pl (pos 0)) → P w → P x
+  binary-keeps : {w x : World} (p : ℕ) → BinarySignal w p x → ((st pl : ℕ) → st ≡ 3 → pl ≡ p → CalledOut t s st pl (pos 0) 1) → P w → P x
   binary-keeps p (BinarySignal.signals a n h) by g = signal-keeps p h by g
   binary-keeps p (BinarySignal.nothing a e) by g = to t s P (k .moves) e g
 
   -- the step's own call waits
-  module _ (c : Call) (kind : c .kind ≡ s .kind) (tried : IsMailing (c .kind) → Tried t s (c .kind) (c .object)) where
+  module _ (c : Call) (kind : c .kind ≡ s .kind) (same : IsMailing (c .kind) → c .object ≡ s .object) where
+    tried : IsMailing (c .kind) → Tried t s (c .kind) (c .object)
+    tried m = Tried.own (sym kind) (sym (same m))
+
     waits-keeps : {w x : World} (st pl : ℕ) → (s .kind ≡ 14 → (ownFlags t s ≡ 0) × (c .timeout ≡ s .timeout))
         → (c .timeout ≢ 0 → OwnWait s st pl) → Waits w (s .caller) st pl c x → P w → P x
     waits-keeps {w} st pl none own (Waits.now a e) g =
         to t s P (k .moves) e (k .ends w (negsuc 0) 0 (λ q. (refl, refl, none q .0, sym (none q .1) ∙ a)) g)
-    waits-keeps {w} st pl none own (Waits.later a e) g = to t s P (k .moves) e (k .sleeps w st pl c (own a) kind (λ q. none q .0) tried g)
+    waits-keeps {w} st pl none own (Waits.later a e) g = to t s P (k .moves) e (k .sleeps w st pl c (own a) kind (λ q. none q .0) same g)
 
     -- of another kind than an event wait
     module _ (plain : s .kind ≢ 14) where
@@ -261,18 +266,23 @@ module _ (t : Tables) (s : Step) (P : World → Type 0) (k : KeepsAct t s P) whe
       alloc-keeps own (Alloc.not-above a h) g = waits-keeps 3 (16 + c .object) (λ y. absurd (plain y)) own h g
 
       module _ (box : IsMailing (c .kind)) where
+        no-reset : IsMailing (c .kind) → s .kind ≡ 18 → c .object ≢ s .object
+        no-reset (inl (inl e)) z = absurd (omega (arith, e, kind, z))
+        no-reset (inl (inr e)) z = absurd (omega (arith, e, kind, z))
+        no-reset (inr e) z = absurd (omega (arith, e, kind, z))
+
         post-keeps : {w x : World} → (c .timeout ≢ 0 → OwnWait s 3 (28 + c .object)) → IsPost (c .kind) → Post w (s .caller) c x → P w → P x
         post-keeps {w} own p (Post.in-reset a e) g = to t s P (k .moves) e (k .ends w (negsuc 1) 0 other g)
         post-keeps own p (Post.behind a l b v r e) g =
-            to t s P (k .moves) e (k .ends (boxTo v (c .object) _) (pos 0) 0 other (k .moves .box v (c .object) _ (release-keeps t s P (k .moves) (32 + c .object) (pos 0) r (λ st pl x y. CalledOut.post (c .object) (posts t s P (k .moves) c tried box p) x y) g)))
+            to t s P (k .moves) e (k .ends (boxTo v (c .object) _) (pos 0) 0 other (k .moves .box v (c .object) _ (release-keeps t s P (k .moves) (32 + c .object) (pos 0) 5 r (λ st pl x y. CalledOut.served (Served.post (c .object) (no-reset box) (posts t s P (k .moves) c tried box p) x y)) g)))
         post-keeps own p (Post.ahead a l b v r e) g =
-            to t s P (k .moves) e (k .ends (boxTo v (c .object) _) (pos 0) 0 other (k .moves .box v (c .object) _ (release-keeps t s P (k .moves) (32 + c .object) (pos 0) r (λ st pl x y. CalledOut.post (c .object) (posts t s P (k .moves) c tried box p) x y) g)))
+            to t s P (k .moves) e (k .ends (boxTo v (c .object) _) (pos 0) 0 other (k .moves .box v (c .object) _ (release-keeps t s P (k .moves) (32 + c .object) (pos 0) 5 r (λ st pl x y. CalledOut.served (Served.post (c .object) (no-reset box) (posts t s P (k .moves) c tried box p) x y)) g)))
         post-keeps own p (Post.no-room a l h) g = waits-keeps 3 (28 + c .object) (λ y. absurd (plain y)) own h g
 
         fetch-keeps : {w x : World} → (c .timeout ≢ 0 → OwnWait s 3 (32 + c .object)) → c .kind ≡ 17 → Fetch w (s .caller) c x → P w → P x
         fetch-keeps {w} own p (Fetch.in-reset a e) g = to t s P (k .moves) e (k .ends w (negsuc 1) 0 other g)
         fetch-keeps own p (Fetch.message a l v r e) g =
-            to t s P (k .moves) e (k .ends (boxTo v (c .object) _) (pos 0) _ other (k .moves .box v (c .object) _ (release-keeps t s P (k .moves) (28 + c .object) (pos 0) r (λ st pl x y. CalledOut.fetch (c .object) (subst (λ (n : ℕ). Tried t s n (c .object)) p (tried box)) x y) g)))
+            to t s P (k .moves) e (k .ends (boxTo v (c .object) _) (pos 0) _ other (k .moves .box v (c .object) _ (release-keeps t s P (k .moves) (28 + c .object) (pos 0) 6 r (λ st pl x y. CalledOut.served (Served.fetch (c .object) (no-reset box) (subst (λ (n : ℕ). Tried t s n (c .object)) p (tried box)) x y)) g)))
         fetch-keeps own p (Fetch.no-message a l h) g = waits-keeps 3 (32 + c .object) (λ y. absurd (plain y)) own h g
 
   -- ---- the rows
@@ -295,7 +305,7 @@ module _ (t : Tables) (s : Step) (P : World → Type 0) (k : KeepsAct t s P) whe
     done : {n : ℕ} → s .kind ≡ n → n ≢ 14 → {v x : World} → x ≡ ended v (s .caller) (pos 0) 0 → P v → P x
     done = done-with (pos 0)
 
-    no-mail : {n : ℕ} → (n ≡ 15 → ⊥) → (n ≡ 16 → ⊥) → (n ≡ 17 → ⊥) → {o : ℕ} → IsMailing n → Tried t s n o
+    no-mail : {n : ℕ} → (n ≡ 15 → ⊥) → (n ≡ 16 → ⊥) → (n ≡ 17 → ⊥) → {o : ℕ} → IsMailing n → o ≡ s .object
     no-mail a b c (inl (inl e)) = absurd (a e)
     no-mail a b c (inl (inr e)) = absurd (b e)
     no-mail a b c (inr e) = absurd (c e)
@@ -305,7 +315,7 @@ module _ (t : Tables) (s : Step) (P : World → Type 0) (k : KeepsAct t s P) whe
     resume-keeps e held (Resume.held a h) g =
         let i = w₀ .holder (s .object) in
         let x = held i refl a in
-        to t s P (k .moves) h (k .moves .wakes w₀ i (signed (s .a)) (two (x .0)) (CalledOut.resume e (x .0) (x .1)) g)
+        to t s P (k .moves) h (k .moves .wakes w₀ i (signed (s .a)) 3 (two (x .0)) (CalledOut.resume e (x .0) (x .1)) g)
       where
         two : {n : ℕ} → n ≡ 2 → n ≢ 0
         two e z = omega arith
@@ -329,7 +339,7 @@ module _ (t : Tables) (s : Step) (P : World → Type 0) (k : KeepsAct t s P) whe
     act-keeps held q (Act.reset v h e) =
         done q (λ x. omega arith) e
         (k .moves .counter v (s .object) (pos (s .a))
-        (release-all-keeps (s .object) (negsuc 1) (t .sizes .threads) h (λ st pl x y. CalledOut.reset q x y)
+        (release-all-keeps (s .object) (negsuc 1) 7 (t .sizes .threads) h (λ st pl x y. CalledOut.reset q x y)
         (start q (λ x. omega arith) (λ x. omega arith))))
     act-keeps held q (Act.binary-signal v h e) =
         done q (λ x. omega arith) e (binary-keeps (s .object) h (λ st pl x y. CalledOut.signal (inr q) x y) (start q (λ x. omega arith) (λ x. omega arith)))
@@ -338,11 +348,11 @@ module _ (t : Tables) (s : Step) (P : World → Type 0) (k : KeepsAct t s P) whe
         3 (20 + s .object) (λ y. absurd (no-wait q (λ x. omega arith) y)) (OwnWait.queue q) h (start q (λ x. omega arith) (λ x. omega arith))
     act-keeps held q (Act.release-first v h e) =
         done q (λ x. omega arith) e
-        (release-keeps t s P (k .moves) (20 + s .object) (signed (s .a)) h (λ st pl x y. CalledOut.release (inl q) x y)
+        (release-keeps t s P (k .moves) (20 + s .object) (signed (s .a)) 2 h (λ st pl x y. CalledOut.release (inl q) x y)
         (start q (λ x. omega arith) (λ x. omega arith)))
     act-keeps held q (Act.release-all v h e) =
         done q (λ x. omega arith) e
-        (release-all-keeps (20 + s .object) (signed (s .a)) (t .sizes .threads) h (λ st pl x y. CalledOut.release (inr q) x y)
+        (release-all-keeps (20 + s .object) (signed (s .a)) 2 (t .sizes .threads) h (λ st pl x y. CalledOut.release (inr q) x y)
         (start q (λ x. omega arith) (λ x. omega arith)))
     act-keeps held q (Act.suspend h) =
         waits-keeps (kept 9 (s .object) 0 (s .timeout)) (sym q) (no-mail (λ x. omega arith) (λ x. omega arith) (λ x. omega arith))
@@ -359,19 +369,19 @@ module _ (t : Tables) (s : Step) (P : World → Type 0) (k : KeepsAct t s P) whe
     act-keeps held q (Act.event-signal v h e) = done q (λ x. omega arith) e (k .events v q h)
     act-keeps held q (Act.event-wait h) = event-wait-keeps q h (start q (λ x. omega arith) (λ x. omega arith))
     act-keeps held q (Act.post h) =
-        post-keeps (kept 15 (s .object) (s .a) (s .timeout)) (sym q) (λ m. Tried.own q refl) (no-wait q (λ x. omega arith)) (inl (inl refl)) (OwnWait.writer (inl q)) (inl refl) h
+        post-keeps (kept 15 (s .object) (s .a) (s .timeout)) (sym q) (λ m. refl) (no-wait q (λ x. omega arith)) (inl (inl refl)) (OwnWait.writer (inl q)) (inl refl) h
         (start q (λ x. omega arith) (λ x. omega arith))
     act-keeps held q (Act.post-ahead h) =
-        post-keeps (kept 16 (s .object) (s .a) (s .timeout)) (sym q) (λ m. Tried.own q refl) (no-wait q (λ x. omega arith)) (inl (inr refl)) (OwnWait.writer (inr q)) (inr refl) h
+        post-keeps (kept 16 (s .object) (s .a) (s .timeout)) (sym q) (λ m. refl) (no-wait q (λ x. omega arith)) (inl (inr refl)) (OwnWait.writer (inr q)) (inr refl) h
         (start q (λ x. omega arith) (λ x. omega arith))
     act-keeps held q (Act.fetch h) =
-        fetch-keeps (kept 17 (s .object) 0 (s .timeout)) (sym q) (λ m. Tried.own q refl) (no-wait q (λ x. omega arith)) (inr refl) (OwnWait.reader q) refl h
+        fetch-keeps (kept 17 (s .object) 0 (s .timeout)) (sym q) (λ m. refl) (no-wait q (λ x. omega arith)) (inr refl) (OwnWait.reader q) refl h
         (start q (λ x. omega arith) (λ x. omega arith))
     act-keeps held q (Act.mailbox-reset v u h g e) =
         done q (λ x. omega arith) e
         (k .moves .box u (s .object) _
-        (release-all-keeps (32 + s .object) (negsuc 1) (t .sizes .threads) g (λ st pl x y. CalledOut.box-reset q x (inr y))
-        (release-all-keeps (28 + s .object) (negsuc 1) (t .sizes .threads) h (λ st pl x y. CalledOut.box-reset q x (inl y))
+        (release-all-keeps (32 + s .object) (negsuc 1) 7 (t .sizes .threads) g (λ st pl x y. CalledOut.box-reset q x (inr y))
+        (release-all-keeps (28 + s .object) (negsuc 1) 7 (t .sizes .threads) h (λ st pl x y. CalledOut.box-reset q x (inl y))
         (start q (λ x. omega arith) (λ x. omega arith)))))
     act-keeps held q (Act.mailbox-resume e) = done q (λ x. omega arith) e (k .moves .box w₀ (s .object) _ (start q (λ x. omega arith) (λ x. omega arith)))
     act-keeps held q (Act.alloc h) =

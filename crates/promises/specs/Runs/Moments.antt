@@ -17,17 +17,19 @@ use Rattle.library.specs.declared.calls.Step.{Step}
 use Rattle.library.specs.declared.tables.Tables.{Tables}
 use Rattle.steps.specs.Stepping.{stepped}
 use Rattle.steps.proofs.StepLaws.{Untouched, step-refused}
-use Rattle.promises.specs.Paper.World.{found}
+use Rattle.promises.specs.Paper.World.{risen, found}
 use Rattle.promises.specs.Paper.Together.{TicksFit, HangTogether}
 use Rattle.promises.specs.Paper.Host.{HostTables, HostStep, Host, HostSteps}
 use Rattle.promises.specs.Paper.Waking.{rowOf, inMask, WokenBy, sleptOn, SleeperAfter, ReadyAfter, WakerAfter}
 use Rattle.promises.specs.Paper.Flags.{awaitsFlags, FlagsAfter}
+use Rattle.promises.specs.Paper.Causes.{causeFor, messageBy, whyOf, WhyAfter}
 use Rattle.promises.specs.Paper.Step.{ClockAfter, StepOf}
 use Rattle.promises.specs.Paper.Run.{Moment, isTick, ticksIn, signalsAt, signalsIn, joinsAt, joinsIn, higher, WokenIn, TurnOf}
 use Rattle.promises.specs.Together.Tests.{neither-means}
 use Rattle.promises.specs.Kept.Steps.{Hangs, step-hangs}
 use Rattle.promises.specs.Runs.Keeping.{queued-asleep}
-use Rattle.promises.specs.Runs.OneStep.{sizes-after, sleeper-after, waker-after, woken-after, flags-of}
+use Rattle.promises.specs.Runs.OneStep.{sizes-after, steps-after, why-after, sleeper-after, waker-after, woken-after, flags-of}
+use Rattle.promises.specs.Runs.Places.{cause-for, message-by}
 use Rattle.promises.specs.Runs.GoingOn.{goes-running}
 use Rattle.promises.specs.Runs.Waiters.{turns-on, waits-on, turn-of}
 use Rattle.promises.specs.Meant.Together.{rules-together, together-rules}
@@ -88,22 +90,23 @@ timed-left (TicksFit.none (inr e) r) n m = absurd (m e)
 timed-left (TicksFit.some x y l u) n m = l
 
 -- the waking of a sleeper that is in the woken mask, with the message that its record has then
-waking : {t : Tables} {s : Step} {i : ℕ} {b : Thread} {w f : Bool} → SleeperAfter t s i b w f → w ≡ true → WokenBy t s i (rowOf t i) (b .message)
-waking (SleeperAfter.on e x y) z = contrary z x
-waking {t} {s} {i} (SleeperAfter.ready m b l g e x y) z = subst (WokenBy t s i (rowOf t i)) (sym (ap (λ (r : Thread). r .message) e)) b
-waking {t} {s} {i} (SleeperAfter.done m u d f b g e x y) z = subst (WokenBy t s i (rowOf t i)) (sym (ap (λ (r : Thread). r .message) e)) b
-waking {t} {s} {i} (SleeperAfter.again g b e x y) z = subst (WokenBy t s i (rowOf t i)) (sym (ap (λ (r : Thread). r .message) e)) b
+waking : {t : Tables} {s : Step} {i : ℕ} {b : Thread} {w f : Bool} → SleeperAfter t s i b w f → w ≡ true
+    → WokenBy t s i (rowOf t i) (b .message) (b .cause)
+waking (SleeperAfter.on u e x y) z = contrary z x
+waking {t} {s} {i} (SleeperAfter.ready m o b l g e x y) z = rw e b
+waking {t} {s} {i} (SleeperAfter.done m u o d f b g e x y) z = rw e b
+waking {t} {s} {i} (SleeperAfter.again o g b e x y) z = rw e b
 
 -- and what goes on of one that is not
 sleeping : {t : Tables} {s : Step} {i : ℕ} {b : Thread} {w f : Bool} → SleeperAfter t s i b w f → w ≡ false → b ≡ sleptOn s i (rowOf t i)
-sleeping (SleeperAfter.on e x y) z = e
-sleeping (SleeperAfter.ready m b l g e x y) z = contrary x z
-sleeping (SleeperAfter.done m u d f b g e x y) z = contrary x z
-sleeping (SleeperAfter.again g b e x y) z = contrary x z
+sleeping (SleeperAfter.on u e x y) z = e
+sleeping (SleeperAfter.ready m o b l g e x y) z = contrary x z
+sleeping (SleeperAfter.done m u o d f b g e x y) z = contrary x z
+sleeping (SleeperAfter.again o g b e x y) z = contrary x z
 
 -- the moment in which i was woken, and why
-abbrev pub WakingOf : ℕ → Moment → ℤ → Type 0
-WakingOf i m x = WokenBy (m .before) (m .step) i (rowOf (m .before) i) x
+abbrev pub WakingOf : ℕ → Moment → ℤ → ℕ → Type 0
+WakingOf i m x o = WokenBy (m .before) (m .step) i (rowOf (m .before) i) x o
 
 module _ (t : Tables) (c : Clock) (g : Going t c) (s : Step) (h : HostStep s) where
   -- after an accepted step that does not wake it, a timed sleeper has as many ticks left as before, less this one
@@ -157,8 +160,26 @@ sleeps-end (s ∷ ss) (HostSteps.more h hs) t c g i l n m r =
 -- ---- c. a waiter's turn comes
 
 -- the moment in which a waiter at p was woken, and why
-abbrev pub TurnAt : ℕ → ℕ → Moment → ℤ → Type 0
-TurnAt p i m x = TurnOf p (rowOf (m .before) i) (m .step) x
+abbrev pub TurnAt : ℕ → ℕ → Moment → ℤ → ℕ → Type 0
+TurnAt p i m x o = TurnOf p (rowOf (m .before) i) (m .step) x o
+
+-- a waiter at p that a step wakes, and why
+module _ (t : Tables) (c : Clock) (g : Going t c) (s : Step) (h : HostStep s) (e : stepped t c s .outcome .code ≡ 0) where
+  pub turn-woken : (p : ℕ) → p < 20 → (i : ℕ) → i < t .sizes .threads → rowOf t i .state ≡ 3 → rowOf t i .place ≡ p
+      → inMask i (stepped t c s .outcome .woken) ≡ true
+      → TurnOf p (rowOf t i) s (rowOf (stepped t c s .tables) i .message) (rowOf (stepped t c s .tables) i .cause)
+  turn-woken p near i l st pl w =
+      let ht = host t c g s h in
+      turn-of t c s ht e p near i st pl (waking (sleeper-after t c s ht e i l (queued-asleep st)) w)
+
+  -- and of whoever slept
+  pub sleeper-woken : (i : ℕ) → i < t .sizes .threads → rowOf t i .state ≢ 0 → inMask i (stepped t c s .outcome .woken) ≡ true
+      → (rowOf (stepped t c s .tables) i .cause ≡ causeFor s (rowOf t i))
+      × (rowOf (stepped t c s .tables) i .message ≡ messageBy s (rowOf (stepped t c s .tables) i .cause))
+  sleeper-woken i l n w =
+      let ht = host t c g s h in
+      let b = waking (sleeper-after t c s ht e i l n) w in
+      (cause-for t c s ht e b, message-by t c s ht e b)
 
 pub turn-comes : (p : ℕ) → p < 20 → (ss : List Step) → HostSteps ss → (t : Tables) (c : Clock) → Going t c → (i : ℕ) → i < t .sizes .threads
     → rowOf t i .state ≡ 3 → rowOf t i .place ≡ p → joinsIn p i (moments t c ss) ≡ false → higher t p i < signalsIn p (moments t c ss)
@@ -173,7 +194,7 @@ turn-comes p near (s ∷ ss) (HostSteps.more h hs) t c g i l st pl none r =
     let u = stepped t c s .tables in
     let alone : joinsAt p i s ≡ false = rw (eq-eqb (stepped t c s .outcome .code) 0 e) at (no .0) in
     split (inMask i (stepped t c s .outcome .woken))
-    (λ w. WokenIn.now e w (turn-of t c s ht e p near i st pl (waking (sleeper-after t c s ht e i l (queued-asleep st)) w)))
+    (λ w. WokenIn.now e w (turn-woken t c g s h e p near i l st pl w))
     (λ w.
     let on = waits-on t c s ht e p near i l alone st pl w in
     let fewer = turns-on t c s ht e p near i l alone st pl w in
@@ -199,6 +220,10 @@ pub record EachThread (m : Moment) : Type 0 where
       → WakerAfter (m .before) (m .step) i (rowOf (m .after) i) (inMask i (m .result .woken))
   pub woken-before : (i : ℕ) → i < m .before .sizes .threads → rowOf (m .before) i .state ≡ 0 → rowOf (m .before) i .call .kind ≢ 0
       → ReadyAfter (m .before) (m .step) i (rowOf (m .after) i) (inMask i (m .result .woken)) (inMask i (m .result .finished))
+  -- of each: the cause and the number in its record are those of its last waking
+  pub why : (i : ℕ) → i < m .before .sizes .threads
+      → WhyAfter (m .before) (m .step) i (whyOf (rowOf (m .after) i)) (inMask i (m .result .woken))
+  pub number : m .after .kernel .steps ≡ risen (m .before .kernel .steps)
   pub flags : (i : ℕ) → i < m .before .sizes .threads
       → FlagsAfter (m .before) (m .step) i (rowOf (m .after) i) (inMask i (m .result .finished))
   -- an event wait finishes only in a step after which its thread runs
@@ -219,6 +244,8 @@ each-step (s ∷ ss) (HostSteps.more h hs) t c g =
       slept = sleeper-after t c s (host t c g s h) e;
       ready = waker-after t c s (host t c g s h) e;
       woken-before = woken-after t c s (host t c g s h) e;
+      why = why-after t c s (host t c g s h) e;
+      number = steps-after t c s (host t c g s h) e;
       flags = flags-of t c s (host t c g s h) e;
       goes-on = goes-running t c s (host t c g s h) e;
     })

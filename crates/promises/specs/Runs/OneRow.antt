@@ -1,6 +1,6 @@
 -- One thread's record through the moves of a step. The moves of other threads leave it as it is, with its bits in the result; so whoever
 -- shows what each move makes of the record that it is about has a `Keeps`.
-use Prim.Native.Nat.{ℕ, _-_}
+use Prim.Native.Nat.{ℕ, zero, suc, _-_}
 use native.Mathlib.Omega.{arith}
 use mathlib.Core.Path.{_≡_, refl, sym, ap, _∙_, subst}
 use mathlib.Core.Logic.{_≢_, inl, inr}
@@ -15,9 +15,9 @@ use Rattle.kernel.proofs.Cases.{split, same-or}
 use Rattle.library.specs.declared.calls.Step.{Step}
 use Rattle.library.specs.declared.tables.Tables.{Tables}
 use Rattle.promises.specs.Paper.World.{World, found, threadTo, readyWith, madeReady, callEnded, ended, asleep, fallAsleep}
-use Rattle.promises.specs.Paper.Rows.{Ticks, pendingTo, tookFlags, EventSignal}
-use Rattle.promises.specs.Paper.Waking.{rowOf, IsMailing, CalledOut, OwnWait}
-use Rattle.promises.specs.Runs.Keeping.{put-same, put-other, Ends, SideOf, ownFlags, OwnEnd, Moves, KeepsOn, Keeps}
+use Rattle.promises.specs.Paper.Rows.{TickOf, Ticks, pendingTo, tookFlags, EventSignal}
+use Rattle.promises.specs.Paper.Waking.{rowOf, IsMailing, Served, CalledOut, OwnWait}
+use Rattle.promises.specs.Runs.Keeping.{put-same, put-other, Ends, SideOf, ownFlags, OwnEnd, Moves, KeepsOn, KeepsAct, Keeps}
 
 -- a call that ends touches no record but its own
 module _ (w : World) (j : ℕ) (m : ℤ) (d : ℕ) where
@@ -64,6 +64,20 @@ mail-other (inl (inl e)) = (λ x. omega arith, λ x. omega arith)
 mail-other (inl (inr e)) = (λ x. omega arith, λ x. omega arith)
 mail-other (inr e) = (λ x. omega arith, λ x. omega arith)
 
+-- a tick and an event signal leave the step's number
+tick-step : {w x : World} {i : ℕ} → TickOf w i x → x .step ≡ w .step
+tick-step (TickOf.no-ticks a e) = ap (λ (v : World). v .step) e
+tick-step (TickOf.falls a e) = ap (λ (v : World). v .step) e
+tick-step (TickOf.last a e) = ap (λ (v : World). v .step) e
+
+ticks-step : (w : World) (n : ℕ) (x : World) → Ticks w n x → x .step ≡ w .step
+ticks-step w zero x e = ap (λ (v : World). v .step) e
+ticks-step w (suc n) x h = tick-step (h .2) ∙ ticks-step w n (h .0) (h .1)
+
+event-step : {w : World} {i a : ℕ} (x : World) → EventSignal w i a x → x .step ≡ w .step
+event-step x (EventSignal.comes g h e) = ap (λ (v : World). v .step) e
+event-step x (EventSignal.only-flagged g e) = ap (λ (v : World). v .step) e
+
 -- P of thread i's record, of whether it was woken, and of whether its call finished
 module _ (t : Tables) (s : Step) (i : ℕ) (someone : i ≢ 255) (P : Thread → Bool → Bool → Type 0) where
   abbrev pub Stands : World → Type 0
@@ -78,9 +92,10 @@ module _ (t : Tables) (s : Step) (i : ℕ) (someone : i ≢ 255) (P : Thread →
     pub row-stays : (u : Thread) → Stands w → Stands (threadTo w j u)
     row-stays u = same-row w (threadTo w j u) (put-other (w .thread) j i u apart) refl refl
 
-    pub ready-stays : (m : ℤ) → Stands w → Stands (madeReady w j m)
-    ready-stays m =
-        same-row w (madeReady w j m) (put-other (w .thread) j i (readyWith (w .thread j) m) apart) (put-other (w .woken) j i true apart) refl
+    pub ready-stays : (m : ℤ) (b : ℕ) → Stands w → Stands (madeReady w j m b)
+    ready-stays m b =
+        same-row w (madeReady w j m b) (put-other (w .thread) j i (readyWith (w .thread j) m b (w .step)) apart)
+        (put-other (w .woken) j i true apart) refl
 
     ended-stays : (m : ℤ) (d : ℕ) → Stands w → Stands (ended w j m d)
     ended-stays m d = same-row w (ended w j m d) (ended-other w j m d i apart) refl (ended-unfinished w j m d i apart)
@@ -95,7 +110,8 @@ module _ (t : Tables) (s : Step) (i : ℕ) (someone : i ≢ 255) (P : Thread →
 
   -- what each move of a continued call keeps of a record r
   pub record RowOn : Type 0 where
-    pub wakes : {r : Thread} {w f : Bool} (m : ℤ) → r .state ≢ 0 → CalledOut t s (r .state) (r .place) m → P r w f → P (readyWith r m) true f
+    pub wakes : {r : Thread} {w f : Bool} (m : ℤ) (c : ℕ) → r .state ≢ 0 → Served t s (r .state) (r .place) m c → P r w f
+        → P (readyWith r m c (found t .step)) true f
     pub ends-on : {r : Thread} {w f : Bool} (m : ℤ) (d : ℕ) → r .state ≡ 0 → r .call .kind ≢ 0 → Ends r m d → P r w f
         → P (callEnded r m d) w true
     pub takes-on : {r : Thread} {w f : Bool} → r .state ≡ 0 → r .call .kind ≡ 14 → r .message ≡ pos 0 → P r w f
@@ -105,86 +121,133 @@ module _ (t : Tables) (s : Step) (i : ℕ) (someone : i ≢ 255) (P : Thread →
 
   -- and of the step's own act; three of them if it is the caller
   pub record RowAct : Type 0 where
+    pub wakes : {r : Thread} {w f : Bool} (m : ℤ) (c : ℕ) → r .state ≢ 0 → CalledOut t s (r .state) (r .place) m c → P r w f
+        → P (readyWith r m c (found t .step)) true f
     pub begins : s .kind ≢ 1 → s .kind ≢ 13 → Stands (found t)
     pub ticks : (v : World) → s .kind ≡ 1 → Ticks (found t) (t .sizes .threads) v → Stands v
     pub events : (v : World) → s .kind ≡ 13 → EventSignal (found t) (s .object) (s .a) v → Stands v
     pub ends : {r : Thread} {w f : Bool} → s .caller ≡ i → (m : ℤ) (d : ℕ) → OwnEnd t s m d → P r w f → P (callEnded r m d) w true
     pub takes : {w f : Bool} → s .caller ≡ i → s .kind ≡ 14 → ownFlags t s ≢ 0 → f ≡ false → P (rowOf t i) w f → P (flagsTaken (rowOf t i) (s .a)) w true
     pub sleeps : {r : Thread} {w f : Bool} → s .caller ≡ i → (st pl : ℕ) (c : Call) → OwnWait s st pl → c .kind ≡ s .kind
-        → (s .kind ≡ 14 → ownFlags t s ≡ 0) → P r w f → P (asleep r st pl c) w f
+        → (s .kind ≡ 14 → ownFlags t s ≡ 0) → (IsMailing (c .kind) → c .object ≡ s .object) → P r w f → P (asleep r st pl c) w f
 
-  module _ (k : RowOn) where
-    own-ready : (w : World) (m : ℤ) → w .thread i .state ≢ 0 → CalledOut t s (w .thread i .state) (w .thread i .place) m → Stands w
-        → Stands (madeReady w i m)
-    own-ready w m n c h = rw (put-same (w .thread) i (readyWith (w .thread i) m), put-same (w .woken) i true) (k .wakes m n c h)
+  -- it does so through the step, whose number stays
+  abbrev pub Steady : World → Type 0
+  Steady w = (w .step ≡ found t .step) × Stands w
 
-    own-ended : (w : World) (m : ℤ) (d : ℕ) → P (callEnded (w .thread i) m d) (w .woken i) true → Stands (ended w i m d)
-    own-ended w m d h = rw (ended-own w i m d someone, ended-finished w i m d someone) h
+  module _ (C : ℕ → ℕ → ℤ → ℕ → Type 0)
+      (wakes : (r : Thread) (w f : Bool) (m : ℤ) (c : ℕ) → r .state ≢ 0 → C (r .state) (r .place) m c → P r w f → P (readyWith r m c (found t .step)) true f) where
+    own-ready : (w : World) (m : ℤ) (b : ℕ) → w .thread i .state ≢ 0 → C (w .thread i .state) (w .thread i .place) m b → Steady w
+        → Stands (madeReady w i m b)
+    own-ready w m b n c h =
+        rw (put-same (w .thread) i (readyWith (w .thread i) m b (w .step)), put-same (w .woken) i true, h .0) (wakes _ _ _ m b n c (h .1))
 
-    own-took : (w : World) (a : ℕ) → P (flagsTaken (w .thread i) a) (w .woken i) true → Stands (tookFlags w i a)
-    own-took w a h = rw (took-own w i a someone, took-finished w i a someone) h
-
-    own-asleep : (w : World) (st pl : ℕ) (c : Call) → P (asleep (w .thread i) st pl c) (w .woken i) (w .finished i) → Stands (fallAsleep w i st pl c)
-    own-asleep w st pl c h = rw (put-same (w .thread) i (asleep (w .thread i) st pl c)) h
-
-    row-moves : Moves t s Stands
+    row-moves : Moves t s C Steady
     row-moves =
         record {
           counter = λ w p c h. h;
           box = λ w b x h. h;
           pool = λ w q x h. h;
-          wakes = λ w j m n c h.
-              same-or i j
-              (λ e. subst (λ (k : ℕ). Stands (madeReady w k m)) e
-              (own-ready w m (rw e n) (subst (λ (k : ℕ). CalledOut t s (w .thread k .state) (w .thread k .place) m) (sym e) c) h))
-              (λ d. ready-stays w j d m h);
+          wakes = λ w j m b n c h. (
+            h .0,
+            same-or i j
+                (λ e. subst (λ (k : ℕ). Stands (madeReady w k m b)) e
+                (own-ready w m b (rw e n) (subst (λ (k : ℕ). C (w .thread k .state) (w .thread k .place) m b) (sym e) c) h))
+                (λ d. ready-stays w j d m b (h .1)),
+          );
         }
 
-    -- OF A CONTINUED CALL
-    pub row-on : KeepsOn t s Stands
-    row-on =
-        record {
-          moves = row-moves;
-          ends-on = λ w r m d l z n g h.
-              same-or i r
+  own-ended : (w : World) (m : ℤ) (d : ℕ) → P (callEnded (w .thread i) m d) (w .woken i) true → Stands (ended w i m d)
+  own-ended w m d h = rw (ended-own w i m d someone, ended-finished w i m d someone) h
+
+  own-took : (w : World) (a : ℕ) → P (flagsTaken (w .thread i) a) (w .woken i) true → Stands (tookFlags w i a)
+  own-took w a h = rw (took-own w i a someone, took-finished w i a someone) h
+
+  own-asleep : (w : World) (st pl : ℕ) (c : Call) → P (asleep (w .thread i) st pl c) (w .woken i) (w .finished i) → Stands (fallAsleep w i st pl c)
+  own-asleep w st pl c h = rw (put-same (w .thread) i (asleep (w .thread i) st pl c)) h
+
+  -- OF A CONTINUED CALL
+  pub row-on : RowOn → KeepsOn t s Steady
+  row-on k =
+      record {
+        moves = row-moves (Served t s) (λ r w f m c n b h. k .wakes m c n b h);
+        ends-on = λ w r m d l z n g h. (
+          h .0,
+          same-or i r
               (λ e. subst (λ (j : ℕ). Stands (ended w j m d)) e
-              (own-ended w m d (k .ends-on m d (rw e z) (rw e n) (subst (λ (j : ℕ). Ends (w .thread j) m d) (sym e) g) h)))
-              (λ x. ended-stays w r x m d h);
-          takes-on = λ w r l z g m h.
-              same-or i r
+              (own-ended w m d (k .ends-on m d (rw e z) (rw e n) (subst (λ (j : ℕ). Ends (w .thread j) m d) (sym e) g) (h .1))))
+              (λ x. ended-stays w r x m d (h .1)),
+        );
+        takes-on = λ w r l z g m h. (
+          h .0,
+          same-or i r
               (λ e. subst (λ (j : ℕ). Stands (tookFlags w j (w .thread j .call .operand))) e
-              (own-took w (w .thread i .call .operand) (k .takes-on (rw e z) (rw e g) (rw e m) h)))
-              (λ x. took-stays w r x (w .thread r .call .operand) h);
-          sleeps-on = λ w r q l z g m side h.
-              same-or i r
+              (own-took w (w .thread i .call .operand) (k .takes-on (rw e z) (rw e g) (rw e m) (h .1))))
+              (λ x. took-stays w r x (w .thread r .call .operand) (h .1)),
+        );
+        sleeps-on = λ w r q l z g m side h. (
+          h .0,
+          same-or i r
               (λ e. subst (λ (j : ℕ). Stands (fallAsleep w j 3 q (w .thread j .call))) e
               (own-asleep w 3 q (w .thread i .call)
               (k .sleeps-on q (rw e z) (subst (λ (j : ℕ). IsMailing (w .thread j .call .kind)) (sym e) g) (rw e m)
-              (subst (λ (j : ℕ). SideOf (w .thread j .call) q) (sym e) side) h)))
-              (λ d. sleep-stays w r d 3 q (w .thread r .call) h);
-        }
+              (subst (λ (j : ℕ). SideOf (w .thread j .call) q) (sym e) side) (h .1))))
+              (λ d. sleep-stays w r d 3 q (w .thread r .call) (h .1)),
+        );
+      }
 
-    -- AND OF THE WHOLE STEP
-    pub row-keeps : RowAct → Keeps t s Stands
-    row-keeps a =
-        record {
-          act = record {
-            moves = row-moves;
-            begins = a .begins;
-            ticks = a .ticks;
-            events = a .events;
-            ends = λ w m d o h.
-                same-or (s .caller) i
-                (λ e. subst (λ (j : ℕ). Stands (ended w j m d)) (sym e) (own-ended w m d (a .ends e m d o h)))
-                (λ n. ended-stays w (s .caller) (λ e. n (sym e)) m d h);
-            takes = λ k n h.
-                same-or (s .caller) i
-                (λ e. subst (λ (j : ℕ). Stands (tookFlags (found t) j (s .a))) (sym e) (own-took (found t) (s .a) (a .takes e k n refl h)))
-                (λ d. took-stays (found t) (s .caller) (λ e. d (sym e)) (s .a) h);
-            sleeps = λ w st pl c o k none tried h.
-                same-or (s .caller) i
-                (λ e. subst (λ (j : ℕ). Stands (fallAsleep w j st pl c)) (sym e) (own-asleep w st pl c (a .sleeps e st pl c o k none h)))
-                (λ d. sleep-stays w (s .caller) (λ e. d (sym e)) st pl c h);
-          };
-          on = row-on;
-        }
+  -- OF THE STEP'S OWN ACT
+  pub row-act : RowAct → KeepsAct t s Steady
+  row-act a =
+      record {
+        moves = row-moves (CalledOut t s) (λ r w f m c n b h. a .wakes m c n b h);
+        begins = λ n m. (refl, a .begins n m);
+        ticks = λ v e h. (ticks-step (found t) (t .sizes .threads) v h, a .ticks v e h);
+        events = λ v e h. (event-step v h, a .events v e h);
+        ends = λ w m d o h. (
+          h .0,
+          same-or (s .caller) i
+              (λ e. subst (λ (j : ℕ). Stands (ended w j m d)) (sym e) (own-ended w m d (a .ends e m d o (h .1))))
+              (λ n. ended-stays w (s .caller) (λ e. n (sym e)) m d (h .1)),
+        );
+        takes = λ k n h. (
+          refl,
+          same-or (s .caller) i
+              (λ e. subst (λ (j : ℕ). Stands (tookFlags (found t) j (s .a))) (sym e) (own-took (found t) (s .a) (a .takes e k n refl (h .1))))
+              (λ d. took-stays (found t) (s .caller) (λ e. d (sym e)) (s .a) (h .1)),
+        );
+        sleeps = λ w st pl c o k none mail h. (
+          h .0,
+          same-or (s .caller) i
+              (λ e. subst (λ (j : ℕ). Stands (fallAsleep w j st pl c)) (sym e) (own-asleep w st pl c (a .sleeps e st pl c o k none mail (h .1))))
+              (λ d. sleep-stays w (s .caller) (λ e. d (sym e)) st pl c (h .1)),
+        );
+      }
+
+  -- AND OF THE WHOLE STEP
+  pub row-keeps : RowOn → RowAct → Keeps t s Steady
+  row-keeps k a = record { act = row-act a; on = row-on k }
+
+-- the step's number stays
+pub step-kept : (t : Tables) (s : Step) → Keeps t s (λ w. w .step ≡ found t .step)
+step-kept t s =
+    record {
+      act = record {
+        moves = moves _;
+        begins = λ n m. refl;
+        ticks = λ v e h. ticks-step (found t) (t .sizes .threads) v h;
+        events = λ v e h. event-step v h;
+        ends = λ w m d o h. h;
+        takes = λ k n h. h;
+        sleeps = λ w st pl c o k none tried h. h;
+      };
+      on = record {
+        moves = moves _;
+        ends-on = λ w r m d l z n g h. h;
+        takes-on = λ w r l z g m h. h;
+        sleeps-on = λ w r q l z g m side h. h;
+      };
+    }
+  where
+    moves : (C : ℕ → ℕ → ℤ → ℕ → Type 0) → Moves t s C (λ w. w .step ≡ found t .step)
+    moves C = record { counter = λ w p c h. h; box = λ w b x h. h; pool = λ w q x h. h; wakes = λ w j m b n c h. h }

@@ -17,9 +17,9 @@ use Rattle.library.specs.Acting.{acted}
 use Rattle.library.specs.Tables.{opened}
 use Rattle.steps.specs.declared.stepping.Stepped.{Stepped}
 use Rattle.steps.specs.Refusal.{refusalOf}
-use Rattle.steps.specs.Stepping.{budgetOf, outcomeOf, doneWith, stepped}
+use Rattle.steps.specs.Stepping.{budgetOf, outcomeOf, doneWith, started, stepped}
 use Rattle.steps.proofs.StepLaws.{step-code}
-use Rattle.promises.specs.Paper.World.{World, found, First}
+use Rattle.promises.specs.Paper.World.{World, risen, found, First}
 use Rattle.promises.specs.Paper.Host.{Host}
 use Rattle.promises.specs.Paper.Rows.{topIn, Act}
 use Rattle.promises.specs.Paper.Settling.{Continued}
@@ -27,14 +27,19 @@ use Rattle.promises.specs.Paper.Together.{WaitFits, TicksFit, ThreadFits
 use Rattle.promises.specs.Paper.Refusals.{Broken}
 use Rattle.promises.specs.Paper.Waking.{rowOf, inMask, SleeperAfter, ReadyAfter, WakerAfter}
 use Rattle.promises.specs.Paper.Flags.{FlagsAfter}
+use Rattle.promises.specs.Paper.Causes.{whyOf, WhyAfter}
+use Rattle.promises.specs.Kept.Accepting.{refusal-none}
 use Rattle.promises.specs.Kept.Whole.{Whole}
 use Rattle.promises.specs.Runs.Answers.{step-done}
-use Rattle.promises.specs.Runs.Keeping.{KeepsOn, Keeps, both-on, act-keeps, continue-keeps}
+use Rattle.promises.specs.Runs.Keeping.{KeepsOn, KeepsAct, Keeps, both-on, act-keeps, continue-keeps}
 use Rattle.promises.specs.Runs.Tried.{Kept, kept-keeps}
-use Rattle.promises.specs.Runs.Sleepers.{Life, life-keeps}
-use Rattle.promises.specs.Runs.Wakers.{Calmly, calm-keeps, calm-after}
-use Rattle.promises.specs.Runs.Ready.{After, ready-keeps}
-use Rattle.promises.specs.Runs.Flags.{ready-flags, sleeper-flags, Flags, flags-keep, caller-flags}
+use Rattle.promises.specs.Runs.Closed.{Closed, closed-act, closed-on}
+use Rattle.promises.specs.Runs.OneRow.{Steady, step-kept}
+use Rattle.promises.specs.Runs.Sleepers.{life-keeps}
+use Rattle.promises.specs.Runs.Wakers.{calm-keeps, calm-after}
+use Rattle.promises.specs.Runs.Ready.{ready-keeps}
+use Rattle.promises.specs.Runs.Causes.{sleeper-why, why-on, why-act}
+use Rattle.promises.specs.Runs.Flags.{ready-flags, sleeper-flags, flags-keep, caller-flags}
 use Rattle.promises.specs.Meant.Together.{rules-together}
 use Rattle.promises.specs.Meant.Callers.{caller-runs}
 use Rattle.promises.specs.Meant.Pools.{promise-stocked}
@@ -78,7 +83,7 @@ module _ (t : Tables) (c : Clock) (s : Step) (host : Host t c s) (e : stepped t 
   -- a calling thread is the one that runs
   pub caller-first : s .caller ≢ 255 → First (found t) (s .caller)
   caller-first z =
-      elim (caller-runs (opened t) c s (hangs t c s host accepted .sized .kernel) accepted) [
+      elim (caller-runs (opened t) c s (refusal-none (opened t) c s accepted)) [
         | inl x ↦ absurd (z x)
         | inr f ↦ record { thread = f .thread; is-ready = f .is-ready; first = f .first }
       ]
@@ -86,6 +91,12 @@ module _ (t : Tables) (c : Clock) (s : Step) (host : Host t c s) (e : stepped t 
   -- the object that it names is there
   pub semaphore-there : 2 ≤ s .kind → s .kind ≤ 5 → s .object < t .sizes .semaphores
   semaphore-there a b = in-or-out (s .object) (t .sizes .semaphores) (λ l. l) (λ l. absurd (unbroken 5 (Broken.semaphore a b l)))
+
+  pub queue-there : 6 ≤ s .kind → s .kind ≤ 8 → s .object < t .sizes .queues
+  queue-there a b = in-or-out (s .object) (t .sizes .queues) (λ l. l) (λ l. absurd (unbroken 5 (Broken.queue a b l)))
+
+  pub mailbox-there : 15 ≤ s .kind → s .kind ≤ 19 → s .object < t .sizes .mailboxes
+  mailbox-there a b = in-or-out (s .object) (t .sizes .mailboxes) (λ l. l) (λ l. absurd (unbroken 5 (Broken.mailbox a b l)))
 
   pub pool-there : 20 ≤ s .kind → s .kind ≤ 22 → s .object < t .sizes .pools
   pool-there a b = in-or-out (s .object) (t .sizes .pools) (λ l. l) (λ l. absurd (unbroken 5 (Broken.pool a b l)))
@@ -107,7 +118,7 @@ module _ (t : Tables) (c : Clock) (s : Step) (host : Host t c s) (e : stepped t 
 
   -- the tables after the step's own act
   abbrev pub x₀ : World
-  x₀ = worldOf (acted (opened t) (c .time) s)
+  x₀ = worldOf (acted (started t s) (c .time) s)
 
   pub act : Act t (c .time) s x₀ (s .kind)
   act = act-is t c s (begun-whole t c s host accepted) (host .step .operand) accepted
@@ -118,21 +129,44 @@ module _ (t : Tables) (c : Clock) (s : Step) (host : Host t c s) (e : stepped t 
   -- what each continued call keeps, settling keeps
   pub settle-keeps : (P : World → Type 0) → KeepsOn t s P → P x₀ → P (worldOf (h t c s host))
   settle-keeps P k q =
-      settled-keeps Q continues (budgetOf (t .sizes .threads)) (acted (opened t) (c .time) s)
-      (own t c s host accepted (acted-whole t c s host accepted)) (kept-act, q) .1
+      settled-keeps Q continues (budgetOf (t .sizes .threads)) (acted (started t s) (c .time) s)
+      (own t c s host accepted (acted-whole t c s host accepted)) (closed, (kept-act, q)) .1 .1
     where
+      R : World → Type 0
+      R w = Kept t s w × P w
+
       Q : World → Type 0
-      Q w = Kept t s w × P w
+      Q w = Closed s w × R w
+
+      closed : Closed s x₀
+      closed k = closed-act (subst (Act t (c .time) s x₀) k act)
 
       continues : (p : Plant) → Whole (p .sizes) p → (i : ℕ) → First (worldOf p) i → threadAt (p .kernel) i .call .kind ≢ 0 → (x : World)
           → Continued (worldOf p) i x → Q (worldOf p) → Q x
       continues p w i f call x h q =
-          let within : i < t .sizes .threads = rw (q .0 .sizes) at (f .thread) in
-          continue-keeps t s Q (both-on t s (Kept t s) P (kept-keeps t s .on) k) (worldOf p) i within (f .is-ready) call (timed p w i f call)
-          (q .0 .tried i within) (top-object p w i f call) h q
+          let within : i < t .sizes .threads = rw (q .1 .0 .sizes) at (f .thread) in (
+            λ k. closed-on (s .object) h (q .0 k),
+            continue-keeps t s R (both-on t s (Kept t s) P (kept-keeps t s .on) k) (worldOf p) i within (f .is-ready) call (timed p w i f call)
+                (q .1 .0 .tried i within) (top-object p w i f call) (λ k a e. q .0 k (subst (λ (o : ℕ). worldOf p .box o .reset ≡ 0) e a)) h (q .1),
+          )
+
+  -- what the act leaves, and settling keeps
+  act-settles : (P Q : World → Type 0) → KeepsAct t s P → ((w : World) → P w → Q w) → KeepsOn t s Q → Q (worldOf (h t c s host))
+  act-settles P Q a f k = settle-keeps Q k (f x₀ (act-keeps t s P a (c .time) held refl act))
 
   step-keeps : (P : World → Type 0) → Keeps t s P → P (worldOf (h t c s host))
-  step-keeps P k = settle-keeps P (k .on) (act-keeps t s P (k .act) (c .time) held refl act)
+  step-keeps P k = act-settles P P (k .act) (λ w q. q) (k .on)
+
+  -- the act leaves the step's number
+  pub act-step : x₀ .step ≡ found t .step
+  act-step = act-keeps t s (λ w. w .step ≡ found t .step) (step-kept t s .act) (c .time) held refl act
+
+  -- "The step number .. rises by 1 at the start of each accepted step"
+  pub steps-after : stepped t c s .tables .kernel .steps ≡ risen (t .kernel .steps)
+  unfolding doneWith
+  steps-after =
+      subst (λ (q : Stepped). q .tables .kernel .steps ≡ found t .step) (sym (step-done t c s e))
+      (step-keeps (λ w. w .step ≡ found t .step) (step-kept t s))
 
   -- the sizes stay
   pub sizes-after : stepped t c s .tables .sizes ≡ t .sizes
@@ -141,10 +175,10 @@ module _ (t : Tables) (c : Clock) (s : Step) (host : Host t c s) (e : stepped t 
       subst (λ (q : Stepped). q .tables .sizes ≡ t .sizes) (sym (step-done t c s e)) (step-keeps (Kept t s) (kept-keeps t s) .sizes)
 
   -- what holds of a record after the step's own act, and is kept, holds of it in the tables after the step
-  pub rows-after : (i : ℕ) (P : Thread → Type 0) → KeepsOn t s (λ w. P (w .thread i)) → P (x₀ .thread i) → P (rowOf (stepped t c s .tables) i)
+  pub rows-after : (i : ℕ) (P : Thread → Type 0) → KeepsOn t s (λ w. (w .step ≡ found t .step) × P (w .thread i)) → P (x₀ .thread i) → P (rowOf (stepped t c s .tables) i)
   unfolding doneWith
   rows-after i P k q =
-      subst (λ (r : Stepped). P (rowOf (r .tables) i)) (sym (step-done t c s e)) (settle-keeps (λ w. P (w .thread i)) k q)
+      subst (λ (r : Stepped). P (rowOf (r .tables) i)) (sym (step-done t c s e)) (settle-keeps (λ w. (w .step ≡ found t .step) × P (w .thread i)) k (act-step, q) .1)
 
   -- who was woken by the step's own act is in the mask
   pub woken-seen : (j : ℕ) → x₀ .woken j ≡ true → inMask j (stepped t c s .outcome .woken) ≡ true
@@ -162,7 +196,7 @@ module _ (t : Tables) (c : Clock) (s : Step) (host : Host t c s) (e : stepped t 
               counter = λ w p c q. q;
               box = λ w b x q. q;
               pool = λ w p x q. q;
-              wakes = λ w i m n d q. same-or j i (λ z. rw (z, eq-eqb i i refl)) (λ z. rw (ne-eqb j i z) q);
+              wakes = λ w i m b n d q. same-or j i (λ z. rw (z, eq-eqb i i refl)) (λ z. rw (ne-eqb j i z) q);
             };
             ends-on = λ w r m d l z n g q. q;
             takes-on = λ w r l z g m q. q;
@@ -203,7 +237,7 @@ module _ (t : Tables) (c : Clock) (s : Step) (host : Host t c s) (e : stepped t 
         → SleeperAfter t s i (rowOf u i) (inMask i (stepped t c s .outcome .woken)) (inMask i (stepped t c s .outcome .finished))
     sleeper-after n =
         told (SleeperAfter t s i)
-        (step-keeps (Life t s i someone within n (apart n) fits) (life-keeps t s i someone within n (apart n) fits))
+        (step-keeps (Steady t s i someone (SleeperAfter t s i)) (life-keeps t s i someone within n (apart n) fits) .1)
 
     no-ticks : rowOf t i .state ≡ 0 → rowOf t i .remaining ≡ 0
     no-ticks z = none (fits .ticks)
@@ -212,12 +246,20 @@ module _ (t : Tables) (c : Clock) (s : Step) (host : Host t c s) (e : stepped t 
         none (TicksFit.none h r) = r
         none (TicksFit.some n m l q) = absurd (n z)
 
+    -- why it woke, whether it slept or not
+    pub why-after : WhyAfter t s i (whyOf (rowOf u i)) (inMask i (stepped t c s .outcome .woken))
+    why-after =
+        same-or (rowOf t i .state) 0
+        (λ z. told (λ b w f. WhyAfter t s i (whyOf b) w)
+        (act-settles _ _ (why-act t s i someone z (no-ticks z)) (λ w q. (q .0, q .1 .stood)) (why-on t s i someone z (no-ticks z)) .1 .why))
+        (λ n. sleeper-why n (sleeper-after n))
+
     -- a thread that was ready
     pub waker-after : rowOf t i .state ≡ 0 → WakerAfter t s i (rowOf u i) (inMask i (stepped t c s .outcome .woken))
     waker-after z =
         told (λ b w f. WakerAfter t s i b w)
         (calm-after t s i someone z (no-ticks z)
-        (step-keeps (Calmly t s i someone z (no-ticks z)) (calm-keeps t s i someone z (no-ticks z))))
+        (step-keeps _ (calm-keeps t s i someone z (no-ticks z)) .1))
 
     -- whoever calls has no call to be continued
     no-call : s .caller ≡ i → rowOf t i .call .kind ≡ 0
@@ -242,7 +284,7 @@ module _ (t : Tables) (c : Clock) (s : Step) (host : Host t c s) (e : stepped t 
         → ReadyAfter t s i (rowOf u i) (inMask i (stepped t c s .outcome .woken)) (inMask i (stepped t c s .outcome .finished))
     ready-after z n =
         told (ReadyAfter t s i)
-        (step-keeps (After t s i someone n z (no-ticks z) (no-place z)) (ready-keeps t s i someone n z (no-ticks z) (no-place z)))
+        (step-keeps (Steady t s i someone (ReadyAfter t s i)) (ready-keeps t s i someone n z (no-ticks z) (no-place z)) .1)
 
     -- a thread that was woken before, and not continued yet
     pub woken-after : rowOf t i .state ≡ 0 → rowOf t i .call .kind ≢ 0
@@ -260,7 +302,7 @@ module _ (t : Tables) (c : Clock) (s : Step) (host : Host t c s) (e : stepped t 
         let call : rowOf t (s .caller) .call .kind ≡ 0 = rw x at (no-call (sym x)) in
         told (λ b w f. FlagsAfter t s i b f)
         (subst (λ (j : ℕ). FlagsAfter t s j (v .thread j) (v .finished j)) (sym x)
-        (caller-flags t s me is-ready ticks call (step-keeps (Flags t s me is-ready ticks call) (flags-keep t s me is-ready ticks call))))
+        (caller-flags t s me is-ready ticks call (step-keeps _ (flags-keep t s me is-ready ticks call) .1)))
 
     -- and the flags of each
     pub flags-of : FlagsAfter t s i (rowOf u i) (inMask i (stepped t c s .outcome .finished))

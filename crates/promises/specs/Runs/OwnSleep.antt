@@ -20,7 +20,7 @@ use Rattle.promises.specs.Paper.Host.{Host}
 use Rattle.promises.specs.Paper.Rows.{Waits, SemaphoreWait, EventWait, Post, Fetch, Alloc, Act}
 use Rattle.promises.specs.Paper.Waking.{rowOf, spanOf, FellAsleep}
 use Rattle.promises.specs.Runs.Keeping.{put-same, KeepsOn}
-use Rattle.promises.specs.Runs.OneRow.{ended-own, Stands, row-on}
+use Rattle.promises.specs.Runs.OneRow.{ended-own, Stands, Steady, row-on}
 use Rattle.promises.specs.Runs.OneStep.{act, few, rows-after}
 
 module _ (t : Tables) (now : SystemTime) (s : Step) (i : ℕ) (someone : i ≢ 255) where
@@ -46,11 +46,11 @@ module _ (t : Tables) (now : SystemTime) (s : Step) (i : ℕ) (someone : i ≢ 2
       let e = put-same (w .thread) i (asleep (w .thread i) st pl c) in
       rw e (record { kind = k; timeout = d; ticks = λ x. rw d })
 
-  owned-keeps : KeepsOn t s Owned
+  owned-keeps : KeepsOn t s (Steady t s i someone P)
   owned-keeps =
       row-on t s i someone P
       (record {
-        wakes = λ m n c o k. let b = o k in record { kind = b .kind; timeout = b .timeout; ticks = λ x. absurd (x refl) };
+        wakes = λ m b n c o k. let b = o k in record { kind = b .kind; timeout = b .timeout; ticks = λ x. absurd (x refl) };
         ends-on = λ m d z n e o k. absurd (k refl);
         takes-on = λ z k m o n. absurd (n refl);
         sleeps-on = λ q z g m e o k. let b = o k in record { kind = b .kind; timeout = b .timeout; ticks = λ x. rw (b .timeout) };

@@ -37,6 +37,8 @@ module _ (t : Tables) (s : Step) (i : ℕ) (was-ready : rowOf t i .state ≡ 0) 
         message = b .message;
         call = b .call;
         answer = b .answer;
+        cause = b .cause;
+        step = b .step;
       }
 
   pub found-passed : s .kind ≢ 13 → Passed (found t)

@@ -13,7 +13,7 @@ use Rattle.promises.specs.Paper.World.{World, noCall, found, readyWith, 
 use Rattle.promises.specs.Paper.Rows.{pendingTo}
 use Rattle.promises.specs.Paper.Waking.{rowOf, IsMailing, heard, AnswerOf, doneRow, readyOn, ReadyAfter}
 use Rattle.promises.specs.Runs.Keeping.{Ends, Keeps}
-use Rattle.promises.specs.Runs.OneRow.{flagsTaken, mail-other, Stands, row-keeps}
+use Rattle.promises.specs.Runs.OneRow.{flagsTaken, mail-other, Stands, Steady, row-keeps}
 use Rattle.promises.specs.Runs.Passing.{Passed, found-passed, ticks-passed, events-passed}
 use Rattle.promises.specs.Runs.Sleepers.{no-event, ends-answer}
 
@@ -29,7 +29,7 @@ module _ (t : Tables) (s : Step) (i : ℕ) (someone : i ≢ 255) (apart : i ≢ 
   passed w p = ReadyAfter.on (p .row) (p .woken) (p .finished)
 
   -- its record, ended: it is ready, nowhere, and has no ticks
-  ended-row : (x : ℤ) (d g : ℕ) → callEnded (pendingTo a g) x d ≡ doneRow (a .message) x d g
+  ended-row : (x : ℤ) (d g : ℕ) → callEnded (pendingTo a g) x d ≡ doneRow (a .message) (a .cause) (a .step) x d g
   ended-row x d g =
       λ y. record {
         state = was-ready y;
@@ -40,6 +40,8 @@ module _ (t : Tables) (s : Step) (i : ℕ) (someone : i ≢ 255) (apart : i ≢ 
         message = a .message;
         call = noCall;
         answer = record { message = x; datum = d };
+        cause = a .cause;
+        step = a .step;
       }
 
   module _ {r : Thread} {w f : Bool} where
@@ -69,25 +71,26 @@ module _ (t : Tables) (s : Step) (i : ℕ) (someone : i ≢ 255) (apart : i ≢ 
     sleeps-own q g m (ReadyAfter.tried k z p c) = ReadyAfter.tried k z p c
 
     -- it is woken, if it fell asleep before
-    woken-own : (m : ℤ) → r .state ≢ 0 → ReadyAfter t s i r w f → ReadyAfter t s i (readyWith r m) true f
-    woken-own m n (ReadyAfter.on e p z) = absurd (n (ap (λ (u : Thread). u .state) e ∙ was-ready))
-    woken-own m n (ReadyAfter.done y c f k e p z) = absurd (n (ap (λ (u : Thread). u .state) e))
-    woken-own m n (ReadyAfter.tried k z p c) = ReadyAfter.tried k z p c
+    woken-own : (m : ℤ) (o v : ℕ) → r .state ≢ 0 → ReadyAfter t s i r w f → ReadyAfter t s i (readyWith r m o v) true f
+    woken-own m o v n (ReadyAfter.on e p z) = absurd (n (ap (λ (u : Thread). u .state) e ∙ was-ready))
+    woken-own m o v n (ReadyAfter.done y c f k e p z) = absurd (n (ap (λ (u : Thread). u .state) e))
+    woken-own m o v n (ReadyAfter.tried k z p c) = ReadyAfter.tried k z p c
 
-  pub ready-keeps : Keeps t s After
+  pub ready-keeps : Keeps t s (Steady t s i someone (ReadyAfter t s i))
   ready-keeps =
       row-keeps t s i someone (ReadyAfter t s i)
       (record {
-        wakes = λ m n c h. woken-own m n h;
+        wakes = λ m o n c h. woken-own m o (found t .step) n h;
         ends-on = λ m d z n e h. ends-own m d n e h;
         takes-on = λ z k m h. takes-own k m h;
         sleeps-on = λ q z g m side h. sleeps-own q g m h;
       })
       (record {
+        wakes = λ m o n c h. woken-own m o (found t .step) n h;
         begins = λ x y. passed (found t) (found-passed t s i was-ready no-ticks y);
         ticks = λ v e h. passed v (ticks-passed t s i was-ready no-ticks v e h);
         events = λ v e h. passed v (events-passed t s i was-ready no-ticks e v h);
         ends = λ e m d o h. absurd (apart (sym e));
         takes = λ e k n z h. absurd (apart (sym e));
-        sleeps = λ e st pl c o k n h. absurd (apart (sym e));
+        sleeps = λ e st pl c o k n b h. absurd (apart (sym e));
       })

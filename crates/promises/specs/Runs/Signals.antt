@@ -27,16 +27,16 @@ use Rattle.library.specs.declared.tables.Plant.{Plant}
 use Rattle.library.specs.declared.tables.Tables.{Tables}
 use Rattle.library.specs.Acting.{acted}
 use Rattle.library.specs.Settling.{runningIn}
-use Rattle.library.specs.Tables.{opened, closed, withKernel}
+use Rattle.library.specs.Tables.{closed, withKernel}
 use Rattle.steps.specs.declared.stepping.Stepped.{Stepped}
-use Rattle.steps.specs.Stepping.{budgetOf, outcomeOf, doneWith, stepped}
+use Rattle.steps.specs.Stepping.{budgetOf, outcomeOf, doneWith, started, stepped}
 use Rattle.promises.specs.Paper.World.{World, found, noCall, ended, First, Running}
 use Rattle.promises.specs.Paper.Host.{Host}
 use Rattle.promises.specs.Paper.Rows.{Signal, BinarySignal, Waits, Release, Post, Fetch, Act}
 use Rattle.promises.specs.Paper.Settling.{Continued}
 use Rattle.promises.specs.Paper.Step.{ResultOf}
 use Rattle.promises.specs.Paper.Waking.{rowOf, inMask}
-use Rattle.promises.specs.Paper.Signals.{AnswersWith, answeredIn, AtTop, Counts, SignalTold}
+use Rattle.promises.specs.Paper.Signals.{AnswersWith, risenIn, answeredIn, AtTop, Counts, SignalTold}
 use Rattle.promises.specs.Kept.Whole.{Whole, whole-good}
 use Rattle.promises.specs.Meant.Kinds.{rows}
 use Rattle.promises.specs.Meant.Settling.{settle-stops}
@@ -45,14 +45,14 @@ use Rattle.promises.specs.Meant.Calls.{sized}
 use Rattle.promises.specs.Meant.Step.{settled-keeps, result-is, running-is, h, hangs, acted-whole, settled-whole, own}
 use Rattle.promises.specs.Runs.Answers.{step-done}
 use Rattle.promises.specs.Runs.Keeping.{put-same, put-other, KeepsOn}
-use Rattle.promises.specs.Runs.OneRow.{ended-own, ended-finished, mail-other, Stands, RowOn, row-on}
-use Rattle.promises.specs.Runs.OneStep.{bit-in, accepted, together, caller-first, semaphore-there, someone, x₀, act, settle-keeps}
+use Rattle.promises.specs.Runs.OneRow.{ended-own, ended-finished, mail-other, Stands, Steady, RowOn, row-on}
+use Rattle.promises.specs.Runs.OneStep.{bit-in, accepted, together, caller-first, semaphore-there, someone, x₀, act, act-step, settle-keeps}
 use Rattle.promises.specs.Runs.GoingOn.{first-stays, ended-state}
 
 -- ---- what a continued call leaves of the counters of semaphores and pools
 
 module _ (p : ℕ) (near : p < 20) where
-  release-counter : {w x : World} {q : ℕ} {m : ℤ} → q ≢ p → Release w q m x → x .counter p ≡ w .counter p
+  release-counter : {w x : World} {q : ℕ} {m : ℤ} {o : ℕ} → q ≢ p → Release w q m o x → x .counter p ≡ w .counter p
   release-counter {w} d (Release.first i h e) =
       ap (λ (y : World). y .counter p) e
       ∙ rw (h .waits .0, h .waits .1) (put-other (w .counter) _ p _ (λ z. d (sym z)))
@@ -133,7 +133,7 @@ module _ (t : Tables) (c : Clock) (s : Step) (host : Host t c s) (e : stepped t 
   Acts = Act t (c .time) s (x₀ t c s host e)
 
   -- what it has made of the tables, before it settles and after
-  whole : Whole (acted (opened t) (c .time) s .sizes) (acted (opened t) (c .time) s)
+  whole : Whole (acted (started t s) (c .time) s .sizes) (acted (started t s) (c .time) s)
   whole = own t c s host (accepted t c s host e) (acted-whole t c s host (accepted t c s host e))
 
   res : ResultOf (worldOf (h t c s host)) j (outcomeOf (h t c s host .kernel) j)
@@ -153,7 +153,7 @@ module _ (t : Tables) (c : Clock) (s : Step) (host : Host t c s) (e : stepped t 
     done-on : (z : j ≢ 255) → RowOn t s j z (Done a)
     done-on z =
         record {
-          wakes = λ m n b d. absurd (n (d .is-ready));
+          wakes = λ m o n b d. absurd (n (d .is-ready));
           ends-on = λ m b r n g d. absurd (n (d .no-call));
           takes-on = λ r k m d. absurd (omega (arith, k, d .no-call));
           sleeps-on = λ q r b m g d. absurd (mail-other b .1 (d .no-call));
@@ -163,7 +163,7 @@ module _ (t : Tables) (c : Clock) (s : Step) (host : Host t c s) (e : stepped t 
     told-on : KeepsOn t s (λ w. w .answer ≡ a)
     told-on =
         record {
-          moves = record { counter = λ w p b d. d; box = λ w b x d. d; pool = λ w q x d. d; wakes = λ w i m n b d. d };
+          moves = record { counter = λ w p b d. d; box = λ w b x d. d; pool = λ w q x d. d; wakes = λ w i m o n b d. d };
           ends-on = λ w r m b l z n g d. rw (ne-eqb r 255 (someone t c s host e r l)) d;
           takes-on = λ w r l z k m d. rw (ne-eqb r 255 (someone t c s host e r l)) d;
           sleeps-on = λ w r q l z b m g d. d;
@@ -194,7 +194,7 @@ module _ (t : Tables) (c : Clock) (s : Step) (host : Host t c s) (e : stepped t 
       thread : j ≢ 255 → AnswersWith s (doneWith (h t c s host) c s) m
       thread z =
           let P = Stands t s j z (Done a) in
-          let d : P w = settle-keeps t c s host e P (row-on t s j z (Done a) (done-on a z)) (subst P (sym x) (begun z)) in
+          let d : P w = settle-keeps t c s host e (Steady t s j z (Done a)) (row-on t s j z (Done a) (done-on a z)) (act-step t c s host e, subst P (sym x) (begun z)) .1 in
           record {
             message = res .message ∙ rw (ne-eqb j 255 z) (ap (λ (b : Answer). b .message) (d .answer));
             datum = res .datum ∙ rw (ne-eqb j 255 z) (ap (λ (b : Answer). b .datum) (d .answer));
@@ -215,16 +215,16 @@ module _ (t : Tables) (c : Clock) (s : Step) (host : Host t c s) (e : stepped t 
 
   module _ (kind : s .kind ≡ 3) (top : ltZ (found t .counter (s .object)) (pos 2147483647) ≡ false) where
     abbrev k : Kernel
-    k = opened t .kernel
+    k = started t s .kernel
 
     abbrev left : Plant
-    left = withKernel (opened t) (finished k j (pos 1) 0)
+    left = withKernel (started t s) (finished k j (pos 1) 0)
 
     -- the act leaves all else
-    acted-top : acted (opened t) (c .time) s ≡ left
-    acted-top = rows (opened t) (c .time) s .signal kind ∙ by
+    acted-top : acted (started t s) (c .time) s ≡ left
+    acted-top = rows (started t s) (c .time) s .signal kind ∙ by
       where
-        by : withKernel (opened t) (finished (signalled k (s .object) .kernel) j (cond (signalled k (s .object) .counted) (pos 0) (pos 1)) 0) ≡ left
+        by : withKernel (started t s) (finished (signalled k (s .object) .kernel) j (cond (signalled k (s .object) .counted) (pos 0) (pos 1)) 0) ≡ left
         by = rw (signal-top k (s .object) top, uncounted k (s .object) top)
 
     act-top : x₀ t c s host e ≡ w₁
@@ -254,15 +254,15 @@ module _ (t : Tables) (c : Clock) (s : Step) (host : Host t c s) (e : stepped t 
 
     settled-top : h t c s host ≡ left
     settled-top =
-        let p = acted (opened t) (c .time) s in
+        let p = acted (started t s) (c .time) s in
         settle-stops p (budgetOf (t .sizes .threads))
         (free (subst (λ (w : World). Running w (runningIn p)) act-top (running-is p (whole-good p (p .sizes) whole))))
         ∙ acted-top
       where
-        free : {r : ℕ} → Running w₁ r → threadAt (acted (opened t) (c .time) s .kernel) r .call .kind ≡ 0
+        free : {r : ℕ} → Running w₁ r → threadAt (acted (started t s) (c .time) s .kernel) r .call .kind ≡ 0
         free {r} (Running.thread f) = ap (λ (w : World). w .thread r .call .kind) act-top ∙ quiet f
         free (Running.idle n z) =
-            rw (z, thread-blank (acted (opened t) (c .time) s .kernel) 255 (omega (arith, sized (acted (opened t) (c .time) s) whole .threads)))
+            rw (z, thread-blank (acted (started t s) (c .time) s .kernel) 255 (omega (arith, sized (acted (started t s) (c .time) s) whole .threads)))
 
     -- a calling thread has no call, and awaits nothing
     no-call : j ≢ 255 → (rowOf t j .call ≡ noCall) × (rowOf t j .awaited ≡ 0)
@@ -279,7 +279,7 @@ module _ (t : Tables) (c : Clock) (s : Step) (host : Host t c s) (e : stepped t 
         let q = no-call z in
         rw (ne-eqb j 255 z, q .0, q .1)
 
-    left-interrupt : j ≡ 255 → closed left ≡ t
+    left-interrupt : j ≡ 255 → closed left ≡ risenIn t
     left-interrupt z = rw (finish-interrupt k j (pos 1) 0 z)
 
     pub at-top : AtTop t c s (stepped t c s)
@@ -317,7 +317,7 @@ module _ (t : Tables) (c : Clock) (s : Step) (host : Host t c s) (e : stepped t 
   counter-after p near =
       ap (λ (q : Stepped). found (q .tables) .counter p) (step-done t c s e)
       ∙ settled-keeps (λ w. w .counter p ≡ x₀ t c s host e .counter p) (λ q v i f n x r y. continued-counter p near r ∙ y)
-      (budgetOf (t .sizes .threads)) (acted (opened t) (c .time) s) whole refl
+      (budgetOf (t .sizes .threads)) (acted (started t s) (c .time) s) whole refl
 
   below-top : Acts 3 → s .object < 20 → ltZ (found t .counter (s .object)) (pos 2147483647) ≡ true → Counts t s (stepped t c s)
   below-top (Act.signal v false r q) near low = contrary low (sym (signal-counts r))

@@ -6,7 +6,7 @@ use mathlib.Core.Logic.{_≢_, _⊎_, inl, inr}
 use mathlib.Core.Bool.{Bool, true, false, cond}
 use lib.Dec.{eqb}
 use lib.Bits.{bitOr}
-use lib.IntN.{ℤ, pos, negsuc}
+use lib.IntN.{ℤ, pos, negsuc, pos-ne-negsuc}
 use borrow.Author.Tests.{eq-eqb, ne-eqb}
 use Rattle.kernel.specs.declared.records.Call.{Call}
 use Rattle.kernel.specs.declared.records.Thread.{Thread}
@@ -21,7 +21,9 @@ use Rattle.promises.specs.Paper.Waking.{
   rowOf,
   IsPost,
   IsMailing,
+  Served,
   CalledOut,
+  LastTick,
   WokenBy,
   heard,
   sleptOn,
@@ -31,7 +33,7 @@ use Rattle.promises.specs.Paper.Waking.{
   SleeperAfter,
 }
 use Rattle.promises.specs.Runs.Keeping.{put-same, put-other, queued-asleep, Ends, SideOf, Keeps}
-use Rattle.promises.specs.Runs.OneRow.{flagsTaken, mail-other, Stands, row-stays, ready-stays, RowOn, row-keeps}
+use Rattle.promises.specs.Runs.OneRow.{flagsTaken, mail-other, Stands, Steady, row-stays, ready-stays, RowOn, row-keeps}
 
 -- a thread without a call has no event wait
 pub no-event : {n : ℕ} → n ≡ 0 → n ≢ 14
@@ -46,19 +48,25 @@ ends-answer a r c f (Ends.in-reset e z) = AnswerOf.in-reset (subst (λ (k : Call
 ends-answer a r c f (Ends.posted e z) = AnswerOf.posted (subst (λ (k : Call). IsPost (k .kind)) c e) z
 ends-answer a r c f (Ends.fetched e z x) = AnswerOf.fetched (sym (ap (λ (k : Call). k .kind) c) ∙ e) z x
 
+-- a waking with 0 is not of the last tick, nor comes it in that step
+zero-unticked : {t : Tables} {s : Step} {i : ℕ} {a : Thread} {m : ℤ} {c : ℕ} → WokenBy t s i a m c → m ≡ pos 0 → LastTick s a → ⊥
+zero-unticked (WokenBy.last-tick k r) e v = pos-ne-negsuc 0 0 (sym e)
+zero-unticked (WokenBy.events k o st f) e v = omega (arith, k, v .0)
+zero-unticked (WokenBy.call u b) e v = u v
+
 -- whoever is called out is queued or suspended
-pub called-state : {t : Tables} {s : Step} {st pl : ℕ} {m : ℤ} → CalledOut t s st pl m → (st ≡ 2) ⊎ (st ≡ 3)
+pub called-state : {t : Tables} {s : Step} {st pl : ℕ} {m : ℤ} {c : ℕ} → CalledOut t s st pl m c → (st ≡ 2) ⊎ (st ≡ 3)
 called-state (CalledOut.signal a b c) = inr b
 called-state (CalledOut.reset a b c) = inr b
 called-state (CalledOut.release a b c) = inr b
 called-state (CalledOut.resume a b c) = inl b
-called-state (CalledOut.post b a c d) = inr c
-called-state (CalledOut.fetch b a c d) = inr c
+called-state (CalledOut.served (Served.post b z a c d)) = inr c
+called-state (CalledOut.served (Served.fetch b z a c d)) = inr c
 called-state (CalledOut.box-reset a b c) = inr b
 called-state (CalledOut.object a b c) = inr b
 
 -- a call of another kind has no side
-not-side : {c : Call} {k : ℕ} → c .kind ≡ k → k ≢ 15 → k ≢ 16 → k ≢ 17 → {q : ℕ} → SideOf c q → ⊥
+pub not-side : {c : Call} {k : ℕ} → c .kind ≡ k → k ≢ 15 → k ≢ 16 → k ≢ 17 → {q : ℕ} → SideOf c q → ⊥
 not-side e x y z (SideOf.writers (inl h)) = x (sym e ∙ h)
 not-side e x y z (SideOf.writers (inr h)) = y (sym e ∙ h)
 not-side e x y z (SideOf.readers h) = z (sym e ∙ h)
@@ -95,6 +103,10 @@ module _ (t : Tables) (s : Step) (i : ℕ) (someone : i ≢ 255) (within : i < t
   abbrev pub Life : World → Type 0
   Life = Stands t s i someone (SleeperAfter t s i)
 
+  -- the number of the step
+  abbrev num : ℕ
+  num = found t .step
+
   -- a mailbox call's record slept at its side
   mail-state : IsMailing (a .call .kind) → a .state ≡ 3
   mail-state (inl e) = mail-waits a before (fits .wait) (SideOf.writers e) .0
@@ -104,56 +116,64 @@ module _ (t : Tables) (s : Step) (i : ℕ) (someone : i ≢ 255) (within : i < t
   not-on : {r : Thread} → r ≡ sleptOn s i a → r .state ≢ 0
   not-on e z = before (sym (ap (λ (u : Thread). u .state) e) ∙ z)
 
-  not-again : {r : Thread} → r ≡ againRow s i a → r .state ≢ 0
+  not-again : {r : Thread} {c : ℕ} → r ≡ againRow s i a c num → r .state ≢ 0
   not-again e = queued-asleep (ap (λ (u : Thread). u .state) e)
 
   module _ {r : Thread} {w f : Bool} where
     -- ---- it is woken
 
-    rouse : (m : ℤ) → SleeperAfter t s i r w f → r .state ≢ 0 → WokenBy t s i a m → SleeperAfter t s i (readyWith r m) true f
-    rouse m (SleeperAfter.on e p q) n b = SleeperAfter.ready m b (a .answer) (inl refl) (ap (λ (u : Thread). readyWith u m) e) refl q
-    rouse m (SleeperAfter.ready x c l g e p q) n b = absurd (n (ap (λ (u : Thread). u .state) e))
-    rouse m (SleeperAfter.done x y d f c g e p q) n b = absurd (n (ap (λ (u : Thread). u .state) e))
-    rouse m (SleeperAfter.again g c e p q) n b = SleeperAfter.ready m b noAnswer (inr (g, refl)) (ap (λ (u : Thread). readyWith u m) e) refl q
+    rouse : (m : ℤ) (o : ℕ) → SleeperAfter t s i r w f → r .state ≢ 0 → WokenBy t s i a m o → SleeperAfter t s i (readyWith r m o num) true f
+    rouse m o (SleeperAfter.on u e p q) n b = SleeperAfter.ready m o b (a .answer) (inl refl) (ap (λ (u : Thread). readyWith u m o num) e) refl q
+    rouse m o (SleeperAfter.ready x y c l g e p q) n b = absurd (n (ap (λ (u : Thread). u .state) e))
+    rouse m o (SleeperAfter.done x y v d f c g e p q) n b = absurd (n (ap (λ (u : Thread). u .state) e))
+    rouse m o (SleeperAfter.again x g c e p q) n b =
+        SleeperAfter.ready m o b noAnswer (inr (g, refl)) (ap (λ (u : Thread). readyWith u m o num) e) refl q
+
+    -- as long as it can be called out, its last tick has not come
+    not-last : SleeperAfter t s i r w f → r .state ≢ 0 → LastTick s a → ⊥
+    not-last (SleeperAfter.on u e p q) n = u
+    not-last (SleeperAfter.ready x y b l g e p q) n = absurd (n (ap (λ (u : Thread). u .state) e))
+    not-last (SleeperAfter.done x y v d f b g e p q) n = absurd (n (ap (λ (u : Thread). u .state) e))
+    not-last (SleeperAfter.again x g b e p q) n = zero-unticked b refl
 
     -- who calls it out now would have called it out before
-    called : (m : ℤ) → SleeperAfter t s i r w f → r .state ≢ 0 → CalledOut t s (r .state) (r .place) m → CalledOut t s (a .state) (a .place) m
-    called m (SleeperAfter.on e p q) n c = subst (λ (u : Thread). CalledOut t s (u .state) (u .place) m) e c
-    called m (SleeperAfter.ready x b l g e p q) n c = absurd (n (ap (λ (u : Thread). u .state) e))
-    called m (SleeperAfter.done x y d f b g e p q) n c = absurd (n (ap (λ (u : Thread). u .state) e))
-    called m (SleeperAfter.again g b e p q) n c = rw (mail-state g) (subst (λ (u : Thread). CalledOut t s (u .state) (u .place) m) e c)
+    called : (m : ℤ) (o : ℕ) → SleeperAfter t s i r w f → r .state ≢ 0 → CalledOut t s (r .state) (r .place) m o → CalledOut t s (a .state) (a .place) m o
+    called m o (SleeperAfter.on u e p q) n c = subst (λ (u : Thread). CalledOut t s (u .state) (u .place) m o) e c
+    called m o (SleeperAfter.ready x y b l g e p q) n c = absurd (n (ap (λ (u : Thread). u .state) e))
+    called m o (SleeperAfter.done x y v d f b g e p q) n c = absurd (n (ap (λ (u : Thread). u .state) e))
+    called m o (SleeperAfter.again x g b e p q) n c = rw (mail-state g) (subst (λ (u : Thread). CalledOut t s (u .state) (u .place) m o) e c)
 
     -- ---- its call is continued
 
     ends-own : (x : ℤ) (d : ℕ) → r .state ≡ 0 → r .call .kind ≢ 0 → Ends r x d → SleeperAfter t s i r w f
         → SleeperAfter t s i (callEnded r x d) w true
-    ends-own x d z n h (SleeperAfter.on e p q) = absurd (not-on e z)
-    ends-own x d z n h (SleeperAfter.ready m b l g e p q) =
-        SleeperAfter.done m x d (heard s i a) b (ends-answer a (wokenRow s i a m l) refl (heard s i a) (subst (λ (u : Thread). Ends u x d) e h))
+    ends-own x d z n h (SleeperAfter.on u e p q) = absurd (not-on e z)
+    ends-own x d z n h (SleeperAfter.ready m o b l g e p q) =
+        SleeperAfter.done m x o d (heard s i a) b (ends-answer a (wokenRow s i a m o num l) refl (heard s i a) (subst (λ (u : Thread). Ends u x d) e h))
         (ap (λ (u : Thread). callEnded u x d) e) p refl
-    ends-own x d z n h (SleeperAfter.done m y c f b g e p q) = absurd (n (ap (λ (u : Thread). u .call .kind) e))
-    ends-own x d z n h (SleeperAfter.again g b e p q) = absurd (not-again e z)
+    ends-own x d z n h (SleeperAfter.done m y o c f b g e p q) = absurd (n (ap (λ (u : Thread). u .call .kind) e))
+    ends-own x d z n h (SleeperAfter.again o g b e p q) = absurd (not-again e z)
 
     -- its event wait "clears and answers all pending flags in its mask"
     takes-own : r .state ≡ 0 → r .call .kind ≡ 14 → r .message ≡ pos 0 → SleeperAfter t s i r w f
         → SleeperAfter t s i (flagsTaken r (r .call .operand)) w true
-    takes-own z k h (SleeperAfter.on e p q) = absurd (not-on e z)
-    takes-own z k h (SleeperAfter.ready m b l g e p q) =
-        SleeperAfter.done m (pos 0) _ _ b
+    takes-own z k h (SleeperAfter.on u e p q) = absurd (not-on e z)
+    takes-own z k h (SleeperAfter.ready m o b l g e p q) =
+        SleeperAfter.done m (pos 0) o _ _ b
         (AnswerOf.events (sym (ap (λ (u : Thread). u .call .kind) e) ∙ k) (sym (ap (λ (u : Thread). u .message) e) ∙ h))
         (ap (λ (u : Thread). flagsTaken u (u .call .operand)) e) p refl
-    takes-own z k h (SleeperAfter.done m y c f b g e p q) = absurd (no-event (ap (λ (u : Thread). u .call .kind) e) k)
-    takes-own z k h (SleeperAfter.again g b e p q) = absurd (not-again e z)
+    takes-own z k h (SleeperAfter.done m y o c f b g e p q) = absurd (no-event (ap (λ (u : Thread). u .call .kind) e) k)
+    takes-own z k h (SleeperAfter.again o g b e p q) = absurd (not-again e z)
 
     -- its mailbox call sleeps again
     sleeps-own : (q : ℕ) → r .state ≡ 0 → IsMailing (r .call .kind) → r .message ≡ pos 0 → SideOf (r .call) q → SleeperAfter t s i r w f
         → SleeperAfter t s i (asleep r 3 q (r .call)) w f
-    sleeps-own q z g h side (SleeperAfter.on e p o) = absurd (not-on e z)
-    sleeps-own q z g h side (SleeperAfter.ready m b l c e p o) =
+    sleeps-own q z g h side (SleeperAfter.on u e p o) = absurd (not-on e z)
+    sleeps-own q z g h side (SleeperAfter.ready m k b l c e p o) =
         let m0 : m ≡ pos 0 = sym (ap (λ (u : Thread). u .message) e) ∙ h in
         let mail = subst (λ (u : Thread). IsMailing (u .call .kind)) e g in
         let at = mail-waits a before (fits .wait) (subst (λ (u : Thread). SideOf (u .call) q) e side) .1 in
-        SleeperAfter.again mail (subst (WokenBy t s i a) m0 b)
+        SleeperAfter.again k mail (subst (λ (x : ℤ). WokenBy t s i a x k) m0 b)
         (ap (λ (u : Thread). asleep u 3 q (u .call)) e ∙ (λ x. record {
           state = 3;
           place = sym at x;
@@ -163,15 +183,17 @@ module _ (t : Tables) (s : Step) (i : ℕ) (someone : i ≢ 255) (within : i < t
           message = m0 x;
           call = a .call;
           answer = noAnswer;
+          cause = k;
+          step = num;
         }))
         p o
-    sleeps-own q z g h side (SleeperAfter.done m y c f b x e p o) = absurd (mail-other g .1 (ap (λ (u : Thread). u .call .kind) e))
-    sleeps-own q z g h side (SleeperAfter.again x b e p o) = absurd (not-again e z)
+    sleeps-own q z g h side (SleeperAfter.done m y k c f b x e p o) = absurd (mail-other g .1 (ap (λ (u : Thread). u .call .kind) e))
+    sleeps-own q z g h side (SleeperAfter.again k x b e p o) = absurd (not-again e z)
 
   life-on : RowOn t s i someone (SleeperAfter t s i)
   life-on =
       record {
-        wakes = λ m n c l. rouse m l n (WokenBy.call (called m l n c));
+        wakes = λ m o n c l. rouse m o l n (WokenBy.call (not-last l n) (called m o l n (CalledOut.served c)));
         ends-on = ends-own;
         takes-on = takes-own;
         sleeps-on = sleeps-own;
@@ -184,9 +206,10 @@ module _ (t : Tables) (s : Step) (i : ℕ) (someone : i ≢ 255) (within : i < t
     row : w .thread i ≡ a
     woken : w .woken i ≡ false
     finished : w .finished i ≡ false
+    step : w .step ≡ num
 
   found-untouched : Untouched (found t)
-  found-untouched = record { row = refl; woken = refl; finished = refl }
+  found-untouched = record { row = refl; woken = refl; finished = refl; step = refl }
 
   -- a sleep that nothing shortens and no flags come to
   on-as : s .kind ≢ 1 → heard s i a ≡ a .pending → a ≡ sleptOn s i a
@@ -200,6 +223,8 @@ module _ (t : Tables) (s : Step) (i : ℕ) (someone : i ≢ 255) (within : i < t
         message = a .message;
         call = a .call;
         answer = a .answer;
+        cause = a .cause;
+        step = a .step;
       }
     where
       level : a .remaining ≡ cond (eqb (s .kind) 1) (a .remaining - 1) (a .remaining)
@@ -209,7 +234,7 @@ module _ (t : Tables) (s : Step) (i : ℕ) (someone : i ≢ 255) (within : i < t
   heard-none n = rw (ne-eqb (s .kind) 13 n)
 
   begins : s .kind ≢ 1 → s .kind ≢ 13 → Life (found t)
-  begins n m = SleeperAfter.on (on-as n (heard-none m)) refl refl
+  begins n m = SleeperAfter.on (λ x. n (x .0)) (on-as n (heard-none m)) refl refl
 
   module _ (kind : s .kind ≡ 1) where
     unheard : heard s i a ≡ a .pending
@@ -223,7 +248,7 @@ module _ (t : Tables) (s : Step) (i : ℕ) (someone : i ≢ 255) (within : i < t
     tick-own w x u (TickOf.no-ticks z e) =
         let none : a .remaining ≡ 0 = sym (ap (λ (v : Thread). v .remaining) (u .row)) ∙ z in
         rw e
-        (SleeperAfter.on (u .row ∙ (λ y. record {
+        (SleeperAfter.on (λ v. omega (arith, none, v .1)) (u .row ∙ (λ y. record {
           state = a .state;
           place = a .place;
           remaining = shorter (a .remaining) (omega (arith, none)) y;
@@ -232,10 +257,12 @@ module _ (t : Tables) (s : Step) (i : ℕ) (someone : i ≢ 255) (within : i < t
           message = a .message;
           call = a .call;
           answer = a .answer;
+          cause = a .cause;
+          step = a .step;
         })) (u .woken) (u .finished))
     tick-own w x u (TickOf.falls z e) =
         rw e
-        (SleeperAfter.on (put-same (w .thread) i _ ∙ (λ y. record {
+        (SleeperAfter.on (λ v. omega (arith, more, v .1)) (put-same (w .thread) i _ ∙ (λ y. record {
           state = u .row y .state;
           place = u .row y .place;
           remaining = less y;
@@ -244,14 +271,19 @@ module _ (t : Tables) (s : Step) (i : ℕ) (someone : i ≢ 255) (within : i < t
           message = u .row y .message;
           call = u .row y .call;
           answer = u .row y .answer;
+          cause = u .row y .cause;
+          step = u .row y .step;
         })) (u .woken) (u .finished))
       where
+        more : 1 < a .remaining
+        more = rw (← ap (λ (v : Thread). v .remaining) (u .row)) z
+
         less : w .thread i .remaining - 1 ≡ sleptOn s i a .remaining
         less = shorter (w .thread i .remaining - 1) (ap (λ (v : Thread). v .remaining - 1) (u .row))
     tick-own w x u (TickOf.last z e) =
         let last : a .remaining ≡ 1 = sym (ap (λ (v : Thread). v .remaining) (u .row)) ∙ z in
         rw e
-        (SleeperAfter.ready (negsuc 0) (WokenBy.last-tick kind last) (a .answer) (inl refl)
+        (SleeperAfter.ready (negsuc 0) 8 (WokenBy.last-tick kind last) (a .answer) (inl refl)
         (put-same (w .thread) i _ ∙ (λ y. record {
           state = 0;
           place = 0;
@@ -261,21 +293,23 @@ module _ (t : Tables) (s : Step) (i : ℕ) (someone : i ≢ 255) (within : i < t
           message = negsuc 0;
           call = u .row y .call;
           answer = u .row y .answer;
+          cause = 8;
+          step = u .step y;
         })) (put-same (w .woken) i true) (u .finished))
 
     -- another thread's tick
     tick-untouched : (w x : World) (j : ℕ) → i ≢ j → TickOf w j x → Untouched w → Untouched x
     tick-untouched w x j n (TickOf.no-ticks z e) u = rw e u
     tick-untouched w x j n (TickOf.falls z e) u =
-        rw e (record { row = put-other (w .thread) j i _ n ∙ u .row; woken = u .woken; finished = u .finished })
+        rw e (record { row = put-other (w .thread) j i _ n ∙ u .row; woken = u .woken; finished = u .finished; step = u .step })
     tick-untouched w x j n (TickOf.last z e) u =
-        rw e (record { row = put-other (w .thread) j i _ n ∙ u .row; woken = put-other (w .woken) j i true n ∙ u .woken; finished = u .finished })
+        rw e (record { row = put-other (w .thread) j i _ n ∙ u .row; woken = put-other (w .woken) j i true n ∙ u .woken; finished = u .finished; step = u .step })
 
     tick-stays : (w x : World) (j : ℕ) → i ≢ j → TickOf w j x → Life w → Life x
     tick-stays w x j n (TickOf.no-ticks z e) l = rw e l
     tick-stays w x j n (TickOf.falls z e) l =
         subst Life (sym e) (row-stays t s i someone (SleeperAfter t s i) w j n _ l)
-    tick-stays w x j n (TickOf.last z e) l = subst Life (sym e) (ready-stays t s i someone (SleeperAfter t s i) w j n (negsuc 0) l)
+    tick-stays w x j n (TickOf.last z e) l = subst Life (sym e) (ready-stays t s i someone (SleeperAfter t s i) w j n (negsuc 0) 8 l)
 
     -- "in index order": its turn is still to come, or has come
     ticks-life : (n : ℕ) (x : World) → Ticks (found t) n x → (n ≤ i → Untouched x) × (i < n → Life x)
@@ -301,8 +335,8 @@ module _ (t : Tables) (s : Step) (i : ℕ) (someone : i ≢ 255) (within : i < t
     event-own : (x : World) → s .object ≡ i → EventSignal (found t) i (s .a) x → Life x
     event-own x o (EventSignal.comes g h e) =
         subst Life (sym e)
-        (SleeperAfter.ready (pos 0) (WokenBy.events kind o g h) (a .answer) (inl refl)
-        (put-same (flagged (found t) i (s .a) .thread) i _ ∙ ap (λ (u : Thread). readyWith u (pos 0)) (put-same (found t .thread) i _)
+        (SleeperAfter.ready (pos 0) 4 (WokenBy.events kind o g h) (a .answer) (inl refl)
+        (put-same (flagged (found t) i (s .a) .thread) i _ ∙ ap (λ (u : Thread). readyWith u (pos 0) 4 num) (put-same (found t .thread) i _)
         ∙ (λ y. record {
           state = 0;
           place = 0;
@@ -312,10 +346,12 @@ module _ (t : Tables) (s : Step) (i : ℕ) (someone : i ≢ 255) (within : i < t
           message = pos 0;
           call = a .call;
           answer = a .answer;
+          cause = 4;
+          step = num;
         })) (put-same (found t .woken) i true) refl)
     event-own x o (EventSignal.only-flagged g e) =
         subst Life (sym e)
-        (SleeperAfter.on (put-same (found t .thread) i _ ∙ (λ y. record {
+        (SleeperAfter.on (λ v. unticked (v .0)) (put-same (found t .thread) i _ ∙ (λ y. record {
           state = a .state;
           place = a .place;
           remaining = level y;
@@ -324,18 +360,20 @@ module _ (t : Tables) (s : Step) (i : ℕ) (someone : i ≢ 255) (within : i < t
           message = a .message;
           call = a .call;
           answer = a .answer;
+          cause = a .cause;
+          step = a .step;
         })) refl refl)
       where
         level : a .remaining ≡ cond (eqb (s .kind) 1) (a .remaining - 1) (a .remaining)
         level = rw (ne-eqb (s .kind) 1 unticked)
 
     other-life : s .object ≢ i → Life (found t)
-    other-life n = SleeperAfter.on (on-as unticked (rw (kind, ne-eqb (s .object) i n))) refl refl
+    other-life n = SleeperAfter.on (λ x. unticked (x .0)) (on-as unticked (rw (kind, ne-eqb (s .object) i n))) refl refl
 
     event-other : (x : World) (j : ℕ) → i ≢ j → EventSignal (found t) j (s .a) x → Life (found t) → Life x
     event-other x j n (EventSignal.comes g h e) l =
         subst Life (sym e)
-        (ready-stays t s i someone (SleeperAfter t s i) (flagged (found t) j (s .a)) j n (pos 0)
+        (ready-stays t s i someone (SleeperAfter t s i) (flagged (found t) j (s .a)) j n (pos 0) 4
         (row-stays t s i someone (SleeperAfter t s i) (found t) j n _ l))
     event-other x j n (EventSignal.only-flagged g e) l = subst Life (sym e) (row-stays t s i someone (SleeperAfter t s i) (found t) j n _ l)
 
@@ -344,14 +382,15 @@ module _ (t : Tables) (s : Step) (i : ℕ) (someone : i ≢ 255) (within : i < t
         same-or (s .object) i (λ e. event-own x e (subst (λ (j : ℕ). EventSignal (found t) j (s .a) x) e h))
         (λ d. event-other x (s .object) (λ e. d (sym e)) h (other-life d))
 
-  pub life-keeps : Keeps t s Life
+  pub life-keeps : Keeps t s (Steady t s i someone (SleeperAfter t s i))
   life-keeps =
       row-keeps t s i someone (SleeperAfter t s i) life-on
       (record {
+        wakes = λ m o n c l. rouse m o l n (WokenBy.call (not-last l n) (called m o l n c));
         begins = begins;
         ticks = λ v e h. ticks-life e (t .sizes .threads) v h .1 within;
         events = λ v e h. events e v h;
         ends = λ e m d o l. absurd (apart (sym e));
         takes = λ e k n z l. absurd (apart (sym e));
-        sleeps = λ e st pl c o k n l. absurd (apart (sym e));
+        sleeps = λ e st pl c o k n b l. absurd (apart (sym e));
       })

@@ -68,8 +68,9 @@ module _ (t : Tables) (s : Step) where
   thread-kept : (w : World) (i : ℕ) (u : Thread) → CallAfter (w .thread i .call) (u .call) → Kept w → Kept (threadTo w i u)
   thread-kept w i u h = kept-on w (threadTo w i u) refl (row-kept (w .thread) i u h)
 
-  ready-kept : (w : World) (i : ℕ) (m : ℤ) → Kept w → Kept (madeReady w i m)
-  ready-kept w i m = kept-on w (madeReady w i m) refl (row-kept (w .thread) i (readyWith (w .thread i) m) (CallAfter.same refl))
+  ready-kept : (w : World) (i : ℕ) (m : ℤ) (c : ℕ) → Kept w → Kept (madeReady w i m c)
+  ready-kept w i m c =
+      kept-on w (madeReady w i m c) refl (row-kept (w .thread) i (readyWith (w .thread i) m c (w .step)) (CallAfter.same refl))
 
   sleep-kept : (w : World) (i st pl : ℕ) (c : Call) → (IsMailing (c .kind) → Tried t s (c .kind) (c .object)) → Kept w
       → Kept (fallAsleep w i st pl c)
@@ -89,7 +90,7 @@ module _ (t : Tables) (s : Step) where
   tick-kept : (w x : World) (i : ℕ) → TickOf w i x → Kept w → Kept x
   tick-kept w x i (TickOf.no-ticks a e) k = to-kept e k
   tick-kept w x i (TickOf.falls a e) k = to-kept e (thread-kept w i _ (CallAfter.same refl) k)
-  tick-kept w x i (TickOf.last a e) k = to-kept e (ready-kept w i (negsuc 0) k)
+  tick-kept w x i (TickOf.last a e) k = to-kept e (ready-kept w i (negsuc 0) 8 k)
 
   ticks-kept : (n : ℕ) (w x : World) → Ticks w n x → Kept w → Kept x
   ticks-kept zero w x e k = to-kept e k
@@ -97,35 +98,35 @@ module _ (t : Tables) (s : Step) where
 
   event-kept : (w x : World) (i a : ℕ) → EventSignal w i a x → Kept w → Kept x
   event-kept w x i a (EventSignal.comes g h e) k =
-      to-kept e (ready-kept (flagged w i a) i (pos 0) (flag-kept w i a k))
+      to-kept e (ready-kept (flagged w i a) i (pos 0) 4 (flag-kept w i a k))
   event-kept w x i a (EventSignal.only-flagged g e) k = to-kept e (flag-kept w i a k)
 
   found-kept : Kept (found t)
   found-kept = record { sizes = refl; tried = λ j l m. Tried.kept j l refl refl }
 
-  kept-moves : Moves t s Kept
-  kept-moves =
+  kept-moves : (C : ℕ → ℕ → ℤ → ℕ → Type 0) → Moves t s C Kept
+  kept-moves C =
       record {
         counter = λ w p c k. record { sizes = k .sizes; tried = k .tried };
         box = λ w b x k. record { sizes = k .sizes; tried = k .tried };
         pool = λ w q x k. record { sizes = k .sizes; tried = k .tried };
-        wakes = λ w j m a b k. ready-kept w j m k;
+        wakes = λ w j m c a b k. ready-kept w j m c k;
       }
 
   pub kept-keeps : Keeps t s Kept
   kept-keeps =
       record {
         act = record {
-          moves = kept-moves;
+          moves = kept-moves _;
           begins = λ a b. found-kept;
           ticks = λ v e h. ticks-kept (t .sizes .threads) (found t) v h found-kept;
           events = λ v e h. event-kept (found t) v (s .object) (s .a) h found-kept;
           ends = λ w m d h k. ended-kept w (s .caller) m d k;
           takes = λ e h k. took-kept (found t) (s .caller) (s .a) k;
-          sleeps = λ w st pl c may e f b k. sleep-kept w (s .caller) st pl c b k;
+          sleeps = λ w st pl c may e f b k. sleep-kept w (s .caller) st pl c (λ m. Tried.own (sym e) (sym (b m))) k;
         };
         on = record {
-          moves = kept-moves;
+          moves = kept-moves _;
           ends-on = λ w r m d l a b e k. ended-kept w r m d k;
           takes-on = λ w r l a e m k. took-kept w r (w .thread r .call .operand) k;
           sleeps-on = λ w r q l a b m side k. sleep-kept w r 3 q (w .thread r .call) (k .tried r l) k;

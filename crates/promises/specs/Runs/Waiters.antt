@@ -20,7 +20,7 @@ use Rattle.promises.specs.Paper.World.{World, found, madeReady, Highest}
 use Rattle.promises.specs.Paper.Host.{Host}
 use Rattle.promises.specs.Paper.Rows.{Signal, BinarySignal, Act}
 use Rattle.promises.specs.Paper.Together.{WaitFits, number, isQueued, SemaphoreFits}
-use Rattle.promises.specs.Paper.Waking.{rowOf, inMask, IsMailing, CalledOut, WokenBy, SleeperAfter, OwnWait, WakerAfter}
+use Rattle.promises.specs.Paper.Waking.{rowOf, inMask, IsMailing, Served, CalledOut, WokenBy, SleeperAfter, OwnWait, WakerAfter}
 use Rattle.promises.specs.Paper.Run.{signalsAt, joinsAt, higher, TurnOf}
 use Rattle.promises.specs.Together.Tests.{either-means}
 use Rattle.promises.specs.Runs.Keeping.{put-same, queued-asleep}
@@ -90,13 +90,13 @@ module _ (t : Tables) (c : Clock) (s : Step) (host : Host t c s) (e : stepped t 
           woken = woken-seen t c s host e j w;
         }
 
-    woken-in : (v x : World) (j : ℕ) (m : ℤ) (w : World) → v ≡ madeReady w j m → x .woken ≡ v .woken → x .woken j ≡ true
-    woken-in v x j m w a b = ap (λ (f : ℕ → Bool). f j) b ∙ ap (λ (y : World). y .woken j) a ∙ put-same (w .woken) j true
+    woken-in : (v x : World) (j : ℕ) (m : ℤ) (o : ℕ) (w : World) → v ≡ madeReady w j m o → x .woken ≡ v .woken → x .woken j ≡ true
+    woken-in v x j m o w a b = ap (λ (f : ℕ → Bool). f j) b ∙ ap (λ (y : World). y .woken j) a ∙ put-same (w .woken) j true
 
     of-signal : (v : World) {b : Bool} → ltZ (found t .counter p) (pos 0) ≡ true → Signal (found t) p v b → x₀ t c s host e .woken ≡ v .woken → FirstWoken
     of-signal v below (Signal.raises a l q) z = contrary below a
     of-signal v below (Signal.at-top a q) z = contrary below (top-not-below (found t .counter p) a)
-    of-signal v below (Signal.wakes a j h q) z = found-first j h (woken-in v (x₀ t c s host e) j (pos 0) (found t) q z)
+    of-signal v below (Signal.wakes a j h q) z = found-first j h (woken-in v (x₀ t c s host e) j (pos 0) 1 (found t) q z)
 
     of-binary : (v : World) → ltZ (found t .counter p) (pos 0) ≡ true → BinarySignal (found t) p v → x₀ t c s host e .woken ≡ v .woken → FirstWoken
     of-binary v below (BinarySignal.signals a n h) z = of-signal v below h z
@@ -207,13 +207,13 @@ module _ (t : Tables) (c : Clock) (s : Step) (host : Host t c s) (e : stepped t 
 
           slept : (rowOf u j .state ≡ 3) × (rowOf u j .place ≡ p) → rowOf t j .state ≢ 0 → {a b : Bool} → SleeperAfter t s j (rowOf u j) a b
               → isQueued (found t) p j ≡ true
-          slept q d (SleeperAfter.on x w f) =
+          slept q d (SleeperAfter.on u x w f) =
               let st : rowOf t j .state ≡ 3 = sym (ap (λ (r : Thread). r .state) x) ∙ q .0 in
               let pl : rowOf t j .place ≡ p = sym (ap (λ (r : Thread). r .place) x) ∙ q .1 in
               rw (st, pl, eq-eqb p p refl)
-          slept q d (SleeperAfter.ready m b r g x w f) = absurd (queued-asleep (q .0) (ap (λ (r : Thread). r .state) x))
-          slept q d (SleeperAfter.done m y v f b g x w z) = absurd (queued-asleep (q .0) (ap (λ (r : Thread). r .state) x))
-          slept q d (SleeperAfter.again g b x w f) =
+          slept q d (SleeperAfter.ready m o b r g x w f) = absurd (queued-asleep (q .0) (ap (λ (r : Thread). r .state) x))
+          slept q d (SleeperAfter.done m y o v f b g x w z) = absurd (queued-asleep (q .0) (ap (λ (r : Thread). r .state) x))
+          slept q d (SleeperAfter.again o g b x w f) =
               let pl : rowOf t j .place ≡ p = sym (ap (λ (r : Thread). r .place) x) ∙ q .1 in
               absurd (mail-far (fits t c s host e j (omega arith) .wait) d g (omega (arith, near, pl)))
 
@@ -228,10 +228,10 @@ module _ (t : Tables) (c : Clock) (s : Step) (host : Host t c s) (e : stepped t 
           where
             by : {j : ℕ} → (rowOf t j .state ≡ 3) × (rowOf t j .place ≡ p) → j < n → {a b : Bool} → SleeperAfter t s j (rowOf u j) a b
                 → a ≡ true → isQueued (found u) p j ≡ false
-            by q l (SleeperAfter.on x v f) w = contrary w v
-            by q l (SleeperAfter.ready m b r g x v f) w = rw (ap (λ (r : Thread). r .state) x)
-            by q l (SleeperAfter.done m y d f b g x v z) w = rw (ap (λ (r : Thread). r .state) x)
-            by {j} q l (SleeperAfter.again g b x v f) w =
+            by q l (SleeperAfter.on u x v f) w = contrary w v
+            by q l (SleeperAfter.ready m o b r g x v f) w = rw (ap (λ (r : Thread). r .state) x)
+            by q l (SleeperAfter.done m y o d f b g x v z) w = rw (ap (λ (r : Thread). r .state) x)
+            by {j} q l (SleeperAfter.again o g b x v f) w =
                 absurd (mail-far (fits t c s host e j l .wait) (λ z. absurd (omega (arith, z, q .0))) g (omega (arith, near, q .1)))
 
         pub turns-on : higher u p i + cond (signalsAt p t s) 1 0 ≤ higher t p i
@@ -248,17 +248,17 @@ module _ (t : Tables) (c : Clock) (s : Step) (host : Host t c s) (e : stepped t 
         waits-on = by (sleeper-after t c s host e i within (λ z. absurd (omega (arith, z, queued)))) unwoken
           where
             by : {a b : Bool} → SleeperAfter t s i (rowOf u i) a b → a ≡ false → (rowOf u i .state ≡ 3) × (rowOf u i .place ≡ p)
-            by (SleeperAfter.on x v f) w = (ap (λ (r : Thread). r .state) x ∙ queued, ap (λ (r : Thread). r .place) x ∙ place)
-            by (SleeperAfter.ready m b r g x v f) w = contrary v w
-            by (SleeperAfter.done m y d f b g x v z) w = contrary v w
-            by (SleeperAfter.again g b x v f) w = contrary v w
+            by (SleeperAfter.on u x v f) w = (ap (λ (r : Thread). r .state) x ∙ queued, ap (λ (r : Thread). r .place) x ∙ place)
+            by (SleeperAfter.ready m o b r g x v f) w = contrary v w
+            by (SleeperAfter.done m y o d f b g x v z) w = contrary v w
+            by (SleeperAfter.again o g b x v f) w = contrary v w
 
     -- what wakes a waiter at p
-    pub turn-of : (i : ℕ) {a : Thread} → a .state ≡ 3 → a .place ≡ p → {m : ℤ} → WokenBy t s i a m → TurnOf p a s m
+    pub turn-of : (i : ℕ) {a : Thread} → a .state ≡ 3 → a .place ≡ p → {m : ℤ} {o : ℕ} → WokenBy t s i a m o → TurnOf p a s m o
     turn-of i q x (WokenBy.last-tick k r) = TurnOf.last-tick k r
     turn-of i q x (WokenBy.events k o st f) = absurd (omega (arith, q, st))
-    turn-of i q x (WokenBy.call (CalledOut.signal k st pl)) = TurnOf.signal k (sym pl ∙ x)
-    turn-of i q x (WokenBy.call (CalledOut.reset k st pl)) =
+    turn-of i q x (WokenBy.call u (CalledOut.signal k st pl)) = TurnOf.signal k (sym pl ∙ x)
+    turn-of i q x (WokenBy.call u (CalledOut.reset k st pl)) =
         TurnOf.reset k (sym pl ∙ x)
         (omega (
           arith,
@@ -269,10 +269,10 @@ module _ (t : Tables) (c : Clock) (s : Step) (host : Host t c s) (e : stepped t 
       where
         semaphores : t .sizes .semaphores ≤ 16
         semaphores = together t c s host e .sizes .semaphores
-    turn-of i q x (WokenBy.call (CalledOut.release k st pl)) = absurd (omega (arith, near, pl, x))
-    turn-of i q x (WokenBy.call (CalledOut.resume k st pl)) = absurd (omega (arith, q, st))
-    turn-of i q x (WokenBy.call (CalledOut.post b k st pl)) = absurd (omega (arith, near, pl, x))
-    turn-of i q x (WokenBy.call (CalledOut.fetch b k st pl)) = absurd (omega (arith, near, pl, x))
-    turn-of i q x (WokenBy.call (CalledOut.box-reset k st (inl pl))) = absurd (omega (arith, near, pl, x))
-    turn-of i q x (WokenBy.call (CalledOut.box-reset k st (inr pl))) = absurd (omega (arith, near, pl, x))
-    turn-of i q x (WokenBy.call (CalledOut.object k st pl)) = TurnOf.object k (sym pl ∙ x)
+    turn-of i q x (WokenBy.call u (CalledOut.release k st pl)) = absurd (omega (arith, near, pl, x))
+    turn-of i q x (WokenBy.call u (CalledOut.resume k st pl)) = absurd (omega (arith, q, st))
+    turn-of i q x (WokenBy.call u (CalledOut.served (Served.post b z k st pl))) = absurd (omega (arith, near, pl, x))
+    turn-of i q x (WokenBy.call u (CalledOut.served (Served.fetch b z k st pl))) = absurd (omega (arith, near, pl, x))
+    turn-of i q x (WokenBy.call u (CalledOut.box-reset k st (inl pl))) = absurd (omega (arith, near, pl, x))
+    turn-of i q x (WokenBy.call u (CalledOut.box-reset k st (inr pl))) = absurd (omega (arith, near, pl, x))
+    turn-of i q x (WokenBy.call u (CalledOut.object k st pl)) = TurnOf.object k (sym pl ∙ x)

@@ -13,7 +13,7 @@ use Rattle.promises.specs.Paper.World.{World, noCall, found, readyWith, 
 use Rattle.promises.specs.Paper.Rows.{pendingTo}
 use Rattle.promises.specs.Paper.Waking.{rowOf, IsMailing, OwnWait, WakerAfter}
 use Rattle.promises.specs.Runs.Keeping.{queued-asleep, SideOf, Keeps}
-use Rattle.promises.specs.Runs.OneRow.{mail-other, Stands, row-keeps}
+use Rattle.promises.specs.Runs.OneRow.{mail-other, Stands, Steady, row-keeps}
 use Rattle.promises.specs.Runs.Passing.{Passed, found-passed, ticks-passed, events-passed}
 
 -- a side's queue is no semaphore's
@@ -51,10 +51,10 @@ module _ (t : Tables) (s : Step) (i : ℕ) (someone : i ≢ 255) (was-ready : ro
     ended-calm m d g (Calm.tried x e h) = Calm.tried x e h
 
     -- it is woken, if it fell asleep before
-    woken-calm : (m : ℤ) → r .state ≢ 0 → Calm r w → Calm (readyWith r m) true
-    woken-calm m n (Calm.ready z u k c) = absurd (n z)
-    woken-calm m n (Calm.own c st pl o h) = Calm.own c st pl o (λ e. absurd (queued-asleep e refl))
-    woken-calm m n (Calm.tried g k h) = Calm.tried g k (λ e. absurd (queued-asleep e refl))
+    woken-calm : (m : ℤ) (o v : ℕ) → r .state ≢ 0 → Calm r w → Calm (readyWith r m o v) true
+    woken-calm m x v n (Calm.ready z u k c) = absurd (n z)
+    woken-calm m x v n (Calm.own c st pl o h) = Calm.own c st pl o (λ e. absurd (queued-asleep e refl))
+    woken-calm m x v n (Calm.tried g k h) = Calm.tried g k (λ e. absurd (queued-asleep e refl))
 
     -- a mailbox call, tried again, sleeps again
     again-calm : (q : ℕ) → IsMailing (r .call .kind) → r .message ≡ pos 0 → SideOf (r .call) q → Calm r w → Calm (asleep r 3 q (r .call)) w
@@ -64,22 +64,23 @@ module _ (t : Tables) (s : Step) (i : ℕ) (someone : i ≢ 255) (was-ready : ro
     again-calm q g m side (Calm.own c st pl o h) = Calm.own c st pl o (λ e l. absurd (side-far side l))
     again-calm q g m side (Calm.tried x y h) = Calm.tried x y (λ e l. side-far side l)
 
-  pub calm-keeps : Keeps t s Calmly
+  pub calm-keeps : Keeps t s (Steady t s i someone P)
   calm-keeps =
       row-keeps t s i someone P
       (record {
-        wakes = λ m n c h. woken-calm m n h;
+        wakes = λ m o n c h. woken-calm m o (found t .step) n h;
         ends-on = λ {r} m d z n e h. ended-calm m d (r .pending) h;
         takes-on = λ z k m h. ended-calm (pos 0) _ _ h;
         sleeps-on = λ q z g m side h. again-calm q g m side h;
       })
       (record {
+        wakes = λ m o n c h. woken-calm m o (found t .step) n h;
         begins = λ x y. passed (found t) (found-passed t s i was-ready no-ticks y);
         ticks = λ v e h. passed v (ticks-passed t s i was-ready no-ticks v e h);
         events = λ v e h. passed v (events-passed t s i was-ready no-ticks e v h);
         ends = λ {r} e m d o h. ended-calm m d (r .pending) h;
         takes = λ e k n z h. ended-calm (pos 0) _ _ h;
-        sleeps = λ e st pl c o k n h. Calm.own e st pl o (λ x l. subst (λ (j : ℕ). OwnWait s j pl) x o);
+        sleeps = λ e st pl c o k n b h. Calm.own e st pl o (λ x l. subst (λ (j : ℕ). OwnWait s j pl) x o);
       })
 
   pub calm-after : {r : Thread} {w : Bool} → Calm r w → WakerAfter t s i r w

@@ -74,6 +74,8 @@ pub record GoodThread (z : Sizes) (t : Thread) : Type 0 where
   pub awaited : t .awaited ≡ awaitedBy (t .call)
   -- "A thread awaiting events has none of its flags pending"
   pub none-pending : t .state ≡ awaiting → bitAnd (t .pending) (t .awaited) ≡ 0
+  -- of document 02: no "cause outside the list"
+  pub cause : t .cause ≤ 8
 
 -- "A semaphore (a pool's too) .. with n > 0 threads queued has counter -n; with none, a semaphore is at least 0"
 pub record SemaphoreCounter (c : ℤ) (n : ℕ) : Type 0 where

@@ -146,6 +146,7 @@ blank-good z =
       operand = λ n. absurd (n refl);
       awaited = refl;
       none-pending = λ h. absurd (omega (arith, h));
+      cause = omega arith;
     }
 
 -- ---- the kernel part of fresh tables of m threads, as a step finds it

@@ -28,6 +28,7 @@ use Rattle.rules.specs.RowRules.{
   awaitedFit,
   nonePending,
   flagsFit,
+  causeFits,
   rowFits,
 }
 use Rattle.promises.specs.Together.Tests.{either-means, either-first, either-second, neither-means, not-of}
@@ -108,13 +109,15 @@ module _ (z : Sizes) (t : Thread) where
   unfolding flagsFit
   flags-of e = both-means (awaitedFit t) (nonePending t) e
 
-  parts : rowFits t z ≡ true → (callFits t z ≡ true) × ((waitFits t ≡ true) × ((ticksFit t ≡ true) × (flagsFit t ≡ true)))
+  parts : rowFits t z ≡ true
+      → (callFits t z ≡ true) × ((waitFits t ≡ true) × ((ticksFit t ≡ true) × ((flagsFit t ≡ true) × (causeFits t ≡ true))))
   unfolding rowFits
   parts e =
-      let a = both-means (callFits t z) (waitFits t && (ticksFit t && flagsFit t)) e in
-      let b = both-means (waitFits t) (ticksFit t && flagsFit t) (a .1) in
-      let c = both-means (ticksFit t) (flagsFit t) (b .1) in
-      (a .0, (b .0, (c .0, c .1)))
+      let a = both-means (callFits t z) (waitFits t && (ticksFit t && (flagsFit t && causeFits t))) e in
+      let b = both-means (waitFits t) (ticksFit t && (flagsFit t && causeFits t)) (a .1) in
+      let c = both-means (ticksFit t) (flagsFit t && causeFits t) (b .1) in
+      let d = both-means (flagsFit t) (causeFits t) (c .1) in
+      (a .0, (b .0, (c .0, (d .0, d .1))))
 
   -- ---- the record
 
@@ -149,7 +152,7 @@ module _ (z : Sizes) (t : Thread) where
   pub row-good : rowFits t z ≡ true → GoodThread z t
   row-good e =
       let x = parts e in
-      let f = flags-of (x .1 .1 .1) in
+      let f = flags-of (x .1 .1 .1 .0) in
       record {
         object = λ n. object-of (sound-of (x .0) n);
         ready-ticks = λ h. no-ticks-of (x .1 .1 .0) (either-first (eqb (t .call .timeout) infinite) (eq-eqb (t .state) ready h));
@@ -165,6 +168,7 @@ module _ (z : Sizes) (t : Thread) where
         operand = λ n. operand-of (rest-of (sound-of (x .0) n) .1);
         awaited = eqb-true (t .awaited) (awaitedBy (t .call)) (f .0);
         none-pending = none-pending-of (f .1);
+        cause = leb-true (t .cause) 8 (x .1 .1 .1 .1);
       }
 
   -- ---- and back
@@ -224,4 +228,4 @@ module _ (z : Sizes) (t : Thread) where
   -- a good record passes
   pub good-row : GoodThread z t → rowFits t z ≡ true
   unfolding rowFits
-  good-row g = both-true (of-call g) (both-true (of-waits g) (both-true (of-ticks g) (of-flags g)))
+  good-row g = both-true (of-call g) (both-true (of-waits g) (both-true (of-ticks g) (both-true (of-flags g) (le-leb (t .cause) 8 (g .cause)))))

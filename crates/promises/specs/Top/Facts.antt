@@ -21,7 +21,7 @@ use Rattle.library.specs.Ring.{positionsFit}
 use Rattle.library.specs.Sizes.{sizesFit}
 use Rattle.library.specs.Fresh.{made}
 use Rattle.library.specs.Acting.{signalActed, callMade, effected, actedOnKernel, acted}
-use Rattle.library.specs.Settling.{continued, settled}
+use Rattle.library.specs.Settling.{wentOn, settled}
 use Rattle.rules.specs.RowRules.{callFits, waitFits, ticksFit, flagsFit, rowFits, rowsFit}
 use Rattle.rules.specs.PlaceRules.{queuedCount, countersFit}
 use Rattle.rules.specs.WordRules.{readyWord, waitingWord, readyFits, waitingFits, wordsFit}
@@ -109,7 +109,7 @@ told =
 
 -- the twelve facts
 pub twelve-facts : computed ≡ told
-unfolding firstFrom allFrom countOf wordOf firstOf firstReady firstWaiter takenOff putOn woken slept finished blocked enqueued releasedFirst releasedAll taken waited signalled ticked sizesFit made inTicks signalActed callMade effected actedOnKernel acted continued settled callFits waitFits ticksFit flagsFit rowFits rowsFit queuedCount countersFit readyWord waitingWord readyFits waitingFits wordsFit holderFits referencesFit positionsFit mailboxesFit promisedCount occurrences entriesFit objectsFit poolFits poolsFit hangsTogether refusalOf maskOf outcomeOf doneWith refusedWith stepped getN endsInside lengthRefusal stepRefusal decodedSizes decodedStep openedRead steppedRead nextRead readFrom readAll ran
+unfolding firstFrom allFrom countOf wordOf firstOf firstReady firstWaiter takenOff putOn woken slept finished blocked enqueued releasedFirst releasedAll taken waited signalled ticked sizesFit made inTicks signalActed callMade effected actedOnKernel acted wentOn settled callFits waitFits ticksFit flagsFit rowFits rowsFit queuedCount countersFit readyWord waitingWord readyFits waitingFits wordsFit holderFits referencesFit positionsFit mailboxesFit promisedCount occurrences entriesFit objectsFit poolFits poolsFit hangsTogether refusalOf maskOf outcomeOf doneWith refusedWith stepped getN endsInside lengthRefusal stepRefusal decodedSizes decodedStep openedRead steppedRead nextRead readFrom readAll ran
 twelve-facts = refl
 
 -- and the trace of the six steps is read to its end

@@ -14,13 +14,13 @@ use Rattle.library.specs.declared.tables.Tables.{Tables}
 use Rattle.library.specs.Fresh.{made}
 use Rattle.accounts.specs.Account.{freshAccount}
 use Rattle.promises.specs.Paper.World.{found}
-use Rattle.promises.specs.Paper.Fresh.{FreshTables, MadeOf}
+use Rattle.promises.specs.Paper.Fresh.{FreshTables}
 use Rattle.promises.specs.Paper.Host.{HostSteps}
 use Rattle.promises.specs.Paper.Together.{number}
 use Rattle.promises.specs.Paper.Run.{Moment}
 use Rattle.promises.specs.Paper.History.{Event, shownIn, total, posted, fetched, added, each, lostAt}
 use Rattle.promises.specs.Paper.Ledger.{Ledger, noPostings, opened, ledger, times, Standing, standing, standingIn, isOut, markIn, freeIn, Accounted, AccountOf}
-use Rattle.promises.specs.Meant.Fresh.{made-is}
+use Rattle.promises.specs.Meant.Fresh.{made-fresh}
 use Rattle.promises.specs.Runs.Run.{ran}
 use Rattle.promises.specs.Runs.Moments.{moments, Going}
 use Rattle.promises.specs.Runs.Ledgers.{accounted, accounted-fresh}
@@ -62,12 +62,7 @@ module _ (y : Sizes) (r : Rate) (legal : made y r .code ≡ 0) (ss : List Step) 
   end = ran (made y r .tables) (made y r .clock) ss .tables
 
   fresh : FreshTables y (made y r .tables)
-  fresh = by (made-is y r)
-    where
-      by : MadeOf y r (made y r) → FreshTables y (made y r .tables)
-      by (MadeOf.no-size n m) = absurd (omega (arith, m .code, legal))
-      by (MadeOf.no-frequency f n m) = absurd (omega (arith, m .code, legal))
-      by (MadeOf.fresh f p m) = m .tables
+  fresh = made-fresh y r legal
 
   pub nothing-lost-fresh : Accounted y (λ b. noPostings) (λ q o. Standing.absent) run end
   nothing-lost-fresh =

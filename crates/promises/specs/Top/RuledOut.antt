@@ -21,15 +21,16 @@ use Rattle.library.specs.declared.tables.Tables.{Tables}
 use Rattle.pipes.specs.declared.table.Pipes.{Pipes}
 use Rattle.pipes.specs.declared.transfer.Moved.{Moved}
 use Rattle.steps.specs.declared.stepping.Stepped.{Stepped}
-use Rattle.promises.specs.Paper.World.{World, found}
+use Rattle.promises.specs.Paper.World.{World, found, signed}
 use Rattle.promises.specs.Paper.Together.{InUse, WordOf, WordsAgree}
-use Rattle.promises.specs.Paper.Waking.{rowOf, inMask, heard, AnswerOf, SleeperAfter, ReadyAfter, WakerAfter}
+use Rattle.promises.specs.Paper.Waking.{rowOf, inMask, Served, CalledOut, LastTick, WokenBy, heard, AnswerOf, SleeperAfter, ReadyAfter, WakerAfter}
 use Rattle.promises.specs.Paper.Flags.{awaitsFlags, FlagsAfter}
 use Rattle.promises.specs.Paper.Run.{TurnOf}
 use Rattle.promises.specs.Paper.Pipes.{pipeOf, Transfer, TransferOf}
 use Rattle.promises.specs.Paper.History.{Event, isOwn, OwnFirst}
 use Rattle.promises.specs.Paper.Ledger.{inBox, noPostings, ledger, BoxTold, Standing, standing}
 use Rattle.promises.specs.Paper.Signals.{AtTop, SignalTold}
+use Rattle.promises.specs.Paper.Causes.{Wakes}
 use Rattle.promises.specs.Runs.Pipes.{smaller-le, numbered}
 
 -- -1 and -2 are not 0
@@ -80,7 +81,7 @@ promise-kept k (AnswerOf.posted q z) = refl
 promise-kept k (AnswerOf.fetched q z y) = refl
 
 -- a pool's waiter is never released with -2
-pub no-pool-reset : {p : ℕ} {a : Thread} {s : Step} {m : ℤ} → 16 ≤ p → TurnOf p a s m → m ≢ negsuc 1
+pub no-pool-reset : {p : ℕ} {a : Thread} {s : Step} {m : ℤ} {o : ℕ} → 16 ≤ p → TurnOf p a s m o → m ≢ negsuc 1
 no-pool-reset l (TurnOf.signal k o) e = below (sym e)
 no-pool-reset l (TurnOf.object k o) e = below (sym e)
 no-pool-reset l (TurnOf.last-tick k r) e = one-two (sym e)
@@ -88,6 +89,99 @@ no-pool-reset l (TurnOf.last-tick k r) e = one-two (sym e)
     one-two : _≡_ {A = ℤ} (negsuc 1) (negsuc 0) → ⊥
     one-two x = omega (arith, ap natAbs x)
 no-pool-reset l (TurnOf.reset k o h) e = omega (arith, l, h)
+
+-- ---- why a thread woke
+
+-- "with 0 unless its timeout or a reset made it ready sooner", read off the record of a waiter at a semaphore or a pool
+pub turn-read : {p : ℕ} {a : Thread} {s : Step} {m : ℤ} {c : ℕ} → TurnOf p a s m c
+    → ((m ≡ pos 0) × (c ≡ 1)) ⊎ (((m ≡ negsuc 0) × (c ≡ 8)) ⊎ ((m ≡ negsuc 1) × (c ≡ 7)))
+turn-read (TurnOf.signal k o) = inl (refl, refl)
+turn-read (TurnOf.object k o) = inl (refl, refl)
+turn-read (TurnOf.last-tick k r) = inr (inl (refl, refl))
+turn-read (TurnOf.reset k o h) = inr (inr (refl, refl))
+
+-- whoever was woken has a cause, and what a cause says of the step: tick and reset are given by ticks and resets alone, with -1 and -2
+pub record Caused (s : Step) (m : ℤ) (c : ℕ) : Type 0 where
+  pub some : (1 ≤ c) × (c ≤ 8)
+  pub tick : c ≡ 8 → (s .kind ≡ 1) × (m ≡ negsuc 0)
+  pub reset : c ≡ 7 → ((s .kind ≡ 4) ⊎ (s .kind ≡ 18)) × (m ≡ negsuc 1)
+  pub release : c ≡ 2 → ((s .kind ≡ 7) ⊎ (s .kind ≡ 8)) × (m ≡ signed (s .a))
+  pub resume : c ≡ 3 → (s .kind ≡ 10) × (m ≡ signed (s .a))
+
+-- by another cause than these
+plain : {s : Step} {m : ℤ} (c : ℕ) → (1 ≤ c) × (c ≤ 6) → c ≢ 2 → c ≢ 3 → Caused s m c
+plain c l x y =
+    record {
+      some = (l .0, omega (arith, l .1));
+      tick = λ e. absurd (omega (arith, e, l .1));
+      reset = λ e. absurd (omega (arith, e, l .1));
+      release = λ e. absurd (x e);
+      resume = λ e. absurd (y e);
+    }
+
+called-cause : {t : Tables} {s : Step} {st pl : ℕ} {m : ℤ} {c : ℕ} → CalledOut t s st pl m c → Caused s m c
+called-cause (CalledOut.signal k q p) = plain 1 (omega arith, omega arith) (λ e. omega arith) (λ e. omega arith)
+called-cause (CalledOut.reset k q p) =
+    record {
+      some = (omega arith, omega arith);
+      tick = λ e. absurd (omega arith);
+      reset = λ e. (inl k, refl);
+      release = λ e. absurd (omega arith);
+      resume = λ e. absurd (omega arith);
+    }
+called-cause (CalledOut.release k q p) =
+    record {
+      some = (omega arith, omega arith);
+      tick = λ e. absurd (omega arith);
+      reset = λ e. absurd (omega arith);
+      release = λ e. (k, refl);
+      resume = λ e. absurd (omega arith);
+    }
+called-cause (CalledOut.resume k q p) =
+    record {
+      some = (omega arith, omega arith);
+      tick = λ e. absurd (omega arith);
+      reset = λ e. absurd (omega arith);
+      release = λ e. absurd (omega arith);
+      resume = λ e. (k, refl);
+    }
+called-cause (CalledOut.served (Served.post b z k q p)) = plain 5 (omega arith, omega arith) (λ e. omega arith) (λ e. omega arith)
+called-cause (CalledOut.served (Served.fetch b z k q p)) = plain 6 (omega arith, omega arith) (λ e. omega arith) (λ e. omega arith)
+called-cause (CalledOut.box-reset k q p) =
+    record {
+      some = (omega arith, omega arith);
+      tick = λ e. absurd (omega arith);
+      reset = λ e. (inr k, refl);
+      release = λ e. absurd (omega arith);
+      resume = λ e. absurd (omega arith);
+    }
+called-cause (CalledOut.object k q p) = plain 1 (omega arith, omega arith) (λ e. omega arith) (λ e. omega arith)
+
+pub waking-caused : {t : Tables} {s : Step} {i : ℕ} {m : ℤ} {c : ℕ} → Wakes t s i m c → Caused s m c
+waking-caused (Wakes.slept n (WokenBy.last-tick k r)) =
+    record {
+      some = (omega arith, omega arith);
+      tick = λ e. (k, refl);
+      reset = λ e. absurd (omega arith);
+      release = λ e. absurd (omega arith);
+      resume = λ e. absurd (omega arith);
+    }
+waking-caused (Wakes.slept n (WokenBy.events k o st f)) = plain 4 (omega arith, omega arith) (λ e. omega arith) (λ e. omega arith)
+waking-caused (Wakes.slept n (WokenBy.call u b)) = called-cause b
+waking-caused (Wakes.fell z f b) = called-cause (CalledOut.served b)
+
+-- whoever has its last tick in the step is woken by it, whatever calls go on then: with -1, by the cause tick
+last-by : {t : Tables} {s : Step} {i : ℕ} {a : Thread} {m : ℤ} {c : ℕ} → LastTick s a → WokenBy t s i a m c → (m ≡ negsuc 0) × (c ≡ 8)
+last-by v (WokenBy.last-tick k r) = (refl, refl)
+last-by v (WokenBy.events k o st f) = absurd (omega (arith, k, v .0))
+last-by v (WokenBy.call u b) = absurd (u v)
+
+pub last-tick-told : {t : Tables} {s : Step} {i : ℕ} {b : Thread} {w f : Bool} → LastTick s (rowOf t i) → SleeperAfter t s i b w f
+    → (w ≡ true) × (b .message ≡ negsuc 0) × (b .cause ≡ 8)
+last-tick-told v (SleeperAfter.on u e p q) = absurd (u v)
+last-tick-told v (SleeperAfter.ready m c by l g e p q) = (p, rw e (last-by v by .0), rw e (last-by v by .1))
+last-tick-told v (SleeperAfter.done m x c d f by g e p q) = (p, rw e (last-by v by .0), rw e (last-by v by .1))
+last-tick-told v (SleeperAfter.again c g by e p q) = absurd (below (sym (last-by v by .0)))
 
 -- a tick wakes nobody who was ready: no sleep, waking and end is made up on the way
 pub no-fake-waking : {t : Tables} {s : Step} {i : ℕ} {b : Thread} {w : Bool} → s .caller ≡ 255 → i < 16 → rowOf t i .call .kind ≡ 0
@@ -100,10 +194,10 @@ no-fake-waking c l k (WakerAfter.tried-again (inr x) m h) = absurd (omega (arith
 
 -- who sleeps and is not in the woken mask finishes nothing
 pub unwoken-unfinished : {t : Tables} {s : Step} {i : ℕ} {b : Thread} {w f : Bool} → SleeperAfter t s i b w f → w ≡ false → f ≡ false
-unwoken-unfinished (SleeperAfter.on e p q) z = q
-unwoken-unfinished (SleeperAfter.ready m b l g e p q) z = absurd (true≢false (sym p ∙ z))
-unwoken-unfinished (SleeperAfter.done m x d f b g e p q) z = absurd (true≢false (sym p ∙ z))
-unwoken-unfinished (SleeperAfter.again g b e p q) z = q
+unwoken-unfinished (SleeperAfter.on u e p q) z = q
+unwoken-unfinished (SleeperAfter.ready m o b l g e p q) z = absurd (true≢false (sym p ∙ z))
+unwoken-unfinished (SleeperAfter.done m x o d f b g e p q) z = absurd (true≢false (sym p ∙ z))
+unwoken-unfinished (SleeperAfter.again o g b e p q) z = q
 
 -- a word has no bit from the number of threads on
 pub no-bit-past : (f : ℕ → Bool) (n w i : ℕ) → WordOf f n w → n ≤ i → w / 2 ^ i % 2 ≡ 0

@@ -30,7 +30,7 @@ use Rattle.library.specs.Mailbox.{postDone, postTried, fetchDone, fetchTried, b
 use Rattle.library.specs.Pool.{popped, pushed, handedOver, allocTried, putBack}
 use Rattle.library.specs.Acting.{signalActed, callMade, effected, actedOnKernel, boxEffected, actedOnBox, acted}
 use Rattle.library.specs.Fresh.{made}
-use Rattle.library.specs.Settling.{continued, settled}
+use Rattle.library.specs.Settling.{wentOn, settled}
 use Rattle.library.specs.Sizes.{sizesFit}
 use Rattle.library.specs.Tables.{opened, mailboxAt}
 use Rattle.rules.specs.RowRules.{callFits, waitFits, ticksFit, flagsFit, rowFits, rowsFit}
@@ -160,5 +160,5 @@ boxArms =
 
 -- all of them are
 pub arms-shown : (kernelArms ≡ replicate 31 true) × (boxArms ≡ replicate 24 true)
-unfolding firstFrom allFrom countOf wordOf firstOf firstReady firstWaiter takenOff putOn woken slept finished blocked enqueued releasedFirst releasedAll taken waited signalled resetTo suspendedOn resumed sleptFor sleptUntil tookFlags eventSignalled eventWaited ticked binarySignalled posted postedAhead fetched emptied postDone postTried fetchDone fetchTried bothReleased mailboxReset mailboxResumed popped pushed handedOver allocTried putBack sizesFit made signalActed callMade effected actedOnKernel boxEffected actedOnBox acted continued settled callFits waitFits ticksFit flagsFit rowFits rowsFit queuedCount countersFit readyWord waitingWord readyFits waitingFits wordsFit holderFits referencesFit positionsFit mailboxesFit promisedCount occurrences entriesFit objectsFit poolFits poolsFit hangsTogether refusalOf maskOf outcomeOf doneWith refusedWith stepped ran
+unfolding firstFrom allFrom countOf wordOf firstOf firstReady firstWaiter takenOff putOn woken slept finished blocked enqueued releasedFirst releasedAll taken waited signalled resetTo suspendedOn resumed sleptFor sleptUntil tookFlags eventSignalled eventWaited ticked binarySignalled posted postedAhead fetched emptied postDone postTried fetchDone fetchTried bothReleased mailboxReset mailboxResumed popped pushed handedOver allocTried putBack sizesFit made signalActed callMade effected actedOnKernel boxEffected actedOnBox acted wentOn settled callFits waitFits ticksFit flagsFit rowFits rowsFit queuedCount countersFit readyWord waitingWord readyFits waitingFits wordsFit holderFits referencesFit positionsFit mailboxesFit promisedCount occurrences entriesFit objectsFit poolFits poolsFit hangsTogether refusalOf maskOf outcomeOf doneWith refusedWith stepped ran
 arms-shown = (refl, refl)

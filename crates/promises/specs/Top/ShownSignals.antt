@@ -18,7 +18,7 @@ use Rattle.library.specs.declared.tables.Tables.{Tables}
 use Rattle.library.specs.Acting.{signalActed, callMade, effected, actedOnKernel, acted}
 use Rattle.library.specs.Binary.{binarySignalled}
 use Rattle.library.specs.Fresh.{made}
-use Rattle.library.specs.Settling.{continued, settled}
+use Rattle.library.specs.Settling.{wentOn, settled}
 use Rattle.library.specs.Ring.{positionsFit}
 use Rattle.library.specs.Sizes.{sizesFit}
 use Rattle.rules.specs.RowRules.{callFits, waitFits, ticksFit, flagsFit, rowFits, rowsFit}
@@ -89,7 +89,7 @@ pub weeks-shown : shown (moments (made tank Standard .tables) (made tank Standar
     ∷ (0 ∷ 0 ∷ 0 ∷ 1 ∷ 2147483646 ∷ 0 ∷ [])
     ∷ (0 ∷ 0 ∷ 0 ∷ 1 ∷ 2147483647 ∷ 0 ∷ [])
     ∷ []
-unfolding firstFrom allFrom countOf wordOf firstOf firstReady firstWaiter takenOff putOn woken slept finished blocked enqueued releasedFirst releasedAll taken waited signalled sizesFit made signalActed callMade effected actedOnKernel acted continued settled callFits waitFits ticksFit flagsFit rowFits rowsFit queuedCount countersFit readyWord waitingWord readyFits waitingFits wordsFit holderFits referencesFit positionsFit mailboxesFit promisedCount occurrences entriesFit objectsFit poolFits poolsFit hangsTogether refusalOf maskOf outcomeOf doneWith refusedWith stepped ran moments resetTo binarySignalled
+unfolding firstFrom allFrom countOf wordOf firstOf firstReady firstWaiter takenOff putOn woken slept finished blocked enqueued releasedFirst releasedAll taken waited signalled sizesFit made signalActed callMade effected actedOnKernel acted wentOn settled callFits waitFits ticksFit flagsFit rowFits rowsFit queuedCount countersFit readyWord waitingWord readyFits waitingFits wordsFit holderFits referencesFit positionsFit mailboxesFit promisedCount occurrences entriesFit objectsFit poolFits poolsFit hangsTogether refusalOf maskOf outcomeOf doneWith refusedWith stepped ran moments resetTo binarySignalled
 weeks-shown = refl
 
 -- the tables and the clock after the first two, of which the promise speaks
@@ -103,10 +103,10 @@ full-going : Going full then
 full-going = run-going near near-typed (made tank Standard .tables) (made tank Standard .clock) (fresh-going tank Standard made-tank)
 
 pub top-shown : AtTop full then (by 0 3 0 0) (stepped full then (by 0 3 0 0))
-unfolding firstFrom allFrom countOf wordOf firstOf firstReady firstWaiter takenOff putOn woken slept finished blocked enqueued releasedFirst releasedAll taken waited signalled sizesFit made signalActed callMade effected actedOnKernel acted continued settled callFits waitFits ticksFit flagsFit rowFits rowsFit queuedCount countersFit readyWord waitingWord readyFits waitingFits wordsFit holderFits referencesFit positionsFit mailboxesFit promisedCount occurrences entriesFit objectsFit poolFits poolsFit hangsTogether refusalOf maskOf outcomeOf doneWith refusedWith stepped ran moments resetTo
+unfolding firstFrom allFrom countOf wordOf firstOf firstReady firstWaiter takenOff putOn woken slept finished blocked enqueued releasedFirst releasedAll taken waited signalled sizesFit made signalActed callMade effected actedOnKernel acted wentOn settled callFits waitFits ticksFit flagsFit rowFits rowsFit queuedCount countersFit readyWord waitingWord readyFits waitingFits wordsFit holderFits referencesFit positionsFit mailboxesFit promisedCount occurrences entriesFit objectsFit poolFits poolsFit hangsTogether refusalOf maskOf outcomeOf doneWith refusedWith stepped ran moments resetTo
 top-shown = signal-told full then (by 0 3 0 0) (host full then full-going (by 0 3 0 0) (typed 0 3 0 0 (omega arith))) refl .at-top refl refl
 
 pub interrupt-shown : AtTop full then (by 255 3 0 0) (stepped full then (by 255 3 0 0))
-unfolding firstFrom allFrom countOf wordOf firstOf firstReady firstWaiter takenOff putOn woken slept finished blocked enqueued releasedFirst releasedAll taken waited signalled sizesFit made signalActed callMade effected actedOnKernel acted continued settled callFits waitFits ticksFit flagsFit rowFits rowsFit queuedCount countersFit readyWord waitingWord readyFits waitingFits wordsFit holderFits referencesFit positionsFit mailboxesFit promisedCount occurrences entriesFit objectsFit poolFits poolsFit hangsTogether refusalOf maskOf outcomeOf doneWith refusedWith stepped ran moments resetTo
+unfolding firstFrom allFrom countOf wordOf firstOf firstReady firstWaiter takenOff putOn woken slept finished blocked enqueued releasedFirst releasedAll taken waited signalled sizesFit made signalActed callMade effected actedOnKernel acted wentOn settled callFits waitFits ticksFit flagsFit rowFits rowsFit queuedCount countersFit readyWord waitingWord readyFits waitingFits wordsFit holderFits referencesFit positionsFit mailboxesFit promisedCount occurrences entriesFit objectsFit poolFits poolsFit hangsTogether refusalOf maskOf outcomeOf doneWith refusedWith stepped ran moments resetTo
 interrupt-shown =
     signal-told full then (by 255 3 0 0) (host full then full-going (by 255 3 0 0) (typed 255 3 0 0 (omega arith))) refl .at-top refl refl

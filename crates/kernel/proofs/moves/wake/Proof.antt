@@ -24,7 +24,9 @@ off c =
     let a = c .before .before .before .before .before .before .args in
     let place = threadAt (a .k) (a .i) .place in
     let counters : length (a .k .counters) ≡ 36 = search (needs, length-mapped) in
-    let references : length (a .k .references) ≡ 8 = search (needs, length-mapped) in
+    let references : length (a .k .references) ≡ 8 =
+    let here = c .before .before .before .before .before .before .good .0 .1 .1 .1 .1 .1 .0 .1 .0 .1 in
+    search (needs, length-mapped) in
     elim (c .if2 .came) [
       | inl w ↦ rw (eq-eqb _ _ (w .0 .taken), w .4, signed (w .3 .ok), w .3 .ensures, signed (w .2 .given))
       | inr (inl w) ↦ rw (

@@ -1,15 +1,17 @@
--- Each way out is the meaning's, by its tests.
+-- Each way out is the meaning's, by its tests; the call at work is the thread's own.
 use borrow.Author.Tests.{ne-eqb}
-use Rattle.library.specs.Settling.{continued}
+use Rattle.library.specs.Settling.{wentOn}
 use Rattle.library.proofs.settling.go_on.Statement.{statement}
 use Rattle.library.proofs.settling.go_on.Tie as tie
 
 returns : tie.Need-returns
-unfolding continued
+unfolding wentOn
 returns c =
     let test = c .before .before in
+    let cause = test .before .before .before in
     rw (
-      ← test .before .before .before .thread-at .ensures,
+      ← cause .before .before .thread-at .ensures,
+      ← cause .cause-of .ensures,
       ← test .before .is-answered-only .ensures,
       test .if1 .taken,
       c .set-kernel .ensures,
@@ -17,11 +19,13 @@ returns c =
     )
 
 returns-2 : tie.Need-returns-2
-unfolding continued
+unfolding wentOn
 returns-2 c =
     let test = c .before .before .before in
+    let cause = test .before .before .before in
     rw (
-      ← test .before .before .before .thread-at .ensures,
+      ← cause .before .before .thread-at .ensures,
+      ← cause .cause-of .ensures,
       ← test .before .is-answered-only .ensures,
       test .if1 .left,
       c .set-kernel2 .ensures,
@@ -30,11 +34,13 @@ returns-2 c =
     )
 
 returns-3 : tie.Need-returns-3
-unfolding continued
+unfolding wentOn
 returns-3 c =
     let test = c .before .before in
+    let cause = test .before .before .before in
     rw (
-      ← test .before .before .before .thread-at .ensures,
+      ← cause .before .before .thread-at .ensures,
+      ← cause .cause-of .ensures,
       ← test .before .is-answered-only .ensures,
       test .if1 .left,
       c .try-fetch .ensures,
@@ -42,11 +48,13 @@ returns-3 c =
     )
 
 returns-4 : tie.Need-returns-4
-unfolding continued
+unfolding wentOn
 returns-4 c =
     let test = c .before .before in
+    let cause = test .before .before .before in
     rw (
-      ← test .before .before .before .thread-at .ensures,
+      ← cause .before .before .thread-at .ensures,
+      ← cause .cause-of .ensures,
       ← test .before .is-answered-only .ensures,
       test .if1 .left,
       c .hand-over .ensures,
@@ -54,18 +62,24 @@ returns-4 c =
     )
 
 returns-5 : tie.Need-returns-5
-unfolding continued
+unfolding wentOn
 returns-5 c =
     let test = c .before .before in
+    let cause = test .before .before .before in
+    let others = c .before .match .rest in
     rw (
-      ← test .before .before .before .thread-at .ensures,
+      ← cause .before .before .thread-at .ensures,
+      ← cause .cause-of .ensures,
       ← test .before .is-answered-only .ensures,
       test .if1 .left,
-      ne-eqb _ 14 (c .before .match .rest .0 .0 .1),
-      ne-eqb _ 17 (c .before .match .rest .0 .1),
-      ne-eqb _ 20 (c .before .match .rest .1),
+      ne-eqb _ 14 (others .0 .0 .1),
+      ne-eqb _ 17 (others .0 .1),
+      ne-eqb _ 20 (others .1),
+      c .try-post .ensures,
     )
-    (c .try-post .ensures)
 
 pub go-on-spec : {M : Type 1} → statement M
-go-on-spec = tie.close (tie.spec (λ c κs. tt) (λ c κs. tt) (λ c κs. tt) (λ c κs. tt) returns (λ c κs. tt) (λ c κs. tt) (λ c κs. tt) (λ c κs. tt) (λ c κs. tt) returns-2 returns-3 returns-4 returns-5)
+go-on-spec =
+    tie.close
+    (tie.spec (λ c κs. tt) (λ c κs. tt) (λ c κs. tt) (λ c κs. tt) (λ c κs. tt) returns (λ c κs. tt) (λ c κs. tt) (λ c κs. tt) (λ c κs. tt)
+    (λ c κs. tt) returns-2 returns-3 returns-4 returns-5)

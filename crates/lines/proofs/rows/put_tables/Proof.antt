@@ -25,5 +25,6 @@ put-tables-spec =
     (λ c. omega arith)
     (λ c. (omega arith, search needs))
     (λ c κs. tt)
+    (λ c κs. tt)
     (λ c. search needs)
     (λ c. tt))

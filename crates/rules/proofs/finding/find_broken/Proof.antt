@@ -12,7 +12,7 @@ use Rattle.rules.specs.ReferenceRules.{badHolder}
 use Rattle.rules.specs.PoolRules.{badStock}
 use Rattle.rules.specs.WordRules.{readyWord, readyFits, otherWord}
 use Rattle.rules.specs.Finding.{wholly, badRunning, badAt}
-use Rattle.rules.proofs.FindingLaws.{nothing, found-none, found-next, found-rows, found-all}
+use Rattle.rules.proofs.FindingLaws.{nothing, found-none, found-next, found-rows, cause-row, found-all}
 use Rattle.rules.proofs.WalkingLaws.{places-walked, references-walked, pools-walked, words-walked}
 use Rattle.rules.proofs.finding.find_broken.Statement.{statement}
 use Rattle.rules.proofs.finding.find_broken.Tie as tie
@@ -23,7 +23,7 @@ sized s = search (needs, length-mapped)
 returns : tie.Need-returns
 unfolding badAt rowsFit readyWord readyFits
 returns c =
-    let word = c .before in
+    let word = c .before .before in
     let ready = word .before .before in
     let running = ready .before .before .before .before in
     let rows = running .before in
@@ -33,7 +33,8 @@ returns c =
     let place = reference .before .before in
     let frequency = place .before .before in
     let sizes = frequency .before .before .before in
-    let walking = sizes .before .before .before .before .before in
+    let cause = sizes .before .before in
+    let walking = cause .before .before .before .before in
     let start = walking .before .before .before .before .before .before .before .before .before in
     let clock = start .args .clock in
     let p = opened (start .args .t) in
@@ -69,9 +70,12 @@ returns c =
     word .before .or-else8 .ensures
     ∙ found-next p clock 12 _ _ to12
     (ready .bad-whole3 .ensures ∙ ap (λ (v : Walked). wholly (eqb (k .words .ready) (v .ready))) walk) in
-    c .or-else9 .ensures
-    ∙ (found-next p clock 13 _ _ to13
-    (word .first-bad-word .ensures ∙ (ap (λ (v : Walked). otherWord (k .words .waiting) (v .waiting) z) walk ∙ words-walked k z))
+    let to14 =
+    c .before .or-else9 .ensures
+    ∙ found-next p clock 13 _ _ to13
+    (word .first-bad-word .ensures ∙ (ap (λ (v : Walked). otherWord (k .words .waiting) (v .waiting) z) walk ∙ words-walked k z)) in
+    c .or-else10 .ensures
+    ∙ (found-next p clock 14 _ _ to14 (cause .bad-cause .ensures ∙ cause-row p clock (sized start) _ (ap (λ (v : Walked). v .rows) walk))
     ∙ found-all p clock)
 
 pub find-broken-spec : {M : Type 1} → statement M
@@ -79,4 +83,4 @@ find-broken-spec =
     tie.close
     (tie.spec (λ c κs. tt) (λ c κs. tt) (λ c κs. tt) (λ c κs. tt) (λ c κs. tt) (λ c κs. tt) (λ c κs. tt) (λ c κs. tt) (λ c κs. tt)
     (λ c κs. tt) (λ c κs. tt) (λ c κs. tt) (λ c κs. tt) (λ c κs. tt) (λ c κs. tt) (λ c κs. tt) (λ c κs. tt) (λ c κs. tt) (λ c κs. tt)
-    (λ c κs. tt) (λ c κs. tt) (λ c κs. tt) returns)
+    (λ c κs. tt) (λ c κs. tt) (λ c κs. tt) (λ c κs. tt) (λ c κs. tt) returns)

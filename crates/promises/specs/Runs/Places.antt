@@ -1,0 +1,120 @@
+-- The cause of a waking follows from where the thread waited, and from the step: no step leaves a choice.
+use Prim.Native.Nat.{ℕ, _+_, _≤_, _<_}
+use native.Mathlib.Omega.{arith}
+use mathlib.Core.Path.{_≡_, refl, sym, ap, _∙_}
+use mathlib.Core.Logic.{_≢_, inl, inr}
+use mathlib.Core.Bool.{false, cond}
+use lib.Dec.{eqb, ltb}
+use lib.IntN.{ℤ}
+use borrow.Author.Tests.{eq-eqb, ne-eqb, lt-ltb, le-ltb}
+use Rattle.kernel.specs.declared.clock.Clock.{Clock}
+use Rattle.kernel.specs.declared.records.Call.{Call}
+use Rattle.kernel.specs.declared.records.Thread.{Thread}
+use Rattle.kernel.proofs.Cases.{same-or}
+use Rattle.library.specs.declared.calls.Step.{Step}
+use Rattle.library.specs.declared.sizes.Sizes.{Sizes}
+use Rattle.library.specs.declared.tables.Tables.{Tables}
+use Rattle.steps.specs.Stepping.{stepped}
+use Rattle.promises.specs.Paper.Host.{Host}
+use Rattle.promises.specs.Paper.Together.{CallFits}
+use Rattle.promises.specs.Paper.Waking.{Tried, Served, CalledOut, WokenBy}
+use Rattle.promises.specs.Paper.Causes.{resetsAt, queueCause, causeFor, messageBy}
+use Rattle.promises.specs.Runs.OneStep.{together, semaphore-there, queue-there, mailbox-there, pool-there, fits}
+
+-- the cause by state and place
+abbrev calledCause : Step → ℕ → ℕ → ℕ
+calledCause s state p = cond (eqb state 4) 4 (cond (eqb state 2) 3 (queueCause s p))
+
+-- a fetch that a record keeps is of a mailbox that is there
+fetch-there : {z : Sizes} {c : Call} → CallFits z c → c .kind ≡ 17 → c .object < z .mailboxes
+fetch-there (CallFits.none e) k = absurd (omega (arith, k, ap (λ (c : Call). c .kind) e))
+fetch-there (CallFits.semaphore x o a b) k = absurd (omega (arith, k, x))
+fetch-there (CallFits.queue x o a b) k = absurd (omega (arith, k, x))
+fetch-there (CallFits.reference x o a b) k = absurd (omega (arith, k, x))
+fetch-there (CallFits.sleep-for x o a b) k = absurd (omega (arith, k, x))
+fetch-there (CallFits.sleep-until x o b) k = absurd (omega (arith, k, x))
+fetch-there (CallFits.events x o b) k = absurd (omega (arith, k, x))
+fetch-there (CallFits.post (inl x) o b) k = absurd (omega (arith, k, x))
+fetch-there (CallFits.post (inr x) o b) k = absurd (omega (arith, k, x))
+fetch-there (CallFits.fetch x o a b) k = o
+fetch-there (CallFits.alloc x o a b) k = absurd (omega (arith, k, x))
+
+-- a place that is at neither side of the mailbox that the step resets
+not-reset : (s : Step) (p : ℕ) → (s .kind ≡ 18 → p ≢ 28 + s .object) → (s .kind ≡ 18 → p ≢ 32 + s .object) → resetsAt s p ≡ false
+not-reset s p a b =
+    same-or (s .kind) 18 (λ k. rw (k, ne-eqb p (28 + s .object) (a k), ne-eqb p (32 + s .object) (b k))) (λ d. rw (ne-eqb (s .kind) 18 d))
+
+module _ (t : Tables) (c : Clock) (s : Step) (host : Host t c s) (e : stepped t c s .outcome .code ≡ 0) where
+  few : (t .sizes .semaphores ≤ 16) × (t .sizes .queues ≤ 8) × (t .sizes .mailboxes ≤ 4) × (t .sizes .pools ≤ 4)
+  few = let z = together t c s host e .sizes in (z .semaphores, z .queues, z .mailboxes, z .pools)
+
+  tried-there : {b : ℕ} → Tried t s 17 b → b < t .sizes .mailboxes
+  tried-there (Tried.own k o) = omega (arith, o, mailbox-there t c s host e (omega (arith, k)) (omega (arith, k)))
+  tried-there (Tried.kept j l k o) = omega (arith, o, fetch-there (fits t c s host e j l .call) k)
+
+  reset-there : s .kind ≡ 18 → s .object < 4
+  reset-there k = omega (arith, few .2, mailbox-there t c s host e (omega (arith, k)) (omega (arith, k)))
+
+  module _ {state p : ℕ} where
+    -- a mailbox's side
+    at-side : state ≡ 3 → 28 ≤ p → (s .kind ≡ 18 → p ≢ 28 + s .object) → (s .kind ≡ 18 → p ≢ 32 + s .object) → (n : ℕ)
+        → n ≡ cond (ltb p 32) 6 5 → n ≡ calledCause s state p
+    at-side q l a b n h =
+        h ∙ rw (q, le-ltb p 16 (omega (arith, l)), le-ltb p 20 (omega (arith, l)), le-ltb p 28 l, not-reset s p a b)
+
+    served-at : {m : ℤ} {o : ℕ} → Served t s state p m o → o ≡ calledCause s state p
+    served-at (Served.post b z k q x) =
+        at-side q (omega (arith, x)) (λ y w. omega (arith, x, w, reset-there y)) (λ y w. z y (omega (arith, x, w))) 5
+        (rw (le-ltb p 32 (omega (arith, x))))
+    served-at (Served.fetch b z k q x) =
+        let l : b < 4 = omega (arith, few .2, tried-there k) in
+        at-side q (omega (arith, x)) (λ y w. z y (omega (arith, x, w))) (λ y w. omega (arith, x, w, l)) 6 (rw (lt-ltb p 32 (omega (arith, x, l))))
+
+    queued : state ≡ 3 → p ≡ 20 + s .object → s .object < t .sizes .queues → 2 ≡ calledCause s state p
+    queued q x l = rw (q, le-ltb p 16 (omega (arith, x)), le-ltb p 20 (omega (arith, x)), lt-ltb p 28 (omega (arith, x, l, few .1)))
+
+    pooled : state ≡ 3 → p ≡ 16 + s .object → s .object < t .sizes .pools → 1 ≡ calledCause s state p
+    pooled q x l = rw (q, le-ltb p 16 (omega (arith, x)), lt-ltb p 20 (omega (arith, x, l, few .3)))
+
+    called-at : {m : ℤ} {o : ℕ} → CalledOut t s state p m o → o ≡ calledCause s state p
+    called-at (CalledOut.signal (inl k) q x) = rw (q, k, lt-ltb p 16 (omega (arith, x, few .0, semaphore-there t c s host e (omega (arith, k)) (omega (arith, k)))))
+    called-at (CalledOut.signal (inr k) q x) = rw (q, k, lt-ltb p 16 (omega (arith, x, few .0, semaphore-there t c s host e (omega (arith, k)) (omega (arith, k)))))
+    called-at (CalledOut.reset k q x) = rw (q, k, lt-ltb p 16 (omega (arith, x, few .0, semaphore-there t c s host e (omega (arith, k)) (omega (arith, k)))))
+    called-at (CalledOut.release (inl k) q x) = queued q x (queue-there t c s host e (omega (arith, k)) (omega (arith, k)))
+    called-at (CalledOut.release (inr k) q x) = queued q x (queue-there t c s host e (omega (arith, k)) (omega (arith, k)))
+    called-at (CalledOut.resume k q x) = rw q
+    called-at (CalledOut.served b) = served-at b
+    called-at (CalledOut.box-reset k q (inl x)) =
+        rw (q, k, le-ltb p 16 (omega (arith, x)), le-ltb p 20 (omega (arith, x)), le-ltb p 28 (omega (arith, x)), eq-eqb p (28 + s .object) x)
+    called-at (CalledOut.box-reset k q (inr x)) =
+        rw (
+          q,
+          k,
+          le-ltb p 16 (omega (arith, x)),
+          le-ltb p 20 (omega (arith, x)),
+          le-ltb p 28 (omega (arith, x)),
+          ne-eqb p (28 + s .object) (λ w. omega (arith, x, w)),
+          eq-eqb p (32 + s .object) x,
+        )
+    called-at (CalledOut.object (inl k) q x) = pooled q x (pool-there t c s host e (omega (arith, k)) (omega (arith, k)))
+    called-at (CalledOut.object (inr k) q x) = pooled q x (pool-there t c s host e (omega (arith, k)) (omega (arith, k)))
+
+  -- WHY A SLEEPER WAKES
+  pub cause-for : {i : ℕ} {a : Thread} {m : ℤ} {o : ℕ} → WokenBy t s i a m o → o ≡ causeFor s a
+  cause-for (WokenBy.last-tick k r) = rw (k, r)
+  cause-for (WokenBy.events k o q f) = rw (k, q)
+  cause-for {a = a} (WokenBy.call u b) =
+      called-at b
+      ∙ same-or (s .kind) 1 (λ k. rw (k, ne-eqb (a .remaining) 1 (λ r. u (k, r)))) (λ d. rw (ne-eqb (s .kind) 1 d))
+
+  pub message-by : {i : ℕ} {a : Thread} {m : ℤ} {o : ℕ} → WokenBy t s i a m o → m ≡ messageBy s o
+  message-by (WokenBy.last-tick k r) = refl
+  message-by (WokenBy.events k o q f) = refl
+  message-by (WokenBy.call u (CalledOut.signal k q x)) = refl
+  message-by (WokenBy.call u (CalledOut.reset k q x)) = refl
+  message-by (WokenBy.call u (CalledOut.release k q x)) = refl
+  message-by (WokenBy.call u (CalledOut.resume k q x)) = refl
+  message-by (WokenBy.call u (CalledOut.served (Served.post b z k q x))) = refl
+  message-by (WokenBy.call u (CalledOut.served (Served.fetch b z k q x))) = refl
+  message-by (WokenBy.call u (CalledOut.box-reset k q x)) = refl
+  message-by (WokenBy.call u (CalledOut.object k q x)) = refl

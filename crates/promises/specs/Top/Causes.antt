@@ -1,0 +1,87 @@
+-- DOCUMENT 02, 7/13: WHY A THREAD WOKE. From any tables that hang together, over any steps, refused ones included: the cause and the number in
+-- each thread's record are those of its last waking, and the step number counts the accepted steps; and from fresh tables. What each step
+-- makes of them is in `one-waking`, and which causes a waiter's turn has in `turn-of-semaphore` (Top.Demands).
+use Prim.Native.Nat.{ℕ, _≤_, _<_}
+use native.Mathlib.Omega.{arith}
+use mathlib.Core.Path.{_≡_, ap, _∙_, subst}
+use mathlib.Core.Logic.{_≢_}
+use mathlib.Core.Bool.{true, false}
+use mathlib.Core.List.{List}
+use Rattle.kernel.specs.declared.clock.Clock.{Clock}
+use Rattle.kernel.specs.declared.units.Rate.{Rate}
+use Rattle.library.specs.declared.calls.Step.{Step}
+use Rattle.library.specs.declared.sizes.Sizes.{Sizes}
+use Rattle.library.specs.declared.tables.Tables.{Tables}
+use Rattle.library.specs.Fresh.{made}
+use Rattle.steps.specs.Stepping.{stepped}
+use Rattle.promises.specs.Paper.Fresh.{FreshTables}
+use Rattle.promises.specs.Paper.Host.{HostStep, HostSteps}
+use Rattle.promises.specs.Paper.Waking.{rowOf, inMask}
+use Rattle.promises.specs.Paper.Run.{Moment, isAccepted, howMany, anyOf, TurnOf}
+use Rattle.promises.specs.Paper.Causes.{causeFor, messageBy, Why, whyOf, notYet, numbered, LastWaking}
+use Rattle.promises.specs.Meant.Fresh.{made-fresh}
+use Rattle.promises.specs.Runs.Run.{ran}
+use Rattle.promises.specs.Runs.Moments.{moments, Going, turn-woken, sleeper-woken}
+use Rattle.promises.specs.Runs.LastWakings.{last-wakings, steps-numbered, numbered-count, numbered-stays, unwoken-same, fresh-why}
+use Rattle.promises.specs.Top.Demands.{fresh-going, run-going}
+
+module _ (t : Tables) (c : Clock) (g : Going t c) (ss : List Step) (hs : HostSteps ss) where
+  -- "Each thread record shall carry the cause of its last waking .. and the number of that step"
+  pub why-told : (i : ℕ) → i < t .sizes .threads
+      → LastWaking i (whyOf (rowOf (ran t c ss .tables) i)) (t .kernel .steps) (whyOf (rowOf t i)) (moments t c ss)
+  why-told = last-wakings ss hs t c g
+
+  -- "The step number .. rises by 1 at the start of each accepted step; at 4294967295 it stays there"
+  pub steps-told : ran t c ss .tables .kernel .steps ≡ numbered (t .kernel .steps) (moments t c ss)
+  steps-told = steps-numbered ss hs t c g
+
+  -- no "cause outside the list" comes about
+  pub causes-listed : (i : ℕ) → i < ran t c ss .tables .sizes .threads → rowOf (ran t c ss .tables) i .cause ≤ 8
+  causes-listed i l = run-going ss hs t c g .together .threads i l .cause
+
+-- "with 0 unless its timeout or a reset made it ready sooner": whoever waits at a semaphore or a pool, and is woken by a step, has the cause
+-- beside the message. `turn-read` (Top.RuledOut) reads it off: 0 and signal, -1 and tick, or -2 and reset
+module _ (t : Tables) (c : Clock) (g : Going t c) (s : Step) (h : HostStep s) (accepted : stepped t c s .outcome .code ≡ 0) where
+  pub waiter-told : (p : ℕ) → p < 20 → (i : ℕ) → i < t .sizes .threads → rowOf t i .state ≡ 3 → rowOf t i .place ≡ p
+      → inMask i (stepped t c s .outcome .woken) ≡ true
+      → TurnOf p (rowOf t i) s (rowOf (stepped t c s .tables) i .message) (rowOf (stepped t c s .tables) i .cause)
+  waiter-told = turn-woken t c g s h accepted
+
+  -- of whoever slept: cause and message follow from the sleep and from the step, so that `why-told` leaves nothing to choose
+  pub sleeper-told : (i : ℕ) → i < t .sizes .threads → rowOf t i .state ≢ 0 → inMask i (stepped t c s .outcome .woken) ≡ true
+      → (rowOf (stepped t c s .tables) i .cause ≡ causeFor s (rowOf t i))
+      × (rowOf (stepped t c s .tables) i .message ≡ messageBy s (rowOf (stepped t c s .tables) i .cause))
+  sleeper-told = sleeper-woken t c g s h accepted
+
+-- ---- from fresh tables
+
+module _ (y : Sizes) (r : Rate) (legal : made y r .code ≡ 0) (ss : List Step) (hs : HostSteps ss) where
+  abbrev pub run : List Moment
+  run = moments (made y r .tables) (made y r .clock) ss
+
+  abbrev pub end : Tables
+  end = ran (made y r .tables) (made y r .clock) ss .tables
+
+  fresh : FreshTables y (made y r .tables)
+  fresh = made-fresh y r legal
+
+  -- "none yet", and "0 before any"
+  pub why-fresh : (i : ℕ) → i < y .threads → LastWaking i (whyOf (rowOf end i)) 0 notYet run
+  why-fresh i l =
+      subst (λ (n : ℕ). LastWaking i (whyOf (rowOf end i)) n notYet run) (fresh .steps)
+      (subst (λ (x : Why). LastWaking i (whyOf (rowOf end i)) (made y r .tables .kernel .steps) x run) (fresh-why y (made y r .tables) fresh i)
+      (why-told (made y r .tables) (made y r .clock) (fresh-going y r legal) ss hs i (rw (fresh .sizes) l)))
+
+  pub never-woken : (i : ℕ) → i < y .threads → anyOf (λ m. inMask i (m .result .woken)) run ≡ false → whyOf (rowOf end i) ≡ notYet
+  never-woken i l none = unwoken-same (why-fresh i l) none
+
+  -- the step number is the number of accepted steps, up to its end
+  steps-run : end .kernel .steps ≡ numbered 0 run
+  steps-run =
+      steps-told (made y r .tables) (made y r .clock) (fresh-going y r legal) ss hs ∙ ap (λ (n : ℕ). numbered n run) (fresh .steps)
+
+  pub steps-fresh : howMany isAccepted run ≤ 4294967295 → end .kernel .steps ≡ howMany isAccepted run
+  steps-fresh l = steps-run ∙ numbered-count 0 run (omega (arith, l)) ∙ omega arith
+
+  pub steps-end : 4294967295 ≤ howMany isAccepted run → end .kernel .steps ≡ 4294967295
+  steps-end l = steps-run ∙ numbered-stays 0 run (omega arith) (omega (arith, l))
