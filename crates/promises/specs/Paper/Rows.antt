@@ -30,7 +30,8 @@ use Rattle.promises.specs.Paper.World.{
   Highest,
 }
 
--- ---- the acts. Of document 02, the cause of a waking: 1 signal, 2 release, 3 resume, 4 event, 5 post, 6 fetch, 7 reset, 8 tick. x is what an accepted step has made of the world w before settling
+-- ---- the acts: x is what an accepted step has made of the world w before settling. Of document 02, the cause of a waking: 1 signal, 2 release,
+-- 3 resume, 4 event, 5 post, 6 fetch, 7 reset, 8 tick
 
 -- "each remaining count above 0 falls by 1; at 0 the thread is taken off its queue .. and made ready with -1": of thread i
 pub data TickOf (w : World) (i : ℕ) (x : World) : Type 0 where

@@ -35,15 +35,15 @@ pub data Tried (t : Tables) (s : Step) (kind object : ℕ) : Type 0 where
   kept : (j : ℕ) → j < t .sizes .threads → rowOf t j .call .kind ≡ kind → rowOf t j .call .object ≡ object → Tried t s kind object
 
 -- a mailbox call that the step tries serves the other side, "releases the first of the other side's waiters with 0": a reader by a post, a
--- writer by a fetch. In a mailbox that the step resets both only "finish with -2". Of document 02, the cause is the tried call's own: 5 post,
--- 6 fetch
+-- writer by a fetch. Not in a mailbox that the step resets: "in reset state post and fetch answer -2". Of document 02, the cause is the tried
+-- call's own: 5 post, 6 fetch
 pub data Served (t : Tables) (s : Step) (state place : ℕ) : ℤ → ℕ → Type 0 where
   post : (b : ℕ) → (s .kind ≡ 18 → b ≢ s .object) → Tried t s 15 b ⊎ Tried t s 16 b → state ≡ 3 → place ≡ 32 + b → Served t s state place (pos 0) 5
   fetch : (b : ℕ) → (s .kind ≡ 18 → b ≢ s .object) → Tried t s 17 b → state ≡ 3 → place ≡ 28 + b → Served t s state place (pos 0) 6
 
 -- the step s calls out a thread that waits in this state at this place, with this message: "the highest-priority waiter is made ready with
--- 0"; "all waiters are made ready with -2"; "the waker's a is the message"; .. Of document
--- 02, the cause: 1 signal, 2 release, 3 resume, 7 reset; "A pool's free and add count as signal"
+-- 0"; "all waiters are made ready with -2"; "the waker's a is the message"; .. Of document 02, the cause: 1 signal, 2 release, 3 resume,
+-- 7 reset; "A pool's free and add count as signal"
 pub data CalledOut (t : Tables) (s : Step) (state place : ℕ) : ℤ → ℕ → Type 0 where
   signal : (s .kind ≡ 3) ⊎ (s .kind ≡ 5) → state ≡ 3 → place ≡ s .object → CalledOut t s state place (pos 0) 1
   reset : s .kind ≡ 4 → state ≡ 3 → place ≡ s .object → CalledOut t s state place (negsuc 1) 7

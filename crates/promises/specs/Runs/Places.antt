@@ -1,9 +1,9 @@
 -- The cause of a waking follows from where the thread waited, and from the step: no step leaves a choice.
 use Prim.Native.Nat.{ℕ, _+_, _≤_, _<_}
 use native.Mathlib.Omega.{arith}
-use mathlib.Core.Path.{_≡_, refl, sym, ap, _∙_}
+use mathlib.Core.Path.{_≡_, refl, ap, _∙_}
 use mathlib.Core.Logic.{_≢_, inl, inr}
-use mathlib.Core.Bool.{false, cond}
+use mathlib.Core.Bool.{true, false, cond}
 use lib.Dec.{eqb, ltb}
 use lib.IntN.{ℤ}
 use borrow.Author.Tests.{eq-eqb, ne-eqb, lt-ltb, le-ltb}
@@ -55,6 +55,9 @@ module _ (t : Tables) (c : Clock) (s : Step) (host : Host t c s) (e : stepped t 
   reset-there : s .kind ≡ 18 → s .object < 4
   reset-there k = omega (arith, few .2, mailbox-there t c s host e (omega (arith, k)) (omega (arith, k)))
 
+  at-semaphore : (p : ℕ) → 2 ≤ s .kind → s .kind ≤ 5 → p ≡ s .object → ltb p 16 ≡ true
+  at-semaphore p a b x = lt-ltb p 16 (omega (arith, x, few .0, semaphore-there t c s host e a b))
+
   module _ {state p : ℕ} where
     -- a mailbox's side
     at-side : state ≡ 3 → 28 ≤ p → (s .kind ≡ 18 → p ≢ 28 + s .object) → (s .kind ≡ 18 → p ≢ 32 + s .object) → (n : ℕ)
@@ -77,9 +80,9 @@ module _ (t : Tables) (c : Clock) (s : Step) (host : Host t c s) (e : stepped t 
     pooled q x l = rw (q, le-ltb p 16 (omega (arith, x)), lt-ltb p 20 (omega (arith, x, l, few .3)))
 
     called-at : {m : ℤ} {o : ℕ} → CalledOut t s state p m o → o ≡ calledCause s state p
-    called-at (CalledOut.signal (inl k) q x) = rw (q, k, lt-ltb p 16 (omega (arith, x, few .0, semaphore-there t c s host e (omega (arith, k)) (omega (arith, k)))))
-    called-at (CalledOut.signal (inr k) q x) = rw (q, k, lt-ltb p 16 (omega (arith, x, few .0, semaphore-there t c s host e (omega (arith, k)) (omega (arith, k)))))
-    called-at (CalledOut.reset k q x) = rw (q, k, lt-ltb p 16 (omega (arith, x, few .0, semaphore-there t c s host e (omega (arith, k)) (omega (arith, k)))))
+    called-at (CalledOut.signal (inl k) q x) = rw (q, k, at-semaphore p (omega (arith, k)) (omega (arith, k)) x)
+    called-at (CalledOut.signal (inr k) q x) = rw (q, k, at-semaphore p (omega (arith, k)) (omega (arith, k)) x)
+    called-at (CalledOut.reset k q x) = rw (q, k, at-semaphore p (omega (arith, k)) (omega (arith, k)) x)
     called-at (CalledOut.release (inl k) q x) = queued q x (queue-there t c s host e (omega (arith, k)) (omega (arith, k)))
     called-at (CalledOut.release (inr k) q x) = queued q x (queue-there t c s host e (omega (arith, k)) (omega (arith, k)))
     called-at (CalledOut.resume k q x) = rw q

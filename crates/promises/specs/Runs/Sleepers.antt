@@ -48,11 +48,11 @@ ends-answer a r c f (Ends.in-reset e z) = AnswerOf.in-reset (subst (λ (k : Call
 ends-answer a r c f (Ends.posted e z) = AnswerOf.posted (subst (λ (k : Call). IsPost (k .kind)) c e) z
 ends-answer a r c f (Ends.fetched e z x) = AnswerOf.fetched (sym (ap (λ (k : Call). k .kind) c) ∙ e) z x
 
--- a waking with 0 is not of the last tick, nor comes it in that step
-zero-unticked : {t : Tables} {s : Step} {i : ℕ} {a : Thread} {m : ℤ} {c : ℕ} → WokenBy t s i a m c → m ≡ pos 0 → LastTick s a → ⊥
-zero-unticked (WokenBy.last-tick k r) e v = pos-ne-negsuc 0 0 (sym e)
-zero-unticked (WokenBy.events k o st f) e v = omega (arith, k, v .0)
-zero-unticked (WokenBy.call u b) e v = u v
+-- in the step of its last tick a thread is woken by that tick alone
+pub last-by : {t : Tables} {s : Step} {i : ℕ} {a : Thread} {m : ℤ} {c : ℕ} → LastTick s a → WokenBy t s i a m c → (m ≡ negsuc 0) × (c ≡ 8)
+last-by v (WokenBy.last-tick k r) = (refl, refl)
+last-by v (WokenBy.events k o st f) = absurd (omega (arith, k, v .0))
+last-by v (WokenBy.call u b) = absurd (u v)
 
 -- whoever is called out is queued or suspended
 pub called-state : {t : Tables} {s : Step} {st pl : ℕ} {m : ℤ} {c : ℕ} → CalledOut t s st pl m c → (st ≡ 2) ⊎ (st ≡ 3)
@@ -131,10 +131,10 @@ module _ (t : Tables) (s : Step) (i : ℕ) (someone : i ≢ 255) (within : i < t
 
     -- as long as it can be called out, its last tick has not come
     not-last : SleeperAfter t s i r w f → r .state ≢ 0 → LastTick s a → ⊥
-    not-last (SleeperAfter.on u e p q) n = u
-    not-last (SleeperAfter.ready x y b l g e p q) n = absurd (n (ap (λ (u : Thread). u .state) e))
-    not-last (SleeperAfter.done x y v d f b g e p q) n = absurd (n (ap (λ (u : Thread). u .state) e))
-    not-last (SleeperAfter.again x g b e p q) n = zero-unticked b refl
+    not-last (SleeperAfter.on u e p q) n v = u v
+    not-last (SleeperAfter.ready x y b l g e p q) n v = absurd (n (ap (λ (u : Thread). u .state) e))
+    not-last (SleeperAfter.done x y o d f b g e p q) n v = absurd (n (ap (λ (u : Thread). u .state) e))
+    not-last (SleeperAfter.again x g b e p q) n v = pos-ne-negsuc 0 0 (last-by v b .0)
 
     -- who calls it out now would have called it out before
     called : (m : ℤ) (o : ℕ) → SleeperAfter t s i r w f → r .state ≢ 0 → CalledOut t s (r .state) (r .place) m o → CalledOut t s (a .state) (a .place) m o

@@ -31,6 +31,7 @@ use Rattle.promises.specs.Paper.History.{Event, isOwn, OwnFirst}
 use Rattle.promises.specs.Paper.Ledger.{inBox, noPostings, ledger, BoxTold, Standing, standing}
 use Rattle.promises.specs.Paper.Signals.{AtTop, SignalTold}
 use Rattle.promises.specs.Paper.Causes.{Wakes}
+use Rattle.promises.specs.Runs.Sleepers.{last-by}
 use Rattle.promises.specs.Runs.Pipes.{smaller-le, numbered}
 
 -- -1 and -2 are not 0
@@ -171,11 +172,6 @@ waking-caused (Wakes.slept n (WokenBy.call u b)) = called-cause b
 waking-caused (Wakes.fell z f b) = called-cause (CalledOut.served b)
 
 -- whoever has its last tick in the step is woken by it, whatever calls go on then: with -1, by the cause tick
-last-by : {t : Tables} {s : Step} {i : ℕ} {a : Thread} {m : ℤ} {c : ℕ} → LastTick s a → WokenBy t s i a m c → (m ≡ negsuc 0) × (c ≡ 8)
-last-by v (WokenBy.last-tick k r) = (refl, refl)
-last-by v (WokenBy.events k o st f) = absurd (omega (arith, k, v .0))
-last-by v (WokenBy.call u b) = absurd (u v)
-
 pub last-tick-told : {t : Tables} {s : Step} {i : ℕ} {b : Thread} {w f : Bool} → LastTick s (rowOf t i) → SleeperAfter t s i b w f
     → (w ≡ true) × (b .message ≡ negsuc 0) × (b .cause ≡ 8)
 last-tick-told v (SleeperAfter.on u e p q) = absurd (u v)
