@@ -24,4 +24,5 @@ pub mod Moves
 pub mod Calls
 pub mod Rows
 pub mod Only
+pub mod History
 pub mod Step

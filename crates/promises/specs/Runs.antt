@@ -16,6 +16,7 @@ pub mod OneStep
 pub mod Places
 pub mod GoingOn
 pub mod Waiters
+pub mod Due
 pub mod OwnSleep
 pub mod Moments
 pub mod LastWakings
@@ -26,7 +27,9 @@ pub mod Dealing
 pub mod Deeds
 pub mod Seen
 pub mod Histories
+pub mod Serving
 pub mod Counting
+pub mod Pairing
 pub mod Objects
 pub mod Ledgers
 pub mod Tallied

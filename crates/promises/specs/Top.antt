@@ -5,6 +5,7 @@ pub mod Pipes
 pub mod Ledgers
 pub mod Signals
 pub mod Causes
+pub mod Wakings
 pub mod Facts
 pub mod Shown
 pub mod ShownArms

@@ -81,7 +81,7 @@ least-only P i j a b f g = same-or i j (λ e. e) (λ d. in-or-out i j (λ l. abs
 pub first-only : (w : World) (i j : ℕ) → First w i → First w j → i ≡ j
 first-only w i j a b = least-only (λ k. w .thread k .state ≡ 0) i j (a .is-ready) (b .is-ready) (a .first) (b .first)
 
-highest-only : (w : World) (p i j : ℕ) → Highest w p i → Highest w p j → i ≡ j
+pub highest-only : (w : World) (p i j : ℕ) → Highest w p i → Highest w p j → i ≡ j
 highest-only w p i j a b =
     least-only (λ k. (w .thread k .state ≡ 3) × (w .thread k .place ≡ p)) i j (a .waits) (b .waits)
     (λ k l x. a .highest k l (x .0) (x .1)) (λ k l x. b .highest k l (x .0) (x .1))
@@ -247,7 +247,7 @@ module _ (t : Tables) (now : SystemTime) (s : Step) where
   o = s .object
 
   -- of one kind: the rows exclude each other by their number
-  act-only : (n : ℕ) (x y : World) → Act t now s x n → Act t now s y n → x ≡ y
+  pub act-only : (n : ℕ) (x y : World) → Act t now s x n → Act t now s y n → x ≡ y
   act-only n x y (Act.tick v a e) (Act.tick u b d) = e ∙ ap done (ticks-only w₀ (t .sizes .threads) v u a b) ∙ sym d
   act-only n x y (Act.semaphore-wait a) (Act.semaphore-wait b) = semaphore-only w₀ i o _ x y a b
   act-only n x y (Act.signal v j a e) (Act.signal u k b d) =
@@ -330,12 +330,14 @@ continued-only w i x y (Continued.answers a e) (Continued.fetches b o d) = absur
 continued-only w i x y (Continued.answers a e) (Continued.takes b o d) = absurd (not-other a (inr (inr (inr (inr b)))) o)
 continued-only w i x y (Continued.answers a e) (Continued.answers b d) = e ∙ sym d
 
-settles-only : (x y w : World) → Settles x w → Settles y w → x ≡ y
-settles-only x y w (Settles.ends a e) (Settles.ends b d) = e ∙ sym d
-settles-only x y w (Settles.ends a e) (Settles.goes j f n v c l) = absurd (n (a j f))
-settles-only x y w (Settles.goes i f n v c l) (Settles.ends b d) = absurd (n (b i f))
-settles-only x y w (Settles.goes i f n v c l) (Settles.goes j g m u d r) =
-    settles-only x y v l (subst (Settles y) (sym same) r)
+-- where it ends, and whose calls were continued, in which order
+pub settles-only : (x y w : World) (is js : List ℕ) → Settles x w is → Settles y w js → (x ≡ y) × (is ≡ js)
+settles-only x y w [] [] (Settles.ends a e) (Settles.ends b d) = (e ∙ sym d, refl)
+settles-only x y w [] (j ∷ js) (Settles.ends a e) (Settles.goes r f m v c l) = absurd (m (a j f))
+settles-only x y w (i ∷ is) [] (Settles.goes r f m v c l) (Settles.ends b d) = absurd (m (b i f))
+settles-only x y w (i ∷ is) (j ∷ js) (Settles.goes p f m v c l) (Settles.goes q g h u d r) =
+    let rest = settles-only x y v is js l (subst (λ (z : World). Settles y z js) (sym same) r) in
+    (rest .0, rw (first-only w i j f g, rest .1))
   where
     same : v ≡ u
     same = continued-only w i v u c (subst (λ (k : ℕ). Continued w k u) (sym (first-only w i j f g)) d)
@@ -405,11 +407,11 @@ refused-only t c n r q a b =
 pub step-only : (t : Tables) (c : Clock) (s : Step) (r q : Stepped) → StepOf t c s r → StepOf t c s q → r ≡ q
 step-only t c s r q (StepOf.refused n a f x) (StepOf.refused m b g y) =
     refused-only t c n r q x (subst (λ (k : ℕ). RefusedWith t c k q) (sym (least-only (Broken t c s) n m a b f g)) y)
-step-only t c s r q (StepOf.refused n a f x) (StepOf.accepted none w v b l y g k o) = absurd (none n a)
-step-only t c s r q (StepOf.accepted none w v b l y g k o) (StepOf.refused n a f x) = absurd (none n a)
-step-only t c s r q (StepOf.accepted none w v a l y g k o) (StepOf.accepted still u z b m x f d e) =
-    stepped-only r q (left-only v (t .kernel .words) (r .tables) (q .tables) y (rw same x) g (rw same f)) (clock-only c (s .kind) (r .clock) (q .clock) k d)
-    (result-only v (s .caller) (r .outcome) (q .outcome) o (rw same e))
+step-only t c s r q (StepOf.refused n a f x) (StepOf.accepted none w v m b l y g k o) = absurd (none n a)
+step-only t c s r q (StepOf.accepted none w v m b l y g k o) (StepOf.refused n a f x) = absurd (none n a)
+step-only t c s r q (StepOf.accepted none w v n a l y g k o) (StepOf.accepted still u z j b m x f d e) =
+    stepped-only r q (left-only v (t .kernel .words) (r .tables) (q .tables) y (rw (same .0) x) g (rw (same .0) f)) (clock-only c (s .kind) (r .clock) (q .clock) k d)
+    (result-only v (s .caller) (r .outcome) (q .outcome) o (rw (same .0) e))
   where
-    same : v ≡ z
-    same = settles-only v z w l (subst (Settles z) (sym (act-only t (c .time) s (s .kind) w u a b)) m)
+    same : (v ≡ z) × (n ≡ j)
+    same = settles-only v z w n j l (subst (λ (y : World). Settles z y j) (sym (act-only t (c .time) s (s .kind) w u a b)) m)

@@ -1,8 +1,9 @@
 -- Settling of the meanings, continuation by continuation; and who runs.
-use Prim.Native.Nat.{ℕ, suc, _<_}
+use Prim.Native.Nat.{ℕ, zero, suc, _<_}
 use mathlib.Core.Path.{_≡_, refl, sym}
 use mathlib.Core.Logic.{_≢_, _⊎_, inl, inr}
 use mathlib.Core.Bool.{true, false}
+use mathlib.Core.List.{List, [], _∷_}
 use lib.IntN.{pos}
 use borrow.Author.Tests.{eqb-true, eq-eqb, ne-eqb}
 use Rattle.kernel.specs.declared.records.Thread.{Thread}
@@ -16,7 +17,7 @@ use Rattle.library.specs.declared.tables.Plant.{Plant}
 use Rattle.kernel.specs.Event.{tookFlags}
 use Rattle.library.specs.Mailbox.{postTried, fetchTried}
 use Rattle.library.specs.Pool.{handedOver}
-use Rattle.library.specs.Settling.{doesMore, answeredOnly, wentOn, continued, runningIn, settled}
+use Rattle.library.specs.Settling.{doesMore, answeredOnly, wentOn, continued, runningIn, isSettled, settled}
 use Rattle.library.specs.Tables.{withKernel}
 use Rattle.library.proofs.SettlingLaws.{settled-quiet}
 use Rattle.promises.specs.Together.Good.{Good}
@@ -85,6 +86,11 @@ module _ (p : Plant) (i : ℕ) where
 
 -- ---- "Then the running thread is chosen anew"
 
+-- the threads whose calls are continued, in order, with a budget
+unfoldable pub turns : ℕ → Plant → List ℕ
+turns zero p = []
+turns (suc n) p = elim (isSettled p) [ true ↦ [] | false ↦ runningIn p ∷ turns n (continued p (runningIn p)) ]
+
 module _ (p : Plant) where
   -- an unfinished call of the running thread is continued, and settling goes on with whoever runs then
   pub settle-on : (n : ℕ) → threadAt (p .kernel) (runningIn p) .call .kind ≢ 0
@@ -96,3 +102,18 @@ module _ (p : Plant) where
   pub settle-stops : (n : ℕ) → threadAt (p .kernel) (runningIn p) .call .kind ≡ 0 → settled n p ≡ p
   settle-stops n e =
       sym (settled-quiet n p p (runningFree (p .kernel)) refl refl (eq-eqb (threadAt (p .kernel) (runningIn p) .call .kind) 0 e))
+
+  -- and each continued call is a turn
+  pub turns-none : turns 0 p ≡ []
+  unfolding turns
+  turns-none = refl
+
+  pub turns-on : (n : ℕ) → threadAt (p .kernel) (runningIn p) .call .kind ≢ 0
+      → turns (suc n) p ≡ runningIn p ∷ turns n (continued p (runningIn p))
+  unfolding turns
+  turns-on n d = rw (ne-eqb (threadAt (p .kernel) (runningIn p) .call .kind) 0 d, turns)
+
+  pub turns-stop : (n : ℕ) → threadAt (p .kernel) (runningIn p) .call .kind ≡ 0 → turns n p ≡ []
+  unfolding turns
+  turns-stop zero e = refl
+  turns-stop (suc n) e = rw (eq-eqb (threadAt (p .kernel) (runningIn p) .call .kind) 0 e, turns)

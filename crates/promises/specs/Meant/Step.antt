@@ -3,6 +3,7 @@ use Prim.Native.Nat.{ℕ, zero, suc, _<_}
 use native.Mathlib.Omega.{arith}
 use mathlib.Core.Path.{_≡_, refl, sym, ap, _∙_, subst}
 use mathlib.Core.Logic.{_≢_, _⊎_, inl, inr}
+use mathlib.Core.List.{List, [], _∷_, _++_, append-assoc, append-nil}
 use mathlib.Core.Bool.{true, false}
 use lib.Dec.{eqb}
 use lib.ListN.{getD}
@@ -45,7 +46,7 @@ use Rattle.promises.specs.Kept.Settles.{on-tries, spent-all}
 use Rattle.promises.specs.Kept.Steps.{Hangs, settles}
 use Rattle.promises.specs.Meant.Clock.{tick-time, tick-time-wraps, other-time}
 use Rattle.promises.specs.Meant.Pools.{promise-stocked}
-use Rattle.promises.specs.Meant.Settling.{running-first, flags-now, post-again, fetch-again, alloc-again, settle-on, settle-stops}
+use Rattle.promises.specs.Meant.Settling.{turns, turns-none, turns-on, turns-stop, running-first, flags-now, post-again, fetch-again, alloc-again, settle-on, settle-stops}
 use Rattle.promises.specs.Meant.Refusals.{first-broken}
 use Rattle.promises.specs.Paper.World.{World, Left, ended, First, Running}
 use Rattle.promises.specs.Paper.Rows.{Post, Fetch}
@@ -202,41 +203,55 @@ module _ (p : Plant) (w : Whole (p .sizes) p) where
 
 -- settling that ended with a budget of b
 abbrev SettlesWith : ℕ → Type 0
-SettlesWith b = (p : Plant) → Whole (p .sizes) p → isSettled (settled b p) ≡ true → Settles (worldOf (settled b p)) (worldOf p)
+SettlesWith b = (p : Plant) → Whole (p .sizes) p → isSettled (settled b p) ≡ true → Settles (worldOf (settled b p)) (worldOf p) (turns b p)
 
 settles-on : (b : ℕ) → SettlesWith b → (p : Plant) → Whole (p .sizes) p → isSettled (settled (suc b) p) ≡ true → isSettled p ≡ false
-    → Settles (worldOf (settled (suc b) p)) (worldOf p)
+    → Settles (worldOf (settled (suc b) p)) (worldOf p) (turns (suc b) p)
 settles-on b rest p w e q =
     let r = runningIn p in
     let f = due p w q in
     let call = eqb-false (threadAt (p .kernel) r .call .kind) 0 q in
     let h = continued p r in
     let on = settle-on p b call in
-    Settles.goes r f call (worldOf h) (continued-is p w r f call)
-    (subst (λ (x : Plant). Settles (worldOf x) (worldOf h)) (sym on) (rest h (whole-on p w r f call) (rw on at e)))
+    rw (turns-on p b call)
+    (Settles.goes r f call (worldOf h) (continued-is p w r f call)
+    (subst (λ (x : Plant). Settles (worldOf x) (worldOf h) (turns b h)) (sym on) (rest h (whole-on p w r f call) (rw on at e))))
 
 pub settles-is : (b : ℕ) → SettlesWith b
-settles-is zero p w e = Settles.ends (quiet p w (rw (spent-all p) at e)) (ap worldOf (spent-all p))
+settles-is zero p w e = rw (turns-none p) (Settles.ends (quiet p w (rw (spent-all p) at e)) (ap worldOf (spent-all p)))
 settles-is (suc b) p w e =
     split (isSettled p)
-    (λ q. Settles.ends (quiet p w q) (ap worldOf (settle-stops p (suc b) (eqb-true (threadAt (p .kernel) (runningIn p) .call .kind) 0 q))))
+    (λ q.
+    let z = eqb-true (threadAt (p .kernel) (runningIn p) .call .kind) 0 q in
+    rw (turns-stop p (suc b) z) (Settles.ends (quiet p w q) (ap worldOf (settle-stops p (suc b) z))))
     (settles-on b (settles-is b) p w e)
 
--- what each continued call keeps, settling keeps
-pub settled-keeps : (P : World → Type 0)
+-- what each continued call keeps of a world and of the turns so far, settling keeps
+pub settled-turns : (P : World → List ℕ → Type 0)
     → ((p : Plant) → Whole (p .sizes) p → (i : ℕ) → First (worldOf p) i → threadAt (p .kernel) i .call .kind ≢ 0 → (x : World)
-    → Continued (worldOf p) i x → P (worldOf p) → P x)
-    → (b : ℕ) (p : Plant) → Whole (p .sizes) p → P (worldOf p) → P (worldOf (settled b p))
-settled-keeps P f zero p w h = rw (spent-all p) h
-settled-keeps P f (suc b) p w h =
-    split (isSettled p) (λ q. rw (settle-stops p (suc b) (eqb-true (threadAt (p .kernel) (runningIn p) .call .kind) 0 q)) h)
+    → Continued (worldOf p) i x → (is : List ℕ) → P (worldOf p) is → P x (is ++ (i ∷ [])))
+    → (b : ℕ) (p : Plant) → Whole (p .sizes) p → (is : List ℕ) → P (worldOf p) is → P (worldOf (settled b p)) (is ++ turns b p)
+settled-turns P f zero p w is h = rw (spent-all p, turns-none p, append-nil is) h
+settled-turns P f (suc b) p w is h =
+    split (isSettled p)
+    (λ q.
+    let z = eqb-true (threadAt (p .kernel) (runningIn p) .call .kind) 0 q in
+    rw (settle-stops p (suc b) z, turns-stop p (suc b) z, append-nil is) h)
     (λ q.
     let r = runningIn p in
     let g = due p w q in
     let call = eqb-false (threadAt (p .kernel) r .call .kind) 0 q in
-    rw (settle-on p b call)
-    (settled-keeps P f b (continued p r) (whole-on p w r g call)
-    (f p w r g call (worldOf (continued p r)) (continued-is p w r g call) h)))
+    let h₁ = continued p r in
+    rw (settle-on p b call, turns-on p b call)
+    (subst (P (worldOf (settled b h₁))) (append-assoc is (r ∷ []) (turns b h₁))
+    (settled-turns P f b h₁ (whole-on p w r g call) (is ++ (r ∷ [])) (f p w r g call (worldOf h₁) (continued-is p w r g call) is h))))
+
+-- what it keeps of a world
+pub settled-keeps : (P : World → Type 0)
+    → ((p : Plant) → Whole (p .sizes) p → (i : ℕ) → First (worldOf p) i → threadAt (p .kernel) i .call .kind ≢ 0 → (x : World)
+    → Continued (worldOf p) i x → P (worldOf p) → P x)
+    → (b : ℕ) (p : Plant) → Whole (p .sizes) p → P (worldOf p) → P (worldOf (settled b p))
+settled-keeps P f b p w h = settled-turns (λ x is. P x) (λ q v i g call x k is. f q v i g call x k) b p w [] h
 
 -- ---- clock and result
 
@@ -315,6 +330,10 @@ module _ (t : Tables) (c : Clock) (s : Step) (host : Host t c s) where
   abbrev pub h : Plant
   h = settled (budgetOf (t .sizes .threads)) (acted q (c .time) s)
 
+  -- by the calls of these threads, continued one after the other
+  abbrev pub order : List ℕ
+  order = turns (budgetOf (t .sizes .threads)) (acted q (c .time) s)
+
   module _ (e : n ≡ 0) where
     pub hangs : Hangs t c
     hangs = record { together = test-hangs p c (refusal-none p c s e .hangs); sized = host-sized t (host .tables) }
@@ -352,12 +371,15 @@ module _ (t : Tables) (c : Clock) (s : Step) (host : Host t c s) where
           places = settled-whole .kernel .rules .sized .waiting;
         }
 
+    pub settles-so : Settles (worldOf h) (worldOf (acted q (c .time) s)) order
+    settles-so = settles-is (budgetOf (t .sizes .threads)) (acted q (c .time) s) (own acted-whole) (settles t c s hangs code .ended)
+
     accepted-is : StepOf t c s (doneWith h c s)
     unfolding doneWith
     accepted-is =
-        StepOf.accepted (first-broken t c s (host .tables .threads) (host .step .object) .none e) (worldOf (acted q (c .time) s)) (worldOf h)
+        StepOf.accepted (first-broken t c s (host .tables .threads) (host .step .object) .none e) (worldOf (acted q (c .time) s)) (worldOf h) order
         (act-is t c s begun-whole (host .step .operand) e)
-        (settles-is (budgetOf (t .sizes .threads)) (acted q (c .time) s) (own acted-whole) (settles t c s hangs code .ended))
+        settles-so
         (left-is h settled-whole) words-left (clock-is c (host .time) (s .kind)) (result-is h settled-whole (s .caller))
 
   -- EVERY STEP IS AS DOCUMENT 01 TELLS IT

@@ -2,13 +2,16 @@
 -- the steps, their results, and the tables between two steps; nothing is stored for it.
 use Prim.Native.Nat.{ℕ, zero, suc, _+_}
 use mathlib.Core.Path.{_≡_}
-use mathlib.Core.Bool.{Bool, cond, _&&_, _||_}
+use mathlib.Core.Logic.{_≢_, _⊎_}
+use mathlib.Core.Bool.{Bool, false, cond, _&&_, _||_}
 use mathlib.Core.List.{List, [], _∷_, _++_}
 use lib.Dec.{eqb, ltb}
 use Rattle.kernel.specs.declared.records.Call.{Call}
 use Rattle.kernel.specs.declared.records.Answer.{Answer}
 use Rattle.library.specs.declared.tables.Tables.{Tables}
-use Rattle.promises.specs.Paper.World.{found, kept}
+use Rattle.promises.specs.Paper.World.{World, found, kept}
+use Rattle.promises.specs.Paper.Rows.{Act}
+use Rattle.promises.specs.Paper.Settling.{Settles}
 use Rattle.promises.specs.Paper.Together.{isZero}
 use Rattle.promises.specs.Paper.Waking.{rowOf, inMask}
 use Rattle.promises.specs.Paper.Run.{Moment, isAccepted}
@@ -69,7 +72,30 @@ those f (e ∷ es) = cond (f e) (e ∷ those f es) (those f es)
 abbrev pub isOf : ℕ → Event → Bool
 isOf i e = eqb (e .who) i
 
--- the events of a moment, in some order: of each thread and of an interrupt just what the result shows, and of nobody else
+-- whose calls are at work in a moment, in their order, as document 01 tells the step: the caller's, and then, while settling, the continued call
+-- of each of these threads. None of a refused step
+pub data Turns (m : Moment) : List ℕ → Type 0 where
+  refused : m .result .code ≢ 0 → Turns m []
+  accepted : m .result .code ≡ 0 → (w x : World) (is : List ℕ) → Act (m .before) (m .clock .time) (m .step) w (m .step .kind) → Settles x w is
+      → Turns m (m .step .caller ∷ is)
+
+-- whether i has a turn among these
+abbrev pub isAmong : ℕ → List ℕ → Bool
+isAmong i [] = false
+isAmong i (j ∷ js) = eqb j i || isAmong i js
+
+-- a mailbox call serves this place: "releases the first of the other side's waiters", a post the readers, a fetch the writers
+pub data Serves (c : Call) : ℕ → Type 0 where
+  readers : (c .kind ≡ 15) ⊎ (c .kind ≡ 16) → Serves c (32 + c .object)
+  writers : c .kind ≡ 17 → Serves c (28 + c .object)
+
+-- the events of a moment, turn by turn; f has what it shows of each. A finished call is not continued: who has several turns finishes in the
+-- last of them, if at all
+abbrev pub inTurn : (ℕ → List Event) → List ℕ → List Event
+inTurn f [] = []
+inTurn f (i ∷ is) = cond (isAmong i is) [] (f i) ++ inTurn f is
+
+-- some events are all that a moment shows: of each thread and of an interrupt just what the result shows, and of nobody else
 abbrev pub Shown : ℕ → Moment → List Event → Type 0
 Shown n m es = (i : ℕ) → those (isOf i) es ≡ shownBy n m i
 
@@ -84,11 +110,13 @@ pub data OwnFirst : List Event → Type 0 where
 
 -- ---- a run
 
--- the events of a run in order, its first moment the n-th: of each moment just what its result shows
+-- the events of a run in order, its first moment the n-th: of each moment what its result shows, turn by turn. There is one order and no
+-- choice (`history-only`). And the turns leave nothing out
 pub data History : ℕ → List Moment → List Event → Type 0 where
   none : {n : ℕ} → History n [] []
-  more : {n : ℕ} {m : Moment} {ms : List Moment} (es fs : List Event) → Shown n m es → OwnFirst es → History (suc n) ms fs
-      → History n (m ∷ ms) (es ++ fs)
+  more : {n : ℕ} {m : Moment} {ms : List Moment} (is : List ℕ) (fs : List Event) → Turns m is
+      → Shown n m (inTurn (shownBy n m) is) → OwnFirst (inTurn (shownBy n m) is) → History (suc n) ms fs
+      → History n (m ∷ ms) (inTurn (shownBy n m) is ++ fs)
 
 -- ---- counting, from the results alone
 

@@ -88,6 +88,26 @@ pub record EachOnce (b : ℕ) (ps es : List Event) (k : Ledger) : Type 0 where
   pub kept : (p : Event) → times p (k .given) + times p (k .lost) + times p (k .present) ≡ times p (ps ++ those (posted b) es)
   pub once : (p : Event) → times p (ps ++ those (posted b) es) ≤ 1
 
+-- the fetch e from mailbox b, before which the events xs stand, hands over the posting p; l is the ledger before them
+pub record HandsOver (b : ℕ) (l : Ledger) (xs : List Event) (e p : Event) : Type 0 where
+  -- it is the first in the mailbox then
+  pub behind : List Event
+  pub first : ledger b l xs .present ≡ p ∷ behind
+  -- it stands before the fetch, once: among the postings that were there before the run, and those of the events
+  pub before : times p (l .present ++ those (posted b) xs) ≡ 1
+  -- and its message is what is fetched
+  pub message : e .value ≡ p .value
+
+-- which posting each fetch has
+pub record Paired (b : ℕ) (l : Ledger) (es : List Event) : Type 0 where
+  -- each fetch hands over one posting
+  pub one : (xs : List Event) (e : Event) (ys : List Event) → es ≡ xs ++ (e ∷ ys) → fetched b e ≡ true → (p : Event) × HandsOver b l xs e p
+  -- and no other
+  pub only : (xs : List Event) (e p q : Event) → HandsOver b l xs e p → HandsOver b l xs e q → p ≡ q
+  -- and no two fetches the same
+  pub apart : (xs ys zs : List Event) (e f p q : Event) → es ≡ xs ++ (e ∷ (ys ++ (f ∷ zs))) → fetched b e ≡ true → fetched b f ≡ true
+      → HandsOver b l xs e p → HandsOver b l (xs ++ (e ∷ ys)) f q → p .step ≡ q .step → p .who ≡ q .who → ⊥
+
 -- ---- a pool
 
 -- where an object is, by its history: never added; free; handed over, by the alloc of this thread in this step, and not freed since. What
@@ -183,6 +203,8 @@ pub record Accounted (z : Sizes) (l : ℕ → Ledger) (st : ℕ → ℕ → Stan
   pub box-told : (b : ℕ) → b < z .mailboxes → BoxTold b (l b) events (ledger b (l b) events) (found u)
   -- each posting is handed over at most once, and none that was not posted
   pub box-once : (b : ℕ) → b < z .mailboxes → EachOnce b (l b .present) events (ledger b (l b) events)
+  -- each fetch hands over one posting before it, and no two the same
+  pub box-paired : (b : ℕ) → b < z .mailboxes → Paired b (l b) events
   -- "messages whose post finished with 0, less those whose fetch finished with 0, less those present at each reset, equal those in the
   -- mailbox now"
   pub box-sum : (b : ℕ) → b < z .mailboxes → length (l b .present) + total (each (posted b)) (shownIn 1 ms)

@@ -7,6 +7,7 @@ use mathlib.Core.List.{List, [], _∷_}
 use lib.Dec.{eqb, ltb}
 use lib.IntN.{ℤ, pos, negsuc}
 use lib.Signed.{ltZ}
+use Rattle.kernel.specs.declared.clock.Clock.{Clock}
 use Rattle.kernel.specs.declared.records.Thread.{Thread}
 use Rattle.library.specs.declared.calls.Step.{Step}
 use Rattle.library.specs.declared.tables.Tables.{Tables}
@@ -15,9 +16,10 @@ use Rattle.promises.specs.Paper.World.{found}
 use Rattle.promises.specs.Paper.Together.{number, isQueued}
 use Rattle.promises.specs.Paper.Waking.{rowOf, inMask}
 
--- one step of a run, with the tables before and after it
+-- one step of a run, with the tables before and after it, and the clock that it finds
 pub record Moment : Type 0 where
   pub before : Tables
+  pub clock : Clock
   pub step : Step
   pub result : Outcome
   pub after : Tables

@@ -2,6 +2,7 @@
 use Prim.Native.Nat.{ℕ}
 use mathlib.Core.Path.{_≡_}
 use mathlib.Core.Logic.{_≢_, _⊎_}
+use mathlib.Core.List.{List, [], _∷_}
 use lib.IntN.{pos}
 use Rattle.promises.specs.Paper.World.{World, ended, First}
 use Rattle.promises.specs.Paper.Rows.{tookFlags, Post, Fetch, topTaken}
@@ -27,7 +28,8 @@ pub data Continued (w : World) (i : ℕ) (x : World) : Type 0 where
       → Continued w i x
 
 -- "If it has an unfinished call, that call is continued", "Then the running thread is chosen anew", "Settling ends when the running
--- thread has no unfinished call": from w to x
-pub data Settles (x : World) : World → Type 0 where
-  ends : {w : World} → ((i : ℕ) → First w i → w .thread i .call .kind ≡ 0) → x ≡ w → Settles x w
-  goes : {w : World} (i : ℕ) → First w i → w .thread i .call .kind ≢ 0 → (v : World) → Continued w i v → Settles x v → Settles x w
+-- thread has no unfinished call": from w to x, by the continued calls of these threads, one after the other
+pub data Settles (x : World) : World → List ℕ → Type 0 where
+  ends : {w : World} → ((i : ℕ) → First w i → w .thread i .call .kind ≡ 0) → x ≡ w → Settles x w []
+  goes : {w : World} {is : List ℕ} (i : ℕ) → First w i → w .thread i .call .kind ≢ 0 → (v : World) → Continued w i v → Settles x v is
+      → Settles x w (i ∷ is)

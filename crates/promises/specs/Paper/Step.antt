@@ -4,6 +4,7 @@ use Prim.Native.Nat.{ℕ, _+_, _<_}
 use mathlib.Core.Path.{_≡_}
 use mathlib.Core.Logic.{_≢_}
 use mathlib.Core.Bool.{cond}
+use mathlib.Core.List.{List}
 use lib.Dec.{eqb}
 use lib.ListN.{length, getD}
 use Rattle.kernel.specs.declared.clock.Clock.{Clock}
@@ -52,5 +53,5 @@ pub data StepOf (t : Tables) (c : Clock) (s : Step) (r : Stepped) : Type 0 where
   refused : (n : ℕ) → Broken t c s n → ((m : ℕ) → m < n → Broken t c s m → ⊥) → RefusedWith t c n r
       → StepOf t c s r
   -- no rule is broken: the step acts, settles, and gives back what it has come to
-  accepted : ((n : ℕ) → Broken t c s n → ⊥) → (w x : World) → Act t (c .time) s w (s .kind) → Settles x w
+  accepted : ((n : ℕ) → Broken t c s n → ⊥) → (w x : World) (is : List ℕ) → Act t (c .time) s w (s .kind) → Settles x w is
       → Left x (r .tables) → WordsLeft x (t .kernel .words) (r .tables .kernel .words) → ClockAfter c (s .kind) (r .clock) → ResultOf x (s .caller) (r .outcome) → StepOf t c s r

@@ -8,10 +8,12 @@ use lib.Bits.{bitAnd, bitOr}
 use lib.IntN.{ℤ, pos, negsuc}
 use Rattle.kernel.specs.declared.time.SystemTime.{SystemTime}
 use Rattle.kernel.specs.declared.records.Answer.{Answer}
+use Rattle.kernel.specs.declared.records.Call.{Call}
 use Rattle.kernel.specs.declared.records.Thread.{Thread}
 use Rattle.library.specs.declared.calls.Step.{Step}
 use Rattle.library.specs.declared.tables.Tables.{Tables}
-use Rattle.promises.specs.Paper.World.{noCall, noAnswer, found, signed}
+use Rattle.promises.specs.Paper.World.{noCall, noAnswer, found, signed, Highest}
+use Rattle.promises.specs.Paper.Rows.{slotsOf}
 use Rattle.promises.specs.Paper.Settling.{IsOther}
 
 -- thread i's record between two steps
@@ -132,12 +134,17 @@ doneRow m c n x d f =
       step = n;
     }
 
--- a record whose mailbox call, woken by the cause c in the step n, was tried again and sleeps again, "with its FULL timeout"
-abbrev pub againRow : Step → ℕ → Thread → ℕ → ℕ → Thread
-againRow s i a c n =
+-- where a mailbox call sleeps: "the thread sleeps on its side's queue"
+pub data SideOf (c : Call) : ℕ → Type 0 where
+  writers : IsPost (c .kind) → SideOf c (28 + c .object)
+  readers : c .kind ≡ 17 → SideOf c (32 + c .object)
+
+-- a record whose mailbox call, woken with 0 by the cause c in the step n, was tried again and sleeps again at the place p, "with its FULL timeout"
+abbrev pub againRow : Step → ℕ → Thread → ℕ → ℕ → ℕ → Thread
+againRow s i a p c n =
     record {
       state = 3;
-      place = a .place;
+      place = p;
       remaining = cond (eqb (a .call .timeout) 4294967295) 0 (a .call .timeout);
       pending = heard s i a;
       awaited = a .awaited;
@@ -163,7 +170,7 @@ pub data SleeperAfter (t : Tables) (s : Step) (i : ℕ) (b : Thread) (woken fini
       → woken ≡ true → finished ≡ true → SleeperAfter t s i b woken finished
   -- it was made ready with 0, and its mailbox call, tried again, sleeps again at the same place
   again : (c : ℕ) → IsMailing (rowOf t i .call .kind) → WokenBy t s i (rowOf t i) (pos 0) c
-      → b ≡ againRow s i (rowOf t i) c (found t .step) → woken ≡ true → finished ≡ false → SleeperAfter t s i b woken finished
+      → b ≡ againRow s i (rowOf t i) (rowOf t i .place) c (found t .step) → woken ≡ true → finished ≡ false → SleeperAfter t s i b woken finished
 
 -- a ready record as it was, once flags of the step have come
 abbrev pub readyOn : Step → ℕ → Thread → Thread
@@ -188,9 +195,19 @@ pub data ReadyAfter (t : Tables) (s : Step) (i : ℕ) (b : Thread) (woken finish
   -- its call finished, with the answer that follows from the message with which it was woken
   done : (x : ℤ) (d f : ℕ) → AnswerOf (rowOf t i) (heard s i (rowOf t i)) (rowOf t i .message) x d f
       → b ≡ doneRow (rowOf t i .message) (rowOf t i .cause) (rowOf t i .step) x d f → woken ≡ false → finished ≡ true → ReadyAfter t s i b woken finished
-  -- its mailbox call was tried again, and slept again in this step; whether it sleeps still or not, the call is the same or none
-  tried : IsMailing (rowOf t i .call .kind) → rowOf t i .message ≡ pos 0 → b .pending ≡ heard s i (rowOf t i)
-      → (b .call ≡ rowOf t i .call) ⊎ (b .call ≡ noCall) → ReadyAfter t s i b woken finished
+  -- its mailbox call was tried again, and sleeps again at its own side
+  again : (p : ℕ) → SideOf (rowOf t i .call) p → rowOf t i .message ≡ pos 0 → b ≡ againRow s i (rowOf t i) p (rowOf t i .cause) (rowOf t i .step)
+      → woken ≡ false → finished ≡ false → ReadyAfter t s i b woken finished
+  -- it slept there again, and was made ready once more, by a mailbox call that serves that side; it is not continued since
+  ready-again : (p c : ℕ) → SideOf (rowOf t i .call) p → rowOf t i .message ≡ pos 0 → Served t s 3 p (pos 0) c
+      → b ≡ wokenRow s i (rowOf t i) (pos 0) c (found t .step) noAnswer → woken ≡ true → finished ≡ false → ReadyAfter t s i b woken finished
+  -- or it finished then, with the answer that follows
+  done-again : (p c : ℕ) (x : ℤ) (d : ℕ) → SideOf (rowOf t i .call) p → rowOf t i .message ≡ pos 0 → Served t s 3 p (pos 0) c
+      → AnswerOf (rowOf t i) (heard s i (rowOf t i)) (pos 0) x d (heard s i (rowOf t i))
+      → b ≡ doneRow (pos 0) c (found t .step) x d (heard s i (rowOf t i)) → woken ≡ true → finished ≡ true → ReadyAfter t s i b woken finished
+  -- or was tried once more then, and sleeps there again
+  slept-again : (p c : ℕ) → SideOf (rowOf t i .call) p → rowOf t i .message ≡ pos 0 → Served t s 3 p (pos 0) c
+      → b ≡ againRow s i (rowOf t i) p c (found t .step) → woken ≡ true → finished ≡ false → ReadyAfter t s i b woken finished
 
 -- where the step's own call waits, if it does: the state, and the place
 pub data OwnWait (s : Step) : ℕ → ℕ → Type 0 where
@@ -221,3 +238,30 @@ pub record FellAsleep (now : SystemTime) (s : Step) (b : Thread) : Type 0 where
   pub kind : b .call .kind ≡ s .kind
   pub timeout : b .call .timeout ≡ spanOf now s
   pub ticks : b .remaining ≡ cond (eqb (spanOf now s) 4294967295) 0 (spanOf now s)
+
+-- ---- who must be woken
+
+-- the step s makes all ready who wait at a place: "all waiters are made ready", "releases both queues"
+pub data ReleasesAll (s : Step) : ℕ → Type 0 where
+  reset : s .kind ≡ 4 → ReleasesAll s (s .object)
+  release : s .kind ≡ 8 → ReleasesAll s (20 + s .object)
+  writers : s .kind ≡ 18 → ReleasesAll s (28 + s .object)
+  readers : s .kind ≡ 18 → ReleasesAll s (32 + s .object)
+
+-- the step s makes ready who is first at a place: "the highest-priority waiter is made ready"; a post with room and a fetch with a message
+-- each "releases the first of the other side's waiters". A binary signal signals where somebody waits, for the counter is below 0 then
+pub data ReleasesFirst (t : Tables) (s : Step) : ℕ → Type 0 where
+  signal : (s .kind ≡ 3) ⊎ (s .kind ≡ 5) → ReleasesFirst t s (s .object)
+  release : s .kind ≡ 7 → ReleasesFirst t s (20 + s .object)
+  object : (s .kind ≡ 21) ⊎ (s .kind ≡ 22) → ReleasesFirst t s (16 + s .object)
+  post : IsPost (s .kind) → found t .box (s .object) .reset ≡ 0 → found t .box (s .object) .positions .count < slotsOf (found t) (s .object)
+      → ReleasesFirst t s (32 + s .object)
+  fetch : s .kind ≡ 17 → found t .box (s .object) .reset ≡ 0 → 0 < found t .box (s .object) .positions .count → ReleasesFirst t s (28 + s .object)
+
+-- the accepted step s makes thread i ready, whatever goes on while it settles
+pub data Due (t : Tables) (s : Step) (i : ℕ) : Type 0 where
+  last-tick : s .kind ≡ 1 → rowOf t i .remaining ≡ 1 → Due t s i
+  events : s .kind ≡ 13 → s .object ≡ i → rowOf t i .state ≡ 4 → bitAnd (bitOr (rowOf t i .pending) (s .a)) (rowOf t i .awaited) ≢ 0 → Due t s i
+  resume : s .kind ≡ 10 → rowOf t i .state ≡ 2 → rowOf t i .place ≡ s .object → Due t s i
+  all : (p : ℕ) → ReleasesAll s p → rowOf t i .state ≡ 3 → rowOf t i .place ≡ p → Due t s i
+  first : (p : ℕ) → ReleasesFirst t s p → Highest (found t) p i → Due t s i

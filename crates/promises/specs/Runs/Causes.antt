@@ -14,9 +14,9 @@ use Rattle.library.specs.declared.calls.Step.{Step}
 use Rattle.library.specs.declared.tables.Tables.{Tables}
 use Rattle.promises.specs.Paper.World.{World, found, readyWith, callEnded}
 use Rattle.promises.specs.Paper.Rows.{pendingTo}
-use Rattle.promises.specs.Paper.Waking.{rowOf, IsMailing, Served, CalledOut, SleeperAfter, OwnWait}
+use Rattle.promises.specs.Paper.Waking.{rowOf, IsMailing, Served, CalledOut, SleeperAfter, OwnWait, SideOf}
 use Rattle.promises.specs.Paper.Causes.{FallsAt, Wakes, whyOf, WhyAfter}
-use Rattle.promises.specs.Runs.Keeping.{SideOf, KeepsOn, KeepsAct}
+use Rattle.promises.specs.Runs.Keeping.{KeepsOn, KeepsAct}
 use Rattle.promises.specs.Runs.OneRow.{Steady, row-on, row-act}
 use Rattle.promises.specs.Runs.Passing.{Passed, found-passed, ticks-passed, events-passed}
 use Rattle.promises.specs.Runs.Sleepers.{not-side}

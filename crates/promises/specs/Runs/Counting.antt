@@ -25,6 +25,7 @@ use Rattle.promises.specs.Paper.History.{
   shownBy,
   those,
   isOf,
+  inTurn,
   Shown,
   History,
   gathered,
@@ -147,7 +148,8 @@ pub data Few : List Moment → Type 0 where
 -- A RUN: a sum over its history is one over what the results show
 pub total-history : (f : Event → ℕ) {n : ℕ} {ms : List Moment} {es : List Event} → Few ms → History n ms es → total f es ≡ total f (shownIn n ms)
 total-history f Few.none History.none = refl
-total-history f {n} (Few.more {m} {ms} few fs) (History.more es gs s o h) =
+total-history f {n} (Few.more {m} {ms} few fs) (History.more is gs turns s o h) =
+    let es = inTurn (shownBy n m) is in
     total-append f es gs
     ∙ sym (total-append f (shown n m) (shownIn (suc n) ms) ∙ rw (sym (total-shown f n m es few s), sym (total-history f fs h)))
 
@@ -187,14 +189,16 @@ module _ (p : Event) where
   -- no event of a history is of an earlier step
   history-later : {n : ℕ} {ms : List Moment} {es : List Event} → p .step < n → History n ms es → times p es ≡ 0
   history-later l History.none = refl
-  history-later {n} l (History.more {m = m} es fs s o h) =
+  history-later {n} l (History.more {m = m} is fs turns s o h) =
+      let es = inTurn (shownBy n m) is in
       let rest = history-later (omega (arith, l)) h in
       let both = total-append (each is-p) es fs in
       elim (moment-once n m es s) [ inl z ↦ omega (arith, both, z, rest) | inr z ↦ absurd (omega (arith, l, z .1)) ]
 
   pub history-once : {n : ℕ} {ms : List Moment} {es : List Event} → History n ms es → times p es ≤ 1
   history-once History.none = omega arith
-  history-once {n} (History.more {m = m} es fs s o h) =
+  history-once {n} (History.more {m = m} is fs turns s o h) =
+      let es = inTurn (shownBy n m) is in
       let both = total-append (each is-p) es fs in
       elim (moment-once n m es s) [
         | inl z ↦ omega (arith, both, z, history-once h)

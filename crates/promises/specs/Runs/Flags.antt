@@ -20,7 +20,7 @@ use Rattle.promises.specs.Paper.Flags.{awaitsFlags, GoesOn, FlagsAfter}
 use Rattle.promises.specs.Runs.Keeping.{ownFlags, OwnEnd, Keeps}
 use Rattle.promises.specs.Runs.OneRow.{flagsTaken, mail-other, Stands, Steady, row-keeps}
 use Rattle.promises.specs.Runs.Passing.{Passed, found-passed, ticks-passed, events-passed}
-use Rattle.promises.specs.Runs.Sleepers.{no-event, called-state}
+use Rattle.promises.specs.Runs.Sleepers.{no-event, called-state, not-side}
 
 -- ---- any thread but the caller
 
@@ -57,7 +57,11 @@ module _ (t : Tables) (s : Step) (i : ℕ) (apart : s .caller ≢ i) where
   ready-flags z (ReadyAfter.on e p q) = unfinished (ap (λ (u : Thread). u .pending) e) q
   ready-flags z {b} {w} {f} (ReadyAfter.done x d g h e p q) =
       answered b f (a .message) q (λ k. GoesOn.woken apart z k) h (ap (λ (u : Thread). u .pending) e) (ap (λ (u : Thread). u .answer) e)
-  ready-flags z {b} {w} {f} (ReadyAfter.tried g m p c) = FlagsAfter.stays (no-wait (mail-other g .0) f) p
+  ready-flags z (ReadyAfter.again pl side m e p q) = unfinished (ap (λ (u : Thread). u .pending) e) q
+  ready-flags z (ReadyAfter.ready-again pl c side m by e p q) = unfinished (ap (λ (u : Thread). u .pending) e) q
+  ready-flags z {b} {w} {f} (ReadyAfter.done-again pl c x d side m by h e p q) =
+      FlagsAfter.stays (no-wait (λ k. not-side k (λ y. omega arith) (λ y. omega arith) (λ y. omega arith) side) f) (ap (λ (u : Thread). u .pending) e)
+  ready-flags z (ReadyAfter.slept-again pl c side m by e p q) = unfinished (ap (λ (u : Thread). u .pending) e) q
 
   -- and of whom slept
   pub sleeper-flags : {b : Thread} {w f : Bool} → SleeperAfter t s i b w f → FlagsAfter t s i b f

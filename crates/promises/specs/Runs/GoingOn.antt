@@ -4,6 +4,7 @@ use Prim.Native.Nat.{ℕ, zero, suc, _<_}
 use native.Mathlib.Omega.{arith}
 use mathlib.Core.Path.{_≡_, refl, sym, ap, _∙_, subst}
 use mathlib.Core.Logic.{_≢_, _⊎_, inl, inr}
+use mathlib.Core.List.{List}
 use mathlib.Core.Bool.{true, false}
 use lib.Dec.{eqb}
 use lib.IntN.{ℤ, pos, negsuc}
@@ -43,7 +44,7 @@ use Rattle.promises.specs.Meant.Only.{first-only, running-only}
 use Rattle.promises.specs.Meant.Step.{step-is}
 
 -- settling ends where the first ready thread has no unfinished call
-settled-there : {x w : World} (i : ℕ) → Settles x w → First w i → w .thread i .call .kind ≡ 0 → x ≡ w
+settled-there : {x w : World} {is : List ℕ} (i : ℕ) → Settles x w is → First w i → w .thread i .call .kind ≡ 0 → x ≡ w
 settled-there i (Settles.ends a e) f z = e
 settled-there {x} {w} i (Settles.goes j g n v c l) f z =
     absurd (n (subst (λ (k : ℕ). w .thread k .call .kind ≡ 0) (first-only w i j f g) z))
@@ -141,7 +142,7 @@ module _ (i : ℕ) (someone : i ≢ 255) where
   own-goes {w} k f (Continued.answers z e) = subst Goes (sym e) (ended-goes w (w .thread i .message) 0 f)
 
   -- SETTLING FINISHES IT ONLY IF IT RUNS THEN
-  settles-running : {x w : World} → Settles x w → Waiting w → x .finished i ≡ true → First x i
+  settles-running : {x w : World} {is : List ℕ} → Settles x w is → Waiting w → x .finished i ≡ true → First x i
   settles-running {x} {w} (Settles.ends a e) g q = contrary (sym (ap (λ (y : World). y .finished i) e) ∙ q) (g .unfinished)
   settles-running {x} {w} (Settles.goes j f n v c l) g q =
       same-or i j
@@ -233,7 +234,7 @@ module _ (t : Tables) (c : Clock) (s : Step) (host : Host t c s) (e : stepped t 
   first-caller : s .caller ≡ i → First (found t) i
   first-caller z = subst (First (found t)) z (caller-first t c s host e (rw z me))
 
-  module _ (w x : World) (act : Act t (c .time) s w (s .kind)) (settles : Settles x w) (finished : x .finished i ≡ true) where
+  module _ (w x : World) (is : List ℕ) (act : Act t (c .time) s w (s .kind)) (settles : Settles x w is) (finished : x .finished i ≡ true) where
     own-first : s .caller ≡ i → s .kind ≡ 14 → First x i
     own-first z k =
         elim (own-act t s i me z (first-caller z) (subst (Act t (c .time) s w) k act)) [
@@ -257,6 +258,6 @@ module _ (t : Tables) (c : Clock) (s : Step) (host : Host t c s) (e : stepped t 
     where
       by : StepOf t c s (stepped t c s) → stepped t c s .outcome .running ≡ i
       by (StepOf.refused n b f r) = absurd (unbroken t c s host e n b)
-      by (StepOf.accepted b w x act settles l u d r) =
+      by (StepOf.accepted b w x is act settles l u d r) =
           let f = sym (bit-in (stepped t c s .outcome .finished) i (x .finished i) (r .finished i)) ∙ q in
-          running-only x (stepped t c s .outcome .running) i (r .running) (Running.thread (is-first w x act settles f a))
+          running-only x (stepped t c s .outcome .running) i (r .running) (Running.thread (is-first w x is act settles f a))

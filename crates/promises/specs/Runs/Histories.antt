@@ -11,7 +11,7 @@ use lib.IntN.{ℤ, pos, negsuc}
 use lib.ListN.{length, getD}
 use lib.Seq.{getD-set-same, getD-set-other}
 use lib.Signed.{ltZ}
-use borrow.Author.Tests.{ne-eqb, lt-ltb, le-ltb}
+use borrow.Author.Tests.{eq-eqb, ne-eqb, lt-ltb, le-ltb}
 use Rattle.kernel.specs.declared.clock.Clock.{Clock}
 use Rattle.kernel.specs.declared.records.Call.{Call}
 use Rattle.kernel.specs.Tables.{threadAt}
@@ -27,14 +27,14 @@ use Rattle.steps.specs.declared.stepping.Stepped.{Stepped}
 use Rattle.steps.specs.Stepping.{budgetOf, outcomeOf, doneWith, started, stepped}
 use Rattle.steps.proofs.StepLaws.{step-refused}
 use Rattle.promises.specs.Paper.World.{World, found, boxTo, poolTo, ended, signed, kept, First}
-use Rattle.promises.specs.Paper.Host.{Host, HostSteps}
+use Rattle.promises.specs.Paper.Host.{Host, HostStep, HostSteps}
 use Rattle.promises.specs.Paper.Rows.{Waits, SemaphoreWait, EventWait, slotsOf, inReset, atWork, onTop, Alloc, Post, Fetch, Act}
 use Rattle.promises.specs.Paper.Settling.{IsOther, Continued}
 use Rattle.promises.specs.Paper.Refusals.{KernelWait, BoxWait, Broken}
 use Rattle.promises.specs.Paper.Together.{number, larger, isPromised, isZero}
 use Rattle.promises.specs.Paper.Waking.{IsPost, inMask}
 use Rattle.promises.specs.Paper.Run.{Moment}
-use Rattle.promises.specs.Paper.History.{Event, isCounted, eventsOf, those, Shown, isOwn, OwnFirst, History}
+use Rattle.promises.specs.Paper.History.{Event, isCounted, eventsOf, shownBy, those, isOf, Turns, inTurn, Shown, isOwn, OwnFirst, History}
 use Rattle.promises.specs.Paper.Ledger.{messageAt, inBox, markIn}
 use Rattle.promises.specs.Together.Good.{CallKind}
 use Rattle.promises.specs.Kept.PoolKept.{pop-kept}
@@ -43,7 +43,8 @@ use Rattle.promises.specs.Meant.Together.{fit-paper}
 use Rattle.promises.specs.Meant.Pools.{promise-stocked}
 use Rattle.promises.specs.Meant.Moves.{worldOf, found-is}
 use Rattle.promises.specs.Meant.Calls.{good, few}
-use Rattle.promises.specs.Meant.Step.{settled-keeps, result-is, h, begun-whole, acted-whole, settled-whole, own}
+use Rattle.promises.specs.Meant.Settling.{turns}
+use Rattle.promises.specs.Meant.Step.{settled-turns, settles-so, result-is, h, order, begun-whole, acted-whole, settled-whole, own}
 use Rattle.promises.specs.Runs.Answers.{step-done}
 use Rattle.promises.specs.Runs.Keeping.{put-same, put-other}
 use Rattle.promises.specs.Runs.Run.{ran}
@@ -54,7 +55,7 @@ use Rattle.promises.specs.Runs.Accounts.{not-zero}
 use Rattle.promises.specs.Runs.Dealing.{those-append, Dealt, dealt-still, dealt-none, dealt-as, dealt-both, dealt-reset, dealt-freed, dealt-added}
 use Rattle.promises.specs.Runs.Deeds.{Calm, calm-same, counter-calm, ticks-calm, release-calm, release-all-calm, signal-calm, binary-calm, resume-calm, event-calm, calm-on, answerOf, Fit, Own, Does, does-as, does-to, no-event, uncounted, ends-does, ends-calm, sleeps-does, waits-does, took-does, post-does, fetch-does, take-does}
 use Rattle.promises.specs.Runs.Boxes.{content}
-use Rattle.promises.specs.Runs.Seen.{own-call, callIn, Seen, act-seen, seen-on}
+use Rattle.promises.specs.Runs.Seen.{turns-same, did-own, own-call, callIn, Seen, act-seen, seen-on, turn-on}
 
 -- ---- a continued call
 
@@ -160,6 +161,13 @@ continued-not-own n t p w i f call x es (Own.over e g z) = rw e (one (isCounted 
 continued-not-own n t p w i f call x es (Own.on e m g z) = rw e
 
 -- ---- ONE STEP
+
+-- the events of a moment from w to x, by these turns
+record OfMoment (n : ℕ) (m : Moment) (is : List ℕ) (w x : World) : Type 0 where
+  pub turns : Turns m is
+  pub shown : Shown n m (inTurn (shownBy n m) is)
+  pub own-first : OwnFirst (inTurn (shownBy n m) is)
+  pub dealt : Dealt w (inTurn (shownBy n m) is) x
 
 module _ (n : ℕ) (t : Tables) (c : Clock) (s : Step) (host : Host t c s) (e : stepped t c s .outcome .code ≡ 0) where
   ok : (m : ℕ) → Broken t c s m → ⊥
@@ -381,37 +389,48 @@ module _ (n : ℕ) (t : Tables) (c : Clock) (s : Step) (host : Host t c s) (e : 
   act-does q x (Act.add v b h z) = add-does (inr q) v (signal-calm h) x q z
 
   -- the step's own call, and then each that is continued
-  abbrev Told : World → Type 0
-  Told x = (es : List Event) × Dealt w₀ es x × Seen n t s x es × OwnFirst es
+  abbrev pub Told : World → List ℕ → Type 0
+  Told x is = (es : List Event) × Dealt w₀ es x × Seen n t s x es × OwnFirst es × (es ≡ inTurn (λ i. those (isOf i) es) is)
 
-  act-told : Told (worldOf (acted (started t s) (c .time) s))
+  pub act-told : Told (worldOf (acted (started t s) (c .time) s)) (j ∷ [])
   act-told =
       let x = worldOf (acted (started t s) (c .time) s) in
       let d = act-does refl x (act t c s host e) in
-      (d .0, d .1 .dealt, act-seen n t s (λ z. caller-first t c s host e z .thread) x (d .0) (d .1), own-first n t j mine w₀ x (d .0) (d .1 .own))
+      let mine-alone = did-own n t j mine w₀ x (d .0) (d .1 .own) in (
+        d .0,
+        d .1 .dealt,
+        act-seen n t s (λ z. caller-first t c s host e z .thread) x (d .0) (d .1),
+        own-first n t j mine w₀ x (d .0) (d .1 .own),
+        sym (append-nil (those (isOf j) (d .0)) ∙ mine-alone),
+      )
 
-  continue-told : (p : Plant) → Whole (p .sizes) p → (i : ℕ) → First (worldOf p) i → threadAt (p .kernel) i .call .kind ≢ 0 → (x : World)
-      → Continued (worldOf p) i x → Told (worldOf p) → Told x
-  continue-told p w i f call x g (es, d, seen, firsts) =
+  pub continue-told : (p : Plant) → Whole (p .sizes) p → (i : ℕ) → First (worldOf p) i → threadAt (p .kernel) i .call .kind ≢ 0 → (x : World)
+      → Continued (worldOf p) i x → (is : List ℕ) → Told (worldOf p) is → Told x (is ++ (i ∷ []))
+  continue-told p w i f call x g is (es, d, seen, firsts, so) =
       let k = continued-does n t p w i f call x g in
       let inside : i < t .sizes .threads = rw (d .sizes) at (f .thread) in (
         es ++ k .0,
         dealt-both w₀ (worldOf p) x es (k .0) d (k .1 .dealt),
         seen-on n t s (worldOf p) x es (k .0) seen i (a-thread n t p w i f call) inside call (k .1),
         first-on es (k .0) firsts (continued-not-own n t p w i f call x (k .0) (k .1 .own)),
+        turn-on n t s (worldOf p) x es (k .0) seen i (a-thread n t p w i f call) inside call (k .1) is so,
       )
 
   abbrev x₁ : World
   x₁ = worldOf (h t c s host)
 
-  step-told : Told x₁
+  -- whose turns they are
+  abbrev by-turns : List ℕ
+  by-turns = j ∷ order t c s host
+
+  step-told : Told x₁ by-turns
   step-told =
-      settled-keeps Told continue-told (budgetOf (t .sizes .threads)) (acted (started t s) (c .time) s)
-      (own t c s host (accepted t c s host e) (acted-whole t c s host (accepted t c s host e))) act-told
+      settled-turns Told continue-told (budgetOf (t .sizes .threads)) (acted (started t s) (c .time) s)
+      (own t c s host (accepted t c s host e) (acted-whole t c s host (accepted t c s host e))) (j ∷ []) act-told
 
   -- what is seen in the world where settling has ended is what the result shows
   abbrev ending : Stepped → Moment
-  ending r = record { before = t; step = s; result = r .outcome; after = r .tables }
+  ending r = record { before = t; clock = c; step = s; result = r .outcome; after = r .tables }
 
   done-shown : (es : List Event) → Seen n t s x₁ es → Shown n (ending (doneWith (h t c s host) c s)) es
   unfolding doneWith outcomeOf
@@ -432,17 +451,23 @@ module _ (n : ℕ) (t : Tables) (c : Clock) (s : Step) (host : Host t c s) (e : 
       shown-interrupt = split (eqb j 255) (λ z. rw z) (λ z. rw z)
 
   -- ALL THAT AN ACCEPTED STEP DOES
-  pub accepted-told : (es : List Event) × Shown n (momentOf t c s) es × OwnFirst es × Dealt w₀ es (found (stepped t c s .tables))
+  accepted-told : OfMoment n (momentOf t c s) by-turns (found t) (found (stepped t c s .tables))
   unfolding doneWith
   accepted-told =
       let es = step-told .0 in
       let k = h t c s host in
-      let back = sym (step-done t c s e) in (
-        es,
-        subst (λ (r : Stepped). Shown n (ending r) es) back (done-shown es (step-told .2)),
-        step-told .3,
-        subst (λ (r : Stepped). Dealt w₀ es (found (r .tables))) back (dealt-as w₀ x₁ (found (closed k)) es refl refl refl (step-told .1)),
-      )
+      let m = momentOf t c s in
+      let back = sym (step-done t c s e) in
+      let shown : Shown n m es = subst (λ (r : Stepped). Shown n (ending r) es) back (done-shown es (step-told .2)) in
+      let dealt : Dealt w₀ es (found (stepped t c s .tables)) =
+      subst (λ (r : Stepped). Dealt w₀ es (found (r .tables))) back (dealt-as w₀ x₁ (found (closed k)) es refl refl refl (step-told .1)) in
+      let so : es ≡ inTurn (shownBy n m) by-turns = step-told .4 ∙ turns-same (λ i. those (isOf i) es) (shownBy n m) shown by-turns in
+      record {
+        turns = Turns.accepted e (worldOf (acted (started t s) (c .time) s)) x₁ (order t c s host) (act t c s host e) (settles-so t c s host (accepted t c s host e));
+        shown = subst (Shown n m) so shown;
+        own-first = subst OwnFirst so (step-told .3);
+        dealt = subst (λ (fs : List Event). Dealt w₀ fs (found (stepped t c s .tables))) so dealt;
+      }
 
   -- and no bit of the result stands for anybody but a thread
   pub finished-within : (i : ℕ) → i ≢ 255 → t .sizes .threads ≤ i → inMask i (stepped t c s .outcome .finished) ≡ false
@@ -458,19 +483,46 @@ module _ (n : ℕ) (t : Tables) (c : Clock) (s : Step) (host : Host t c s) (e : 
 refused-shown : (n : ℕ) (m : Moment) → m .result .code ≢ 0 → Shown n m []
 refused-shown n m d i = rw (ne-eqb (m .result .code) 0 d)
 
-pub recorded : (ss : List Step) → HostSteps ss → (n : ℕ) (t : Tables) (c : Clock) → Going t c
-    → (es : List Event) × History n (moments t c ss) es × Dealt (found t) es (found (ran t c ss .tables))
-unfolding moments ran
-recorded [] hs n t c g = ([], History.none, dealt-none (found t) (found t) refl refl refl)
-recorded (s ∷ ss) (HostSteps.more x hs) n t c g =
+-- whose calls are at work in a step, in their order
+unfoldable pub turnsOf : Tables → Clock → Step → List ℕ
+turnsOf t c s =
+    cond (eqb (stepped t c s .outcome .code) 0) (s .caller ∷ turns (budgetOf (t .sizes .threads)) (acted (started t s) (c .time) s)) []
+
+-- THE EVENTS OF A RUN, its first step the n-th, computed
+unfoldable pub eventsIn : ℕ → Tables → Clock → List Step → List Event
+eventsIn n t c [] = []
+eventsIn n t c (s ∷ ss) =
+    inTurn (shownBy n (momentOf t c s)) (turnsOf t c s) ++ eventsIn (suc n) (stepped t c s .tables) (stepped t c s .clock) ss
+
+step-recorded : (n : ℕ) (t : Tables) (c : Clock) → Going t c → (s : Step) → HostStep s
+    → OfMoment n (momentOf t c s) (turnsOf t c s) (found t) (found (stepped t c s .tables))
+unfolding turnsOf
+step-recorded n t c g s x =
+    let m = momentOf t c s in
     let u = stepped t c s .tables in
-    let rest = recorded ss hs (suc n) u (stepped t c s .clock) (going-on t c g s x) in
-    let end = found (ran u (stepped t c s .clock) ss .tables) in
-    let go : (es : List Event) × Shown n (momentOf t c s) es × OwnFirst es × Dealt (found t) es (found u)
-    → (es : List Event) × History n (momentOf t c s ∷ moments u (stepped t c s .clock) ss) es × Dealt (found t) es end =
-    λ a. (a .0 ++ rest .0, History.more (a .0) (rest .0) (a .1) (a .2) (rest .1), dealt-both (found t) (found u) end (a .0) (rest .0) (a .3) (rest .2)) in
     same-or (stepped t c s .outcome .code) 0
-    (λ e. go (accepted-told n t c s (host t c g s x) e))
+    (λ e. rw (eq-eqb (stepped t c s .outcome .code) 0 e) (accepted-told n t c s (host t c g s x) e))
     (λ d.
     let same : u ≡ t = step-refused t c s d .tables in
-    go ([], refused-shown n (momentOf t c s) d, OwnFirst.none, subst (λ (v : Tables). Dealt (found t) [] (found v)) (sym same) (dealt-none (found t) (found t) refl refl refl)))
+    rw (ne-eqb (stepped t c s .outcome .code) 0 d)
+    (record {
+      turns = Turns.refused d;
+      shown = refused-shown n m d;
+      own-first = OwnFirst.none;
+      dealt = subst (λ (v : Tables). Dealt (found t) [] (found v)) (sym same) (dealt-none (found t) (found t) refl refl refl);
+    }))
+
+-- are its history, and make of mailboxes and pools what it makes of them
+pub recorded : (ss : List Step) → HostSteps ss → (n : ℕ) (t : Tables) (c : Clock) → Going t c
+    → History n (moments t c ss) (eventsIn n t c ss) × Dealt (found t) (eventsIn n t c ss) (found (ran t c ss .tables))
+unfolding moments ran eventsIn
+recorded [] hs n t c g = (History.none, dealt-none (found t) (found t) refl refl refl)
+recorded (s ∷ ss) (HostSteps.more x hs) n t c g =
+    let u = stepped t c s .tables in
+    let d = stepped t c s .clock in
+    let rest = recorded ss hs (suc n) u d (going-on t c g s x) in
+    let now = step-recorded n t c g s x in
+    let es = inTurn (shownBy n (momentOf t c s)) (turnsOf t c s) in (
+      History.more (turnsOf t c s) (eventsIn (suc n) u d ss) (now .turns) (now .shown) (now .own-first) (rest .0),
+      dealt-both (found t) (found u) (found (ran u d ss .tables)) es (eventsIn (suc n) u d ss) (now .dealt) (rest .1),
+    )

@@ -51,7 +51,7 @@ use Rattle.promises.specs.Paper.Rows.{
   Act,
 }
 use Rattle.promises.specs.Paper.Settling.{IsOther, Continued}
-use Rattle.promises.specs.Paper.Waking.{IsPost, IsMailing, Tried, Served, CalledOut, OwnWait}
+use Rattle.promises.specs.Paper.Waking.{IsPost, IsMailing, Tried, Served, CalledOut, OwnWait, SideOf}
 
 -- ---- one entry of a table, and the others
 
@@ -78,11 +78,6 @@ pub data Ends (b : Thread) : ℤ → ℕ → Type 0 where
   in-reset : IsMailing (b .call .kind) → b .message ≡ pos 0 → Ends b (negsuc 1) 0
   posted : IsPost (b .call .kind) → b .message ≡ pos 0 → Ends b (pos 0) 0
   fetched : b .call .kind ≡ 17 → b .message ≡ pos 0 → (x : ℕ) → Ends b (pos 0) x
-
--- a mailbox call sleeps at its side's queue
-pub data SideOf (c : Call) : ℕ → Type 0 where
-  writers : IsPost (c .kind) → SideOf c (28 + c .object)
-  readers : c .kind ≡ 17 → SideOf c (32 + c .object)
 
 -- P is kept by each move that the step's own act and a continued call share; C is who calls out a thread, by its state and place
 pub record Moves (t : Tables) (s : Step) (C : ℕ → ℕ → ℤ → ℕ → Type 0) (P : World → Type 0) : Type 0 where

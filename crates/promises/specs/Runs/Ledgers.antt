@@ -22,13 +22,14 @@ use Rattle.promises.specs.Paper.Pipes.{listed}
 use Rattle.promises.specs.Paper.Together.{number, larger, listings, isPromised}
 use Rattle.promises.specs.Paper.Run.{Moment}
 use Rattle.promises.specs.Paper.History.{Event, those, History, shownIn, total, posted, fetched, added, each, lostAt}
-use Rattle.promises.specs.Paper.Ledger.{messageAt, Ledger, postings, noPostings, opened, ledger, values, BoxTold, Standing, standing, markIn, markOf, standingAt, standingIn, isFree, isOut, wasAdded, freeIn, Accounted}
+use Rattle.promises.specs.Paper.Ledger.{messageAt, Ledger, postings, noPostings, opened, ledger, values, BoxTold, EachOnce, Standing, standing, markIn, markOf, standingAt, standingIn, isFree, isOut, wasAdded, freeIn, Accounted}
 use Rattle.promises.specs.Runs.Run.{ran}
 use Rattle.promises.specs.Runs.Pipes.{length-listed}
 use Rattle.promises.specs.Runs.Moments.{moments, Going, going-on}
 use Rattle.promises.specs.Runs.Dealing.{Dealt, total-append, values-append, values-length}
-use Rattle.promises.specs.Runs.Histories.{recorded}
+use Rattle.promises.specs.Runs.Histories.{eventsIn, recorded}
 use Rattle.promises.specs.Runs.Counting.{length-those, Few, total-history, posted-once, ledger-whole, total-one}
+use Rattle.promises.specs.Runs.Pairing.{paired}
 use Rattle.promises.specs.Runs.Objects.{free-listed, added-sum, free-or-out}
 use Rattle.promises.specs.Together.Hanging.{all-blank}
 
@@ -153,21 +154,27 @@ module _ (ss : List Step) (hs : HostSteps ss) (t : Tables) (c : Clock) (g : Goin
           (λ o l. absent-of (standing q o (standingIn t q o) es) (object-is o ∙ mark-past u (ran t c ss .clock) then q still o l))
           ∙ free-or-out 32 (λ o. standing q o (standingIn t q o) es) (markIn (found u) q) (λ o l. right o) (λ o l. object-is o)
 
+    -- each posting once
+    once-is : (b : ℕ) → EachOnce b (opened t b .present) es (ledger b (opened t b) es)
+    once-is b =
+        record {
+          kept = λ p.
+              let is-p : Event → ℕ = each (λ e. eqb (e .step) (p .step) && eqb (e .who) (p .who)) in
+              let k = ledger b (opened t b) es in
+              let all : total is-p (k .given) + total is-p (k .lost) + total is-p (k .present)
+              ≡ total is-p [] + total is-p [] + total is-p (opened t b .present) + total is-p (those (posted b) es) = ledger-whole is-p b (opened t b) es in
+              all ∙ sym (total-append is-p (opened t b .present) (those (posted b) es) ∙ omega arith);
+          once = λ p. posted-once p (found t) b (found t .box b .positions .count) hist;
+        }
+
     account : Accounted (t .sizes) (opened t) (standingIn t) ms u
     account =
         record {
           events = es;
           history = hist;
           box-told = box-is;
-          box-once = λ b there. record {
-            kept = λ p.
-                let is-p : Event → ℕ = each (λ e. eqb (e .step) (p .step) && eqb (e .who) (p .who)) in
-                let k = ledger b (opened t b) es in
-                let all : total is-p (k .given) + total is-p (k .lost) + total is-p (k .present)
-                ≡ total is-p [] + total is-p [] + total is-p (opened t b .present) + total is-p (those (posted b) es) = ledger-whole is-p b (opened t b) es in
-                all ∙ sym (total-append is-p (opened t b .present) (those (posted b) es) ∙ omega arith);
-            once = λ p. posted-once p (found t) b (found t .box b .positions .count) hist;
-          };
+          box-once = λ b there. once-is b;
+          box-paired = λ b there. paired b (opened t b) refl refl es (box-is b there .handed) (once-is b);
           box-sum = λ b there.
               let sum = box-summed (found u) b (opened t b) es refl refl (box-is b there) in
               omega (arith, sum, seen (each (posted b)), seen (each (fetched b)), seen (lostAt b));
@@ -181,7 +188,7 @@ module _ (ss : List Step) (hs : HostSteps ss) (t : Tables) (c : Clock) (g : Goin
         }
 
   pub accounted : Accounted (t .sizes) (opened t) (standingIn t) ms u
-  accounted = let r = recorded ss hs 1 t c g in account (r .0) (r .1) (r .2)
+  accounted = let r = recorded ss hs 1 t c g in account (eventsIn 1 t c ss) (r .0) (r .1)
 
 -- FROM FRESH ONES nothing was there
 module _ (z : Sizes) (t : Tables) (f : FreshTables z t) where

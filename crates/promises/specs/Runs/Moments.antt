@@ -3,10 +3,10 @@
 use Prim.Native.Nat.{ℕ, _+_, _^_, _≤_, _<_}
 use native.Mathlib.Omega.{arith}
 use native.Mathlib.Nat.{zero-div}
-use mathlib.Core.Path.{_≡_, sym, ap, _∙_, subst}
+use mathlib.Core.Path.{_≡_, refl, sym, ap, _∙_, subst}
 use mathlib.Core.Logic.{_≢_, inl, inr}
 use mathlib.Core.Bool.{Bool, true, false, cond, _&&_}
-use mathlib.Core.List.{List, [], _∷_}
+use mathlib.Core.List.{List, [], _∷_, tail-eq-of-cons-eq}
 use lib.Dec.{eqb}
 use lib.IntN.{ℤ}
 use borrow.Author.Tests.{eq-eqb, ne-eqb}
@@ -20,24 +20,27 @@ use Rattle.steps.proofs.StepLaws.{Untouched, step-refused}
 use Rattle.promises.specs.Paper.World.{risen, found}
 use Rattle.promises.specs.Paper.Together.{TicksFit, HangTogether}
 use Rattle.promises.specs.Paper.Host.{HostTables, HostStep, Host, HostSteps}
-use Rattle.promises.specs.Paper.Waking.{rowOf, inMask, WokenBy, sleptOn, SleeperAfter, ReadyAfter, WakerAfter}
+use Rattle.promises.specs.Paper.Waking.{rowOf, inMask, WokenBy, sleptOn, SleeperAfter, ReadyAfter, WakerAfter, Due}
 use Rattle.promises.specs.Paper.Flags.{awaitsFlags, FlagsAfter}
 use Rattle.promises.specs.Paper.Causes.{causeFor, messageBy, whyOf, WhyAfter}
 use Rattle.promises.specs.Paper.Step.{ClockAfter, StepOf}
 use Rattle.promises.specs.Paper.Run.{Moment, isTick, ticksIn, signalsAt, signalsIn, joinsAt, joinsIn, higher, WokenIn, TurnOf}
+use Rattle.promises.specs.Paper.History.{Turns}
+use Rattle.promises.specs.Paper.Settling.{Settles}
 use Rattle.promises.specs.Together.Tests.{neither-means}
 use Rattle.promises.specs.Kept.Steps.{Hangs, step-hangs}
 use Rattle.promises.specs.Runs.Keeping.{queued-asleep}
 use Rattle.promises.specs.Runs.OneStep.{sizes-after, steps-after, why-after, sleeper-after, waker-after, woken-after, flags-of}
 use Rattle.promises.specs.Runs.Places.{cause-for, message-by}
 use Rattle.promises.specs.Runs.GoingOn.{goes-running}
+use Rattle.promises.specs.Runs.Due.{due-woken, woken-due, quiet-due}
 use Rattle.promises.specs.Runs.Waiters.{turns-on, waits-on, turn-of}
 use Rattle.promises.specs.Meant.Together.{rules-together, together-rules}
 use Rattle.promises.specs.Meant.Step.{host-sized, sized-host, step-is}
 
 -- a step with the tables that it finds and leaves
 abbrev pub momentOf : Tables → Clock → Step → Moment
-momentOf t c s = record { before = t; step = s; result = stepped t c s .outcome; after = stepped t c s .tables }
+momentOf t c s = record { before = t; clock = c; step = s; result = stepped t c s .outcome; after = stepped t c s .tables }
 
 -- the moments of a run
 unfoldable pub moments : Tables → Clock → List Step → List Moment
@@ -61,7 +64,7 @@ module _ (t : Tables) (c : Clock) (g : Going t c) where
 
     time-kept : StepOf t c s (stepped t c s) → stepped t c s .clock .time .0 < 4294967296
     time-kept (StepOf.refused n b f r) = rw (r .clock) (g .time)
-    time-kept (StepOf.accepted n w x a z l u d r) = by d
+    time-kept (StepOf.accepted n w x is a z l u d r) = by d
       where
         by : {d : Clock} → ClockAfter c (s .kind) d → d .time .0 < 4294967296
         by (ClockAfter.next k b e) = rw e (omega (arith, b))
@@ -220,6 +223,12 @@ pub record EachThread (m : Moment) : Type 0 where
       → WakerAfter (m .before) (m .step) i (rowOf (m .after) i) (inMask i (m .result .woken))
   pub woken-before : (i : ℕ) → i < m .before .sizes .threads → rowOf (m .before) i .state ≡ 0 → rowOf (m .before) i .call .kind ≢ 0
       → ReadyAfter (m .before) (m .step) i (rowOf (m .after) i) (inMask i (m .result .woken)) (inMask i (m .result .finished))
+  -- whoever is due is woken; and who waits at no mailbox, only then
+  pub due : (i : ℕ) → i < m .before .sizes .threads → Due (m .before) (m .step) i → inMask i (m .result .woken) ≡ true
+  pub only-due : (i : ℕ) → i < m .before .sizes .threads → rowOf (m .before) i .state ≢ 0 → (rowOf (m .before) i .state ≡ 3 → rowOf (m .before) i .place < 28)
+      → inMask i (m .result .woken) ≡ true → Due (m .before) (m .step) i
+  -- and so is everybody, where no call goes on
+  pub quiet-due : Turns m (m .step .caller ∷ []) → (i : ℕ) → i < m .before .sizes .threads → inMask i (m .result .woken) ≡ true → Due (m .before) (m .step) i
   -- of each: the cause and the number in its record are those of its last waking
   pub why : (i : ℕ) → i < m .before .sizes .threads
       → WhyAfter (m .before) (m .step) i (whyOf (rowOf (m .after) i)) (inMask i (m .result .woken))
@@ -235,6 +244,12 @@ pub data Throughout (P : Moment → Type 0) : List Moment → Type 0 where
   none : Throughout P []
   more : {m : Moment} {ms : List Moment} → (m .result .code ≡ 0 → P m) → Throughout P ms → Throughout P (m ∷ ms)
 
+quiet : (t : Tables) (c : Clock) (s : Step) (x : Host t c s) (e : stepped t c s .outcome .code ≡ 0) (i : ℕ) → i < t .sizes .threads → {is : List ℕ}
+    → Turns (momentOf t c s) is → is ≡ s .caller ∷ [] → inMask i (stepped t c s .outcome .woken) ≡ true → Due t s i
+quiet t c s x e i l (Turns.refused d) z w = absurd (d e)
+quiet t c s x e i l (Turns.accepted d v y js a k) z w =
+    quiet-due t c s x e i l v y a (subst (Settles y v) (tail-eq-of-cons-eq z) k) w
+
 pub each-step : (ss : List Step) → HostSteps ss → (t : Tables) (c : Clock) → Going t c → Throughout EachThread (moments t c ss)
 unfolding moments
 each-step [] hs t c g = Throughout.none
@@ -244,6 +259,9 @@ each-step (s ∷ ss) (HostSteps.more h hs) t c g =
       slept = sleeper-after t c s (host t c g s h) e;
       ready = waker-after t c s (host t c g s h) e;
       woken-before = woken-after t c s (host t c g s h) e;
+      due = due-woken t c s (host t c g s h) e;
+      only-due = woken-due t c s (host t c g s h) e;
+      quiet-due = λ u i l w. quiet t c s (host t c g s h) e i l u refl w;
       why = why-after t c s (host t c g s h) e;
       number = steps-after t c s (host t c g s h) e;
       flags = flags-of t c s (host t c g s h) e;

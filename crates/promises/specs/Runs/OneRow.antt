@@ -16,8 +16,8 @@ use Rattle.library.specs.declared.calls.Step.{Step}
 use Rattle.library.specs.declared.tables.Tables.{Tables}
 use Rattle.promises.specs.Paper.World.{World, found, threadTo, readyWith, madeReady, callEnded, ended, asleep, fallAsleep}
 use Rattle.promises.specs.Paper.Rows.{TickOf, Ticks, pendingTo, tookFlags, EventSignal}
-use Rattle.promises.specs.Paper.Waking.{rowOf, IsMailing, Served, CalledOut, OwnWait}
-use Rattle.promises.specs.Runs.Keeping.{put-same, put-other, Ends, SideOf, ownFlags, OwnEnd, Moves, KeepsOn, KeepsAct, Keeps}
+use Rattle.promises.specs.Paper.Waking.{rowOf, IsMailing, Served, CalledOut, OwnWait, SideOf}
+use Rattle.promises.specs.Runs.Keeping.{put-same, put-other, Ends, ownFlags, OwnEnd, Moves, KeepsOn, KeepsAct, Keeps}
 
 -- a call that ends touches no record but its own
 module _ (w : World) (j : ℕ) (m : ℤ) (d : ℕ) where

@@ -34,10 +34,10 @@ use Rattle.promises.specs.Runs.Answers.{step-done}
 use Rattle.promises.specs.Runs.Keeping.{KeepsOn, KeepsAct, Keeps, both-on, act-keeps, continue-keeps}
 use Rattle.promises.specs.Runs.Tried.{Kept, kept-keeps}
 use Rattle.promises.specs.Runs.Closed.{Closed, closed-act, closed-on}
-use Rattle.promises.specs.Runs.OneRow.{Steady, step-kept}
+use Rattle.promises.specs.Runs.OneRow.{Steady, RowOn, row-on, step-kept}
 use Rattle.promises.specs.Runs.Sleepers.{life-keeps}
 use Rattle.promises.specs.Runs.Wakers.{calm-keeps, calm-after}
-use Rattle.promises.specs.Runs.Ready.{ready-keeps}
+use Rattle.promises.specs.Runs.Ready.{ready-act, acted-after, ready-on}
 use Rattle.promises.specs.Runs.Causes.{sleeper-why, why-on, why-act}
 use Rattle.promises.specs.Runs.Flags.{ready-flags, sleeper-flags, flags-keep, caller-flags}
 use Rattle.promises.specs.Meant.Together.{rules-together}
@@ -232,12 +232,26 @@ module _ (t : Tables) (c : Clock) (s : Step) (host : Host t c s) (e : stepped t 
         subst (λ (q : Stepped). P (rowOf (q .tables) i) (inMask i (q .outcome .woken)) (inMask i (q .outcome .finished)))
         (sym (step-done t c s e)) (rw (bit-in _ i (x .woken i) (r .woken i), bit-in _ i (x .finished i) (r .finished i)) q)
 
+    -- its bit is whether it was woken
+    pub woken-is : inMask i (stepped t c s .outcome .woken) ≡ worldOf (h t c s host) .woken i
+    woken-is = told (λ b w f. w ≡ worldOf (h t c s host) .woken i) refl
+
+    -- what the act leaves of its record, and each move of a continued call keeps
+    pub row-told : (P : Thread → Bool → Bool → Type 0) → RowOn t s i someone P → P (x₀ .thread i) (x₀ .woken i) (x₀ .finished i)
+        → P (rowOf u i) (inMask i (stepped t c s .outcome .woken)) (inMask i (stepped t c s .outcome .finished))
+    row-told P k q = told P (settle-keeps (Steady t s i someone P) (row-on t s i someone P k) (act-step, q) .1)
+
     -- a thread that slept
     pub sleeper-after : rowOf t i .state ≢ 0
         → SleeperAfter t s i (rowOf u i) (inMask i (stepped t c s .outcome .woken)) (inMask i (stepped t c s .outcome .finished))
     sleeper-after n =
         told (SleeperAfter t s i)
         (step-keeps (Steady t s i someone (SleeperAfter t s i)) (life-keeps t s i someone within n (apart n) fits) .1)
+
+    -- and how it stands before settling
+    pub sleeper-acted : rowOf t i .state ≢ 0 → SleeperAfter t s i (x₀ .thread i) (x₀ .woken i) (x₀ .finished i)
+    sleeper-acted n =
+        act-keeps t s (Steady t s i someone (SleeperAfter t s i)) (life-keeps t s i someone within n (apart n) fits .act) (c .time) held refl act .1
 
     no-ticks : rowOf t i .state ≡ 0 → rowOf t i .remaining ≡ 0
     no-ticks z = none (fits .ticks)
@@ -284,7 +298,9 @@ module _ (t : Tables) (c : Clock) (s : Step) (host : Host t c s) (e : stepped t 
         → ReadyAfter t s i (rowOf u i) (inMask i (stepped t c s .outcome .woken)) (inMask i (stepped t c s .outcome .finished))
     ready-after z n =
         told (ReadyAfter t s i)
-        (step-keeps (Steady t s i someone (ReadyAfter t s i)) (ready-keeps t s i someone n z (no-ticks z) (no-place z)) .1)
+        (act-settles _ _ (ready-act t s i someone n z (no-ticks z) (no-place z) (fits .awaited))
+        (acted-after t s i someone n z (no-ticks z) (no-place z) (fits .awaited))
+        (ready-on t s i someone n z (no-ticks z) (no-place z) (fits .awaited)) .1)
 
     -- a thread that was woken before, and not continued yet
     pub woken-after : rowOf t i .state ≡ 0 → rowOf t i .call .kind ≢ 0

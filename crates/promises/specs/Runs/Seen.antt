@@ -1,11 +1,11 @@
 -- Whose events they are: in the middle of a step, of each thread those of the calls that it has finished, and of an interrupt those of the
 -- step's own call. So they stay, whichever call is continued next.
-use Prim.Native.Nat.{ℕ, _+_, _≤_, _<_}
+use Prim.Native.Nat.{ℕ, _≤_, _<_}
 use native.Mathlib.Omega.{arith}
 use mathlib.Core.Path.{_≡_, refl, sym, ap, _∙_, subst}
 use mathlib.Core.Logic.{_≢_}
-use mathlib.Core.Bool.{Bool, true, false, cond, _&&_}
-use mathlib.Core.List.{List, [], _++_, append-nil}
+use mathlib.Core.Bool.{Bool, true, false, cond, _&&_, or-true}
+use mathlib.Core.List.{List, [], _∷_, _++_, append-nil, append-assoc}
 use lib.Dec.{eqb}
 use borrow.Author.Tests.{eq-eqb, ne-eqb}
 use Rattle.kernel.specs.declared.records.Answer.{Answer}
@@ -16,10 +16,44 @@ use Rattle.library.specs.declared.tables.Tables.{Tables}
 use Rattle.promises.specs.Paper.World.{World, found, kept}
 use Rattle.promises.specs.Paper.Together.{isZero}
 use Rattle.promises.specs.Paper.Waking.{rowOf}
-use Rattle.promises.specs.Paper.History.{Event, isCounted, eventsOf, those, isOf}
+use Rattle.promises.specs.Paper.History.{Event, isCounted, eventsOf, those, isOf, isAmong, inTurn}
 use Rattle.promises.specs.Meant.Step.{own}
 use Rattle.promises.specs.Runs.Dealing.{those-append}
 use Rattle.promises.specs.Runs.Deeds.{answerOf, Own, Did}
+
+-- ---- turn by turn
+
+-- who has the last turn is among those who have one, and nobody else is for it
+among-self : (r : ℕ) (is : List ℕ) → isAmong r (is ++ (r ∷ [])) ≡ true
+among-self r [] = rw (eq-eqb r r refl)
+among-self r (i ∷ is) = rw (among-self r is) (or-true (eqb i r))
+
+among-other : (i r : ℕ) (is : List ℕ) → i ≢ r → isAmong i (is ++ (r ∷ [])) ≡ isAmong i is
+among-other i r [] d = rw (ne-eqb r i (λ z. d (sym z)))
+among-other i r (j ∷ js) d = rw (among-other i r js d)
+
+-- one turn more, of one who showed nothing so far, and nobody else shows anything new
+turn-last : (f g : ℕ → List Event) (r : ℕ) → ((i : ℕ) → i ≢ r → f i ≡ g i) → g r ≡ [] → (is : List ℕ)
+    → inTurn f (is ++ (r ∷ [])) ≡ inTurn g is ++ f r
+turn-last f g r same none [] = append-nil (f r)
+turn-last f g r same none (i ∷ is) =
+    let rest = turn-last f g r same none is in
+    same-or i r
+    (λ z.
+    subst (λ (k : ℕ). inTurn f (k ∷ (is ++ (r ∷ []))) ≡ inTurn g (k ∷ is) ++ f r) (sym z)
+    (rw (among-self r is, none, nothing (isAmong r is)) rest))
+    (λ d.
+    rw (among-other i r is d, same i d, rest)
+    (sym (append-assoc (cond (isAmong i is) [] (g i)) (inTurn g is) (f r))))
+  where
+    nothing : (b : Bool) → _≡_ {A = List Event} (cond b [] []) []
+    nothing true = refl
+    nothing false = refl
+
+-- turns of the same events
+pub turns-same : (f g : ℕ → List Event) → ((i : ℕ) → f i ≡ g i) → (is : List ℕ) → inTurn f is ≡ inTurn g is
+turns-same f g h [] = refl
+turns-same f g h (i ∷ is) = rw (h i, turns-same f g h is)
 
 module _ (n : ℕ) (t : Tables) where
   -- a call's events are its own
@@ -28,6 +62,10 @@ module _ (n : ℕ) (t : Tables) where
 
   those-other : (i j : ℕ) (c : Call) (a : Answer) → j ≢ i → those (isOf i) (eventsOf n t j c a) ≡ []
   those-other i j c a d = split (isCounted (c .kind) && isZero (a .message)) (λ e. rw (e, ne-eqb j i d)) (λ e. rw e)
+
+  pub did-own : (i : ℕ) (c : Call) (w x : World) (es : List Event) → Own n t i c w es x → those (isOf i) es ≡ es
+  did-own i c w x es (Own.over e f z) = rw e (those-own i c (answerOf x i))
+  did-own i c w x es (Own.on e m f z) = rw e
 
   -- and nobody else's
   did-other : (i j : ℕ) (c : Call) (w x : World) (es : List Event) → j ≢ i → Own n t j c w es x → those (isOf i) es ≡ []
@@ -183,3 +221,10 @@ module _ (n : ℕ) (t : Tables) (s : Step) where
           within = λ i y l.
               d .finished i (λ z. absurd (omega (arith, l, z, inside))) ∙ seen .within i y l;
         }
+
+    -- its turn is the next
+    pub turn-on : (is : List ℕ) → es ≡ inTurn (λ i. those (isOf i) es) is → es ++ fs ≡ inTurn (λ i. those (isOf i) (es ++ fs)) (is ++ (r ∷ []))
+    turn-on is so =
+        sym
+        (turn-last (λ i. those (isOf i) (es ++ fs)) (λ i. those (isOf i) es) r other-events none-yet is
+        ∙ rw (sym so, own-events, did-own n t r (w .thread r .call) w x fs (d .own)))

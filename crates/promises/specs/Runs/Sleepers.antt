@@ -31,8 +31,9 @@ use Rattle.promises.specs.Paper.Waking.{
   wokenRow,
   againRow,
   SleeperAfter,
+  SideOf,
 }
-use Rattle.promises.specs.Runs.Keeping.{put-same, put-other, queued-asleep, Ends, SideOf, Keeps}
+use Rattle.promises.specs.Runs.Keeping.{put-same, put-other, queued-asleep, Ends, Keeps}
 use Rattle.promises.specs.Runs.OneRow.{flagsTaken, mail-other, Stands, Steady, row-stays, ready-stays, RowOn, row-keeps}
 
 -- a thread without a call has no event wait
@@ -116,7 +117,7 @@ module _ (t : Tables) (s : Step) (i : ℕ) (someone : i ≢ 255) (within : i < t
   not-on : {r : Thread} → r ≡ sleptOn s i a → r .state ≢ 0
   not-on e z = before (sym (ap (λ (u : Thread). u .state) e) ∙ z)
 
-  not-again : {r : Thread} {c : ℕ} → r ≡ againRow s i a c num → r .state ≢ 0
+  not-again : {r : Thread} {c : ℕ} → r ≡ againRow s i a (a .place) c num → r .state ≢ 0
   not-again e = queued-asleep (ap (λ (u : Thread). u .state) e)
 
   module _ {r : Thread} {w f : Bool} where

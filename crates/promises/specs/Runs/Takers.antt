@@ -19,7 +19,7 @@ use Rattle.accounts.specs.declared.account.Account.{Account}
 use Rattle.accounts.specs.Account.{freshAccount, objectPlace, setIf, entered}
 use Rattle.promises.specs.Paper.Host.{HostSteps}
 use Rattle.promises.specs.Paper.Run.{Moment}
-use Rattle.promises.specs.Paper.History.{Event, those, isOwn, OwnFirst, History, shown, shownIn, total, each}
+use Rattle.promises.specs.Paper.History.{Event, shownBy, those, inTurn, isOwn, OwnFirst, History, shown, shownIn, total, each}
 use Rattle.promises.specs.Paper.Ledger.{Standing, whenAdded, whenTaken, whenFreed, stood, standing, markOf, standingAt, AccountOf}
 use Rattle.promises.specs.Runs.Counting.{Few, total-shown}
 use Rattle.promises.specs.Runs.Dealing.{standing-append}
@@ -323,7 +323,8 @@ module _ (q o : ℕ) (pool : q < 4) (object : o < 32) where
   pub run-has : {n : ℕ} {ms : List Moment} {es : List Event} → Few ms → History n ms es → (x : Standing) (a : Account) → Sized a → Has x a
       → standing q o x es ≢ Standing.mistaken → Has (standing q o x es) (enteredAll a (shownIn n ms))
   run-has Few.none History.none x a size h right = h
-  run-has {n} (Few.more {m} {ms} few rest) (History.more es fs s p hist) x a size h right =
+  run-has {n} (Few.more {m} {ms} few rest) (History.more is fs turns s p hist) x a size h right =
+      let es = inTurn (shownBy n m) is in
       let y = standing q o x es in
       let mid : y ≢ Standing.mistaken = λ z. right (standing-append q o x es fs ∙ ap (λ (w : Standing). standing q o w fs) z ∙ mistaken-stays q o fs) in
       let now = step-has es (shown n m) x a (λ f. total-shown f n m es few s) (own-first es x p mid) size h in

@@ -29,7 +29,7 @@ use Rattle.promises.specs.Runs.OneStep.{together, semaphore-there, pool-
 -- ---- counting
 
 -- one that passes is counted
-number-some : (f : ℕ → Bool) (n i : ℕ) → i < n → f i ≡ true → 1 ≤ number f n
+pub number-some : (f : ℕ → Bool) (n i : ℕ) → i < n → f i ≡ true → 1 ≤ number f n
 number-some f zero i l e = absurd (omega arith)
 number-some f (suc n) i l e =
     same-or i n (λ s. rw (← s, e) (omega arith)) (λ d. omega (arith, number-some f n i (omega arith) e))
@@ -54,7 +54,7 @@ module _ (f g : ℕ → Bool) where
       (λ e. rw e (split (f n) (λ x. rw x (omega (arith, rest))) (λ x. rw x (omega (arith, rest))))))
 
 -- a counter with a waiter is below 0
-owes : {c : ℤ} {n : ℕ} → SemaphoreFits c n → 1 ≤ n → ltZ c (pos 0) ≡ true
+pub owes : {c : ℤ} {n : ℕ} → SemaphoreFits c n → 1 ≤ n → ltZ c (pos 0) ≡ true
 owes (SemaphoreFits.waiters e) l = rw e
 owes (SemaphoreFits.none e) l = absurd (omega arith)
 

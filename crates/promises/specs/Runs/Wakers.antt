@@ -11,8 +11,8 @@ use Rattle.library.specs.declared.calls.Step.{Step}
 use Rattle.library.specs.declared.tables.Tables.{Tables}
 use Rattle.promises.specs.Paper.World.{World, noCall, found, readyWith, callEnded, asleep}
 use Rattle.promises.specs.Paper.Rows.{pendingTo}
-use Rattle.promises.specs.Paper.Waking.{rowOf, IsMailing, OwnWait, WakerAfter}
-use Rattle.promises.specs.Runs.Keeping.{queued-asleep, SideOf, Keeps}
+use Rattle.promises.specs.Paper.Waking.{rowOf, IsMailing, OwnWait, WakerAfter, SideOf}
+use Rattle.promises.specs.Runs.Keeping.{queued-asleep, Keeps}
 use Rattle.promises.specs.Runs.OneRow.{mail-other, Stands, Steady, row-keeps}
 use Rattle.promises.specs.Runs.Passing.{Passed, found-passed, ticks-passed, events-passed}
 

@@ -100,7 +100,7 @@ module _ (t : Tables) (c : Clock) (s : Step) (host : Host t c s) where
   verdict (StepOf.refused m b f r) =
       let e = r .code in
       Verdict.stopped (subst (Broken t c s) (sym e) b) (λ k l. f k (rw e at l)) (subst (λ (k : ℕ). RefusedWith t c k (stepped t c s)) (sym e) r)
-  verdict (StepOf.accepted b w x a z l u d r) = Verdict.taken (r .code) b
+  verdict (StepOf.accepted b w x is a z l u d r) = Verdict.taken (r .code) b
 
   -- two first broken rules are one
   first-rule : (m k : ℕ) → Broken t c s m → ((j : ℕ) → j < m → Broken t c s j → ⊥) → Broken t c s k → ((j : ℕ) → j < k → Broken t c s j → ⊥)

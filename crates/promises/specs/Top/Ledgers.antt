@@ -3,9 +3,11 @@
 use Prim.Native.Nat.{ℕ, _+_, _≤_, _<_}
 use native.Mathlib.Nat.{zero-add}
 use native.Mathlib.Omega.{arith}
-use mathlib.Core.Path.{_≡_, sym, _∙_, subst}
+use mathlib.Core.Path.{_≡_, refl, sym, ap, _∙_, subst}
 use mathlib.Core.Logic.{_≢_}
-use mathlib.Core.List.{List}
+use mathlib.Core.Bool.{true, false}
+use mathlib.Core.List.{List, [], _∷_, _++_}
+use borrow.Author.Tests.{eq-eqb}
 use Rattle.kernel.specs.declared.clock.Clock.{Clock}
 use Rattle.kernel.specs.declared.units.Rate.{Rate}
 use Rattle.library.specs.declared.calls.Step.{Step}
@@ -16,11 +18,12 @@ use Rattle.accounts.specs.Account.{freshAccount}
 use Rattle.promises.specs.Paper.World.{found}
 use Rattle.promises.specs.Paper.Fresh.{FreshTables}
 use Rattle.promises.specs.Paper.Host.{HostSteps}
-use Rattle.promises.specs.Paper.Together.{number}
+use Rattle.promises.specs.Paper.Together.{number, isZero}
 use Rattle.promises.specs.Paper.Run.{Moment}
-use Rattle.promises.specs.Paper.History.{Event, shownIn, total, posted, fetched, added, each, lostAt}
-use Rattle.promises.specs.Paper.Ledger.{Ledger, noPostings, opened, ledger, times, Standing, standing, standingIn, isOut, markIn, freeIn, Accounted, AccountOf}
+use Rattle.promises.specs.Paper.History.{Event, answerBy, finishes, shownBy, Turns, isAmong, inTurn, History, shownIn, total, posted, fetched, added, each, lostAt}
+use Rattle.promises.specs.Paper.Ledger.{Ledger, noPostings, opened, ledger, times, HandsOver, Paired, Standing, standing, standingIn, isOut, markIn, freeIn, Accounted, AccountOf}
 use Rattle.promises.specs.Meant.Fresh.{made-fresh}
+use Rattle.promises.specs.Meant.History.{turns-only, history-only}
 use Rattle.promises.specs.Runs.Run.{ran}
 use Rattle.promises.specs.Runs.Moments.{moments, Going}
 use Rattle.promises.specs.Runs.Ledgers.{accounted, accounted-fresh}
@@ -41,6 +44,38 @@ account-printed t c g ss hs =
     printed ss hs t c g (standingIn t) (λ q o. before-run (markIn (found t) q o)) (a .events) (a .history) (a .object-right)
 
 -- ---- what follows of a run
+
+-- there is one history of it, and nothing is chosen
+pub events-one : {z y : Sizes} {l k : ℕ → Ledger} {st su : ℕ → ℕ → Standing} {ms : List Moment} {u v : Tables} (a : Accounted z l st ms u) (b : Accounted y k su ms v)
+    → a .events ≡ b .events
+events-one a b = history-only (a .history) (b .history)
+
+-- where it begins with a fetch that finishes in its own turn, what is fetched is the first message that was in the mailbox: whatever is posted while
+-- the step settles comes later
+pub own-fetch : {n : ℕ} {m : Moment} {ms : List Moment} {es : List Event} {l : Ledger} → History n (m ∷ ms) es → Paired (m .step .object) l es
+    → m .step .kind ≡ 17 → finishes m (m .step .caller) ≡ true → isZero (answerBy m (m .step .caller) .message) ≡ true
+    → (is : List ℕ) → Turns m (m .step .caller ∷ is) → isAmong (m .step .caller) is ≡ false
+    → (p : Event) × (ps : List Event) × (l .present ≡ p ∷ ps) × (answerBy m (m .step .caller) .datum ≡ p .value)
+own-fetch {n} {m} {l = l} (History.more js fs turns s o h) paired kind done zero is own last =
+    by (paired .one [] e (inTurn (shownBy n m) is ++ fs) (ap (λ (ks : List ℕ). inTurn (shownBy n m) ks ++ fs) (turns-only turns own) ∙ begins) a-fetch)
+  where
+    i : ℕ
+    i = m .step .caller
+
+    e : Event
+    e = record { step = n; who = i; kind = 17; object = m .step .object; value = answerBy m i .datum }
+
+    a-fetch : fetched (m .step .object) e ≡ true
+    a-fetch = eq-eqb (m .step .object) (m .step .object) refl
+
+    shows : shownBy n m i ≡ e ∷ []
+    shows = rw (done, eq-eqb i i refl, kind, zero)
+
+    begins : inTurn (shownBy n m) (i ∷ is) ++ fs ≡ e ∷ (inTurn (shownBy n m) is ++ fs)
+    begins = rw (last, shows)
+
+    by : (p : Event) × HandsOver (m .step .object) l [] e p → (p : Event) × (ps : List Event) × (l .present ≡ p ∷ ps) × (answerBy m i .datum ≡ p .value)
+    by (p, x) = (p, x .behind, x .first, x .message)
 
 module _ {z : Sizes} {l : ℕ → Ledger} {st : ℕ → ℕ → Standing} {ms : List Moment} {u : Tables} (a : Accounted z l st ms u) (b : ℕ) (there : b < z .mailboxes) where
   -- "each posting handed over at most once"

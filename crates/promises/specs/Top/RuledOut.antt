@@ -1,5 +1,5 @@
 -- What the statements of the demands rule out, each in a line or two: answers and wakings that no step gives.
-use Prim.Native.Nat.{ℕ, _/_, _%_, _^_, _≤_, _<_}
+use Prim.Native.Nat.{ℕ, _+_, _/_, _%_, _^_, _≤_, _<_}
 use native.Mathlib.Omega.{arith}
 use mathlib.Core.Path.{_≡_, refl, sym, ap, _∙_, subst}
 use mathlib.Core.Logic.{_≢_, _⊎_, inl, inr}
@@ -21,17 +21,19 @@ use Rattle.library.specs.declared.tables.Tables.{Tables}
 use Rattle.pipes.specs.declared.table.Pipes.{Pipes}
 use Rattle.pipes.specs.declared.transfer.Moved.{Moved}
 use Rattle.steps.specs.declared.stepping.Stepped.{Stepped}
-use Rattle.promises.specs.Paper.World.{World, found, signed}
+use Rattle.promises.specs.Paper.World.{World, found, signed, Highest}
+use Rattle.promises.specs.Paper.Rows.{slotsOf}
 use Rattle.promises.specs.Paper.Together.{InUse, WordOf, WordsAgree}
-use Rattle.promises.specs.Paper.Waking.{rowOf, inMask, Served, CalledOut, LastTick, WokenBy, heard, AnswerOf, SleeperAfter, ReadyAfter, WakerAfter}
+use Rattle.promises.specs.Paper.Waking.{rowOf, inMask, IsPost, Served, CalledOut, LastTick, WokenBy, heard, AnswerOf, SideOf, SleeperAfter, ReadyAfter, WakerAfter, ReleasesAll, ReleasesFirst, Due}
 use Rattle.promises.specs.Paper.Flags.{awaitsFlags, FlagsAfter}
-use Rattle.promises.specs.Paper.Run.{TurnOf}
+use Rattle.promises.specs.Paper.Run.{Moment, TurnOf}
 use Rattle.promises.specs.Paper.Pipes.{pipeOf, Transfer, TransferOf}
 use Rattle.promises.specs.Paper.History.{Event, isOwn, OwnFirst}
 use Rattle.promises.specs.Paper.Ledger.{inBox, noPostings, ledger, BoxTold, Standing, standing}
 use Rattle.promises.specs.Paper.Signals.{AtTop, SignalTold}
 use Rattle.promises.specs.Paper.Causes.{Wakes}
 use Rattle.promises.specs.Runs.Sleepers.{last-by}
+use Rattle.promises.specs.Runs.Moments.{EachThread}
 use Rattle.promises.specs.Runs.Pipes.{smaller-le, numbered}
 
 -- -1 and -2 are not 0
@@ -54,7 +56,10 @@ late-answer (ReadyAfter.on e p q) m = absurd (true≢false q)
 late-answer {t} {s} {i} {b} (ReadyAfter.done x d f h e p q) m =
     let g = late-flags (subst (λ (y : ℤ). AnswerOf (rowOf t i) (heard s i (rowOf t i)) y x d f) m h) in
     (ap (λ (u : Thread). u .answer .message) e ∙ g .0, ap (λ (u : Thread). u .answer .datum) e ∙ g .1, ap (λ (u : Thread). u .pending) e ∙ g .2)
-late-answer (ReadyAfter.tried g z p c) m = absurd (below (sym m ∙ z))
+late-answer (ReadyAfter.again pl side z e p q) m = absurd (below (sym m ∙ z))
+late-answer (ReadyAfter.ready-again pl c side z by e p q) m = absurd (below (sym m ∙ z))
+late-answer (ReadyAfter.done-again pl c x d side z by h e p q) m = absurd (below (sym m ∙ z))
+late-answer (ReadyAfter.slept-again pl c side z by e p q) m = absurd (below (sym m ∙ z))
 
 -- a flag that was answered is not left pending
 pub none-left : {t : Tables} {s : Step} {i : ℕ} {b : Thread} {f : Bool} → FlagsAfter t s i b f → (awaitsFlags t s i && f) ≡ true
@@ -314,3 +319,55 @@ callers-silent a k e = zero-one (sym (a .callers k .message) ∙ e)
 pub top-counters : {t : Tables} {c : Clock} {s : Step} {r : Stepped} → AtTop t c s r → r .tables .kernel .counters ≡ t .kernel .counters
 top-counters {s = s} a =
     same-or (s .caller) 255 (λ z. ap (λ (u : Tables). u .kernel .counters) (a .interrupt z)) (λ z. ap (λ (u : Tables). u .kernel .counters) (a .thread z))
+
+-- ---- who must be woken
+
+-- a signal, a binary one too, that passes over the first of the waiters
+pub first-signalled : {m : Moment} {i : ℕ} → EachThread m → (m .step .kind ≡ 3) ⊎ (m .step .kind ≡ 5) → Highest (found (m .before)) (m .step .object) i
+    → inMask i (m .result .woken) ≡ true
+first-signalled {m} {i} x k h = x .due i (h .thread) (Due.first (m .step .object) (ReleasesFirst.signal k) h)
+
+-- a post into a mailbox with room that leaves its first reader asleep
+pub first-reader : {m : Moment} {i : ℕ} → EachThread m → IsPost (m .step .kind) → found (m .before) .box (m .step .object) .reset ≡ 0
+    → found (m .before) .box (m .step .object) .positions .count < slotsOf (found (m .before)) (m .step .object)
+    → Highest (found (m .before)) (32 + m .step .object) i → inMask i (m .result .woken) ≡ true
+first-reader {m} {i} x k z l h = x .due i (h .thread) (Due.first (32 + m .step .object) (ReleasesFirst.post k z l) h)
+
+-- a release that wakes another than the first
+pub no-other-released : {m : Moment} {i j : ℕ} → EachThread m → m .step .kind ≡ 7 → i < m .before .sizes .threads → rowOf (m .before) i .state ≡ 3
+    → rowOf (m .before) i .place ≡ 20 + m .step .object → m .step .object < 8 → j < i → rowOf (m .before) j .state ≡ 3
+    → rowOf (m .before) j .place ≡ 20 + m .step .object → inMask i (m .result .woken) ≡ false
+no-other-released {m} {i} {j} x k l a b o n c d =
+    split (inMask i (m .result .woken))
+    (λ w. absurd (by (x .only-due i l (λ z. omega (arith, z, a)) (λ z. omega (arith, b, o)) w)))
+    (λ w. w)
+  where
+    by : Due (m .before) (m .step) i → ⊥
+    by (Due.last-tick q r) = omega (arith, k, q)
+    by (Due.events q r s f) = omega (arith, k, q)
+    by (Due.resume q r s) = omega (arith, k, q)
+    by (Due.all p (ReleasesAll.reset q) r s) = omega (arith, k, q)
+    by (Due.all p (ReleasesAll.release q) r s) = omega (arith, k, q)
+    by (Due.all p (ReleasesAll.writers q) r s) = omega (arith, k, q)
+    by (Due.all p (ReleasesAll.readers q) r s) = omega (arith, k, q)
+    by (Due.first p (ReleasesFirst.signal (inl q)) h) = omega (arith, k, q)
+    by (Due.first p (ReleasesFirst.signal (inr q)) h) = omega (arith, k, q)
+    by (Due.first p (ReleasesFirst.release q) h) = h .highest j n c d
+    by (Due.first p (ReleasesFirst.object (inl q)) h) = omega (arith, k, q)
+    by (Due.first p (ReleasesFirst.object (inr q)) h) = omega (arith, k, q)
+    by (Due.first p (ReleasesFirst.post (inl q) z r) h) = omega (arith, k, q)
+    by (Due.first p (ReleasesFirst.post (inr q) z r) h) = omega (arith, k, q)
+    by (Due.first p (ReleasesFirst.fetch q z r) h) = omega (arith, k, q)
+
+-- a mailbox call that was tried again and sleeps with less than its full timeout, or elsewhere than at its own side
+pub tried-full : {t : Tables} {s : Step} {i : ℕ} {b : Thread} {w f : Bool} → rowOf t i .state ≡ 0 → ReadyAfter t s i b w f → b .state ≢ 0
+    → SideOf (rowOf t i .call) (b .place) × (b .call ≡ rowOf t i .call)
+    × (b .remaining ≡ cond (eqb (rowOf t i .call .timeout) 4294967295) 0 (rowOf t i .call .timeout))
+tried-full z (ReadyAfter.on e p q) n = absurd (n (ap (λ (u : Thread). u .state) e ∙ z))
+tried-full z (ReadyAfter.done x d g h e p q) n = absurd (n (ap (λ (u : Thread). u .state) e))
+tried-full {t} {s} {i} z (ReadyAfter.again pl side m e p q) n =
+    (subst (λ (u : Thread). SideOf (rowOf t i .call) (u .place)) (sym e) side, ap (λ (u : Thread). u .call) e, ap (λ (u : Thread). u .remaining) e)
+tried-full z (ReadyAfter.ready-again pl c side m by e p q) n = absurd (n (ap (λ (u : Thread). u .state) e))
+tried-full z (ReadyAfter.done-again pl c x d side m by h e p q) n = absurd (n (ap (λ (u : Thread). u .state) e))
+tried-full {t} {s} {i} z (ReadyAfter.slept-again pl c side m by e p q) n =
+    (subst (λ (u : Thread). SideOf (rowOf t i .call) (u .place)) (sym e) side, ap (λ (u : Thread). u .call) e, ap (λ (u : Thread). u .remaining) e)

@@ -3,7 +3,7 @@
 -- still free. Two threads, a mailbox of three slots, a pool.
 use Prim.Native.Nat.{ℕ, _<_}
 use native.Mathlib.Omega.{arith}
-use mathlib.Core.Path.{_≡_, refl}
+use mathlib.Core.Path.{_≡_, refl, _∙_}
 use mathlib.Core.List.{List, [], _∷_}
 use Rattle.kernel.specs.declared.units.Rate.the-variants.{Standard}
 use Rattle.kernel.specs.Walk.{firstFrom, allFrom, countOf}
@@ -38,10 +38,14 @@ use Rattle.library.specs.declared.sizes.Sizes.{Sizes}
 use Rattle.promises.specs.Paper.World.{found}
 use Rattle.promises.specs.Paper.Host.{HostStep, HostSteps}
 use Rattle.promises.specs.Paper.Together.{number, isPromised}
-use Rattle.promises.specs.Paper.History.{Event, shownIn, total, posted, fetched, added, each, lostAt}
+use Rattle.promises.specs.Paper.History.{Event, History, shownIn, total, posted, fetched, added, each, lostAt}
 use Rattle.promises.specs.Paper.Ledger.{noPostings, ledger, Standing, freeIn, Accounted}
+use Rattle.promises.specs.Meant.History.{history-only}
+use Rattle.promises.specs.Meant.Settling.{turns}
 use Rattle.promises.specs.Runs.Run.{ran}
 use Rattle.promises.specs.Runs.Moments.{moments}
+use Rattle.promises.specs.Runs.Histories.{turnsOf, eventsIn, recorded}
+use Rattle.promises.specs.Top.Demands.{fresh-going}
 use Rattle.promises.specs.Top.Ledgers.{run, end, nothing-lost-fresh}
 
 abbrev line : Sizes
@@ -141,3 +145,37 @@ pub day-promised : (freeIn (found (end line Standard made-line day day-typed)) 0
     ∷ []) ≡ (1 ∷ 1 ∷ [])
 unfolding firstFrom allFrom countOf wordOf firstOf firstReady firstWaiter takenOff putOn woken slept finished blocked enqueued releasedFirst releasedAll taken waited signalled resetTo suspendedOn resumed sleptFor sleptUntil tookFlags eventSignalled eventWaited ticked binarySignalled ringPosted postedAhead ringFetched emptied postDone postTried fetchDone fetchTried bothReleased mailboxReset mailboxResumed popped pushed handedOver allocTried putBack sizesFit made signalActed callMade effected actedOnKernel boxEffected actedOnBox acted wentOn settled callFits waitFits ticksFit flagsFit rowFits rowsFit queuedCount countersFit readyWord waitingWord readyFits waitingFits wordsFit holderFits referencesFit positionsFit mailboxesFit promisedCount occurrences entriesFit objectsFit poolFits poolsFit hangsTogether refusalOf maskOf outcomeOf doneWith refusedWith stepped ran moments
 day-promised = refl
+
+-- ---- the order of two calls in one step
+
+-- a mailbox of one slot
+abbrev narrow : Sizes
+narrow = record { threads = 2; semaphores = 0; queues = 0; references = 0; mailboxes = 1; pools = 0; slots = 1 ∷ 0 ∷ 0 ∷ 0 ∷ [] }
+
+pub made-narrow : made narrow Standard .code ≡ 0
+unfolding allFrom sizesFit made
+made-narrow = refl
+
+-- thread 0 posts 7, and sleeps to post 8 ahead; thread 1 fetches
+abbrev turn : List Step
+turn = by 0 15 7 0 ∷ by 0 16 8 forever ∷ by 1 17 0 0 ∷ []
+
+pub turn-typed : HostSteps turn
+turn-typed = more 0 15 7 0 _ (omega arith) (more 0 16 8 forever _ (omega arith) (more 1 17 0 0 _ (omega arith) HostSteps.none))
+
+-- 7 is fetched, and then 8 goes ahead
+turn-events : eventsIn 1 (made narrow Standard .tables) (made narrow Standard .clock) turn ≡ (event 1 0 15 7 ∷ event 3 1 17 7 ∷ event 3 0 16 8 ∷ [])
+unfolding firstFrom allFrom countOf wordOf firstOf firstReady firstWaiter takenOff putOn woken slept finished blocked enqueued releasedFirst releasedAll taken waited signalled resetTo suspendedOn resumed sleptFor sleptUntil tookFlags eventSignalled eventWaited ticked binarySignalled ringPosted postedAhead ringFetched emptied postDone postTried fetchDone fetchTried bothReleased mailboxReset mailboxResumed popped pushed handedOver allocTried putBack sizesFit made signalActed callMade effected actedOnKernel boxEffected actedOnBox acted wentOn settled callFits waitFits ticksFit flagsFit rowFits rowsFit queuedCount countersFit readyWord waitingWord readyFits waitingFits wordsFit holderFits referencesFit positionsFit mailboxesFit promisedCount occurrences entriesFit objectsFit poolFits poolsFit hangsTogether refusalOf maskOf outcomeOf doneWith refusedWith stepped ran moments turns turnsOf eventsIn
+turn-events = refl
+
+-- and there is no other history of it, such as the post ahead before the fetch
+pub turn-only : (es : List Event) → History 1 (run narrow Standard made-narrow turn turn-typed) es
+    → es ≡ (event 1 0 15 7 ∷ event 3 1 17 7 ∷ event 3 0 16 8 ∷ [])
+turn-only es h =
+    history-only h (recorded turn turn-typed 1 (made narrow Standard .tables) (made narrow Standard .clock) (fresh-going narrow Standard made-narrow) .0)
+    ∙ turn-events
+
+-- the posting 8 is in the mailbox, and 7 was handed over
+pub turn-ledger : ledger 0 noPostings (event 1 0 15 7 ∷ event 3 1 17 7 ∷ event 3 0 16 8 ∷ [])
+    ≡ record { present = event 3 0 16 8 ∷ []; given = event 1 0 15 7 ∷ []; lost = [] }
+turn-ledger = refl
