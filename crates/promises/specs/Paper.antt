@@ -20,3 +20,4 @@ pub mod History
 pub mod Ledger
 pub mod Signals
 pub mod Causes
+pub mod EachThread

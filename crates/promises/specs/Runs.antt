@@ -1,5 +1,4 @@
 -- Runs: any list of steps, refused ones included.
-pub mod Run
 pub mod Answers
 pub mod Refusals
 pub mod Keeping

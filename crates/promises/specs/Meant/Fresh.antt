@@ -19,7 +19,7 @@ use Rattle.library.specs.declared.fresh.Made.{Made}
 use Rattle.library.specs.Sizes.{sizesFit}
 use Rattle.library.specs.Fresh.{freshTables, freshClock, made}
 use Rattle.promises.specs.Paper.Time.{ticksInSecond}
-use Rattle.promises.specs.Paper.Fresh.{FreshTables, FreshClock, nothing, MadeWith, MadeOf}
+use Rattle.promises.specs.Paper.Fresh.{FreshTables, FreshClock, Legal, nothing, MadeWith, MadeOf}
 use Rattle.promises.specs.Meant.Time.{same-rate, possible-fits, fits-possible}
 use Rattle.promises.specs.Meant.Sizes.{fit-limits, out-of-limits}
 
@@ -54,14 +54,23 @@ made-is z rate =
     (record { code = refl; tables = fresh-tables nothing (omega arith); clock = fresh-clock 0 })))))
     (λ e. rw e (MadeOf.no-size (out-of-limits z e) (record { code = refl; tables = fresh-tables nothing (omega arith); clock = fresh-clock 0 }))))
 
--- tables that are not refused are fresh
-pub made-fresh : (z : Sizes) (rate : Rate) → made z rate .code ≡ 0 → FreshTables z (made z rate .tables)
-made-fresh z rate legal = by (made-is z rate)
+-- of legal sizes and frequency fresh tables are made, and are not refused
+pub made-legal : (z : Sizes) (rate : Rate) → Legal z rate → MadeWith 0 z (ticksInSecond rate) (made z rate)
+made-legal z rate legal = by (made-is z rate)
   where
-    by : MadeOf z rate (made z rate) → FreshTables z (made z rate .tables)
-    by (MadeOf.no-size n m) = absurd (omega (arith, m .code, legal))
-    by (MadeOf.no-frequency f n m) = absurd (omega (arith, m .code, legal))
-    by (MadeOf.fresh f p m) = m .tables
+    by : MadeOf z rate (made z rate) → MadeWith 0 z (ticksInSecond rate) (made z rate)
+    by (MadeOf.no-size n m) = absurd (n (legal .sizes))
+    by (MadeOf.no-frequency f n m) = absurd (n (legal .frequency))
+    by (MadeOf.fresh f p m) = m
+
+-- and of no others
+pub code-legal : (z : Sizes) (rate : Rate) → made z rate .code ≡ 0 → Legal z rate
+code-legal z rate e = by (made-is z rate)
+  where
+    by : MadeOf z rate (made z rate) → Legal z rate
+    by (MadeOf.no-size n m) = absurd (omega (arith, m .code, e))
+    by (MadeOf.no-frequency f n m) = absurd (omega (arith, m .code, e))
+    by (MadeOf.fresh f p m) = record { sizes = f; frequency = p }
 
 -- two that hold the same are the same: every field of a table is one of its record's
 abbrev of-parts : List Thread → List ℤ → List ℕ → Words → ℕ → List Mailbox → List Pool → Sizes → Tables

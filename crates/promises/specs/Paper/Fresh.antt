@@ -43,6 +43,11 @@ pub record FreshClock (f : ℕ) (c : Clock) : Type 0 where
   pub time : c .time .0 ≡ 0
   pub frequency : c .frequency ≡ f
 
+-- what fresh tables can be made of: sizes within their limits, and a frequency in its range
+pub record Legal (z : Sizes) (rate : Rate) : Type 0 where
+  pub sizes : SizesFit z
+  pub frequency : Possible (ticksInSecond rate)
+
 -- no threads and no objects
 abbrev pub nothing : Sizes
 nothing =

@@ -7,7 +7,8 @@ use lib.ListN.{length, getD}
 use Rattle.kernel.specs.declared.clock.Clock.{Clock}
 use Rattle.library.specs.declared.calls.Step.{Step}
 use Rattle.library.specs.declared.tables.Tables.{Tables}
-use Rattle.promises.specs.Paper.World.{noBox, noPool}
+use Rattle.promises.specs.Paper.World.{noBox, noPool, found}
+use Rattle.promises.specs.Paper.Together.{HangTogether}
 
 pub record HostTables (t : Tables) : Type 0 where
   pub threads : length (t .kernel .threads) ≡ 16
@@ -34,3 +35,9 @@ pub record Host (t : Tables) (c : Clock) (s : Step) : Type 0 where
 pub data HostSteps : List Step → Type 0 where
   none : HostSteps []
   more : {s : Step} {ss : List Step} → HostStep s → HostSteps ss → HostSteps (s ∷ ss)
+
+-- a host's tables and clock, which hang together
+pub record Going (t : Tables) (c : Clock) : Type 0 where
+  pub together : HangTogether (found t) (t .kernel .words) c
+  pub tables : HostTables t
+  pub time : c .time .0 < 4294967296

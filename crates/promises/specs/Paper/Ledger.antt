@@ -8,8 +8,11 @@ use mathlib.Core.List.{List, [], _∷_, _++_}
 use lib.Dec.{eqb}
 use lib.ListN.{length, getD}
 use Rattle.accounts.specs.declared.account.Account.{Account}
+use Rattle.accounts.specs.declared.accounting.Report.{Report}
+use Rattle.library.specs.declared.calls.Step.{Step}
 use Rattle.library.specs.declared.sizes.Sizes.{Sizes}
 use Rattle.library.specs.declared.tables.Tables.{Tables}
+use Rattle.steps.specs.declared.stepping.Outcome.{Outcome}
 use Rattle.promises.specs.Paper.World.{World, found}
 use Rattle.promises.specs.Paper.Rows.{slotsOf}
 use Rattle.promises.specs.Paper.Together.{number, larger, listings, isPromised}
@@ -225,6 +228,15 @@ pub record Accounted (z : Sizes) (l : ℕ → Ledger) (st : ℕ → ℕ → Stan
 
 -- ---- what is printed of a run with these events: the sums of an account, which wrap at 2^32, and who has which object. Object o of pool q is
 -- at 32 q + o; steps have numbers from 1
+
+-- what a result reports of finished calls
+abbrev pub reportOf : Outcome → Report
+reportOf o = record { code = o .code; finished = o .finished; message = o .message; datum = o .datum }
+
+-- the account of a run whose first moment is the n-th, where f enters one step
+abbrev pub talliedBy : (Account → ℕ → Tables → Step → Report → Tables → Account) → ℕ → Account → List Moment → Account
+talliedBy f n a [] = a
+talliedBy f n a (m ∷ ms) = talliedBy f (suc n) (f a n (m .before) (m .step) (reportOf (m .result)) (m .after)) ms
 
 pub record AccountOf (a : Account) (z : Sizes) (st : ℕ → ℕ → Standing) (ms : List Moment) (es : List Event) : Type 0 where
   pub posted-sums : (b : ℕ) → b < 4 → getD (a .posted) b 0 ≡ total (each (posted b)) (shownIn 1 ms) % 4294967296

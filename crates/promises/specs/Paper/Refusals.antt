@@ -1,7 +1,7 @@
 -- THE REFUSALS: which rule a step breaks, by its number, and what a refused step gives back.
 use Prim.Native.Nat.{ℕ, _+_, _-_, _%_, _≤_, _<_}
 use mathlib.Core.Path.{_≡_}
-use mathlib.Core.Logic.{_≢_, _⊎_}
+use mathlib.Core.Logic.{_≢_, _⊎_, _↔_}
 use lib.ListN.{getD}
 use lib.IntN.{pos}
 use Rattle.kernel.specs.declared.clock.Clock.{Clock}
@@ -67,3 +67,15 @@ pub record RefusedWith (t : Tables) (c : Clock) (n : ℕ) (r : Stepped) : Type 0
   pub finished : r .outcome .finished ≡ 0
   pub message : r .outcome .message ≡ pos 0
   pub datum : r .outcome .datum ≡ 0
+
+-- "Any tables and any step get an answer. Bad ones get the refusal number of document 01; then every table byte stays as it was, no thread is
+-- woken, no call finishes": the answer r
+pub record Answered (t : Tables) (c : Clock) (s : Step) (r : Stepped) : Type 0 where
+  -- "Given exactly when", "in the order of checking": its rule is broken and none before it
+  pub refused : (n : ℕ) → n ≢ 0 → (r .outcome .code ≡ n) ↔ (Broken t c s n × ((m : ℕ) → m < n → Broken t c s m → ⊥))
+  -- accepted is what breaks none
+  pub accepted : (r .outcome .code ≡ 0) ↔ ((n : ℕ) → Broken t c s n → ⊥)
+  -- and a refused step leaves tables and clock, wakes nobody and finishes nothing
+  pub untouched : r .outcome .code ≢ 0 → RefusedWith t c (r .outcome .code) r
+  -- there are seven numbers
+  pub numbers : r .outcome .code ≤ 7

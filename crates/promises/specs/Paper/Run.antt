@@ -1,4 +1,5 @@
 -- A RUN, AS A HOST SEES IT: the steps, their results, and the tables between two steps; what is counted in it, and when a thread was woken.
+-- It is told of any kernel k, which makes something of tables, clock and step: these words are the same for a right one and a wrong one.
 use Prim.Native.Nat.{ℕ, _+_, _<_}
 use mathlib.Core.Path.{_≡_}
 use mathlib.Core.Logic.{_⊎_}
@@ -12,9 +13,10 @@ use Rattle.kernel.specs.declared.records.Thread.{Thread}
 use Rattle.library.specs.declared.calls.Step.{Step}
 use Rattle.library.specs.declared.tables.Tables.{Tables}
 use Rattle.steps.specs.declared.stepping.Outcome.{Outcome}
+use Rattle.steps.specs.declared.stepping.Stepped.{Stepped}
 use Rattle.promises.specs.Paper.World.{found}
 use Rattle.promises.specs.Paper.Together.{number, isQueued}
-use Rattle.promises.specs.Paper.Waking.{rowOf, inMask}
+use Rattle.promises.specs.Paper.Waking.{rowOf, inMask, WokenBy}
 
 -- one step of a run, with the tables before and after it, and the clock that it finds
 pub record Moment : Type 0 where
@@ -23,6 +25,29 @@ pub record Moment : Type 0 where
   pub step : Step
   pub result : Outcome
   pub after : Tables
+
+-- a step with the tables that it finds and leaves
+abbrev pub momentBy : (Tables → Clock → Step → Stepped) → Tables → Clock → Step → Moment
+momentBy k t c s = record { before = t; clock = c; step = s; result = k t c s .outcome; after = k t c s .tables }
+
+-- the moments of a run over some steps, refused ones included: each finds the tables and the clock that the one before it left
+abbrev pub momentsBy : (Tables → Clock → Step → Stepped) → Tables → Clock → List Step → List Moment
+momentsBy k t c [] = []
+momentsBy k t c (s ∷ ss) = momentBy k t c s ∷ momentsBy k (k t c s .tables) (k t c s .clock) ss
+
+-- what a run leaves: tables, clock, and the result of each step
+pub record Ran : Type 0 where
+  pub tables : Tables
+  pub clock : Clock
+  pub outcomes : List Outcome
+
+-- one step, and the steps after it
+abbrev pub ranOn : Outcome → Ran → Ran
+ranOn o r = record { tables = r .tables; clock = r .clock; outcomes = o ∷ r .outcomes }
+
+abbrev pub ranBy : (Tables → Clock → Step → Stepped) → Tables → Clock → List Step → Ran
+ranBy k t c [] = record { tables = t; clock = c; outcomes = [] }
+ranBy k t c (s ∷ ss) = ranOn (k t c s .outcome) (ranBy k (k t c s .tables) (k t c s .clock) ss)
 
 abbrev pub isAccepted : Moment → Bool
 isAccepted m = eqb (m .result .code) 0
@@ -83,3 +108,11 @@ pub data TurnOf (p : ℕ) (a : Thread) (s : Step) : ℤ → ℕ → Type 0 where
   last-tick : s .kind ≡ 1 → a .remaining ≡ 1 → TurnOf p a s (negsuc 0) 8
   -- of a semaphore only
   reset : s .kind ≡ 4 → s .object ≡ p → p < 16 → TurnOf p a s (negsuc 1) 7
+
+-- of thread i, woken in the moment m: its waking is one that the papers give it there
+abbrev pub WakingOf : ℕ → Moment → ℤ → ℕ → Type 0
+WakingOf i m x o = WokenBy (m .before) (m .step) i (rowOf (m .before) i) x o
+
+-- of a waiter i at p: it is its turn
+abbrev pub TurnAt : ℕ → ℕ → Moment → ℤ → ℕ → Type 0
+TurnAt p i m x o = TurnOf p (rowOf (m .before) i) (m .step) x o

@@ -17,14 +17,14 @@ use Rattle.library.specs.declared.calls.Step.{Step}
 use Rattle.library.specs.declared.tables.Tables.{Tables}
 use Rattle.steps.specs.Stepping.{stepped}
 use Rattle.steps.proofs.StepLaws.{step-refused}
-use Rattle.promises.specs.Paper.Host.{HostSteps}
+use Rattle.promises.specs.Paper.Host.{HostSteps, Going}
 use Rattle.promises.specs.Paper.Together.{isZero}
 use Rattle.promises.specs.Paper.Waking.{rowOf, inMask, heard}
 use Rattle.promises.specs.Paper.Run.{Moment}
 use Rattle.promises.specs.Paper.Flags.{awaitsFlags, GoesOn, FlagsAfter, signalledTo, answeredTo, answeredIn, Account}
-use Rattle.promises.specs.Runs.Run.{ran}
+use Rattle.promises.specs.Code.Steps.{ran, momentOf, moments}
 use Rattle.promises.specs.Runs.OneStep.{sizes-after, flags-of}
-use Rattle.promises.specs.Runs.Moments.{momentOf, moments, Going, host, going-on, no-bit}
+use Rattle.promises.specs.Runs.Moments.{host, going-on, no-bit}
 
 -- only the message 0 is 0
 pub not-zero : (m : ℤ) → m ≢ pos 0 → isZero m ≡ false
@@ -130,7 +130,6 @@ module _ (m : Moment) (i flag : ℕ) where
 -- THE ACCOUNT OF A FLAG
 pub flag-account : (ss : List Step) → HostSteps ss → (t : Tables) (c : Clock) → Going t c → (i flag : ℕ) → i < t .sizes .threads
     → Account i flag (inMask flag (rowOf (ran t c ss .tables) i .pending)) (inMask flag (rowOf t i .pending)) (moments t c ss)
-unfolding moments ran
 flag-account [] hs t c g i flag l = Account.ends refl
 flag-account (s ∷ ss) (HostSteps.more h hs) t c g i flag l =
     let u = stepped t c s .tables in

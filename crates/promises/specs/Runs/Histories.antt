@@ -27,7 +27,7 @@ use Rattle.steps.specs.declared.stepping.Stepped.{Stepped}
 use Rattle.steps.specs.Stepping.{budgetOf, outcomeOf, doneWith, started, stepped}
 use Rattle.steps.proofs.StepLaws.{step-refused}
 use Rattle.promises.specs.Paper.World.{World, found, boxTo, poolTo, ended, signed, kept, First}
-use Rattle.promises.specs.Paper.Host.{Host, HostStep, HostSteps}
+use Rattle.promises.specs.Paper.Host.{Host, HostStep, HostSteps, Going}
 use Rattle.promises.specs.Paper.Rows.{Waits, SemaphoreWait, EventWait, slotsOf, inReset, atWork, onTop, Alloc, Post, Fetch, Act}
 use Rattle.promises.specs.Paper.Settling.{IsOther, Continued}
 use Rattle.promises.specs.Paper.Refusals.{KernelWait, BoxWait, Broken}
@@ -36,6 +36,7 @@ use Rattle.promises.specs.Paper.Waking.{IsPost, inMask}
 use Rattle.promises.specs.Paper.Run.{Moment}
 use Rattle.promises.specs.Paper.History.{Event, isCounted, eventsOf, shownBy, those, isOf, Turns, inTurn, Shown, isOwn, OwnFirst, History}
 use Rattle.promises.specs.Paper.Ledger.{messageAt, inBox, markIn}
+use Rattle.promises.specs.Code.Steps.{ran, momentOf, moments}
 use Rattle.promises.specs.Together.Good.{CallKind}
 use Rattle.promises.specs.Kept.PoolKept.{pop-kept}
 use Rattle.promises.specs.Kept.Whole.{Whole}
@@ -47,10 +48,9 @@ use Rattle.promises.specs.Meant.Settling.{turns}
 use Rattle.promises.specs.Meant.Step.{settled-turns, settles-so, result-is, h, order, begun-whole, acted-whole, settled-whole, own}
 use Rattle.promises.specs.Runs.Answers.{step-done}
 use Rattle.promises.specs.Runs.Keeping.{put-same, put-other}
-use Rattle.promises.specs.Runs.Run.{ran}
 use Rattle.promises.specs.Runs.Pipes.{length-listed}
 use Rattle.promises.specs.Runs.OneStep.{bit-in, accepted, unbroken, together, caller-first, pool-there, act}
-use Rattle.promises.specs.Runs.Moments.{momentOf, moments, Going, host, going-on}
+use Rattle.promises.specs.Runs.Moments.{host, going-on}
 use Rattle.promises.specs.Runs.Accounts.{not-zero}
 use Rattle.promises.specs.Runs.Dealing.{those-append, Dealt, dealt-still, dealt-none, dealt-as, dealt-both, dealt-reset, dealt-freed, dealt-added}
 use Rattle.promises.specs.Runs.Deeds.{Calm, calm-same, counter-calm, ticks-calm, release-calm, release-all-calm, signal-calm, binary-calm, resume-calm, event-calm, calm-on, answerOf, Fit, Own, Does, does-as, does-to, no-event, uncounted, ends-does, ends-calm, sleeps-does, waits-does, took-does, post-does, fetch-does, take-does}
@@ -515,7 +515,7 @@ step-recorded n t c g s x =
 -- are its history, and make of mailboxes and pools what it makes of them
 pub recorded : (ss : List Step) → HostSteps ss → (n : ℕ) (t : Tables) (c : Clock) → Going t c
     → History n (moments t c ss) (eventsIn n t c ss) × Dealt (found t) (eventsIn n t c ss) (found (ran t c ss .tables))
-unfolding moments ran eventsIn
+unfolding eventsIn
 recorded [] hs n t c g = (History.none, dealt-none (found t) (found t) refl refl refl)
 recorded (s ∷ ss) (HostSteps.more x hs) n t c g =
     let u = stepped t c s .tables in

@@ -17,15 +17,15 @@ use Rattle.steps.specs.Stepping.{stepped}
 use Rattle.steps.proofs.StepLaws.{step-refused}
 use Rattle.promises.specs.Paper.World.{noThread, risen}
 use Rattle.promises.specs.Paper.Fresh.{FreshTables}
-use Rattle.promises.specs.Paper.Host.{HostStep, HostSteps}
+use Rattle.promises.specs.Paper.Host.{HostStep, HostSteps, Going}
 use Rattle.promises.specs.Paper.Waking.{rowOf, inMask}
 use Rattle.promises.specs.Paper.Run.{Moment, isAccepted, howMany, anyOf}
 use Rattle.promises.specs.Paper.Causes.{Why, whyOf, notYet, WhyAfter, numberAfter, numbered, LastWaking}
+use Rattle.promises.specs.Code.Steps.{ran, momentOf, moments}
 use Rattle.promises.specs.Together.Hanging.{all-blank}
 use Rattle.promises.specs.Together.Tests.{neither-means}
-use Rattle.promises.specs.Runs.Run.{ran}
 use Rattle.promises.specs.Runs.OneStep.{sizes-after, steps-after, why-after}
-use Rattle.promises.specs.Runs.Moments.{momentOf, moments, Going, host, going-on, no-bit}
+use Rattle.promises.specs.Runs.Moments.{host, going-on, no-bit}
 
 -- ---- one moment
 
@@ -67,7 +67,6 @@ module _ (t : Tables) (c : Clock) (g : Going t c) (s : Step) (h : HostStep s) wh
 
 pub last-wakings : (ss : List Step) → HostSteps ss → (t : Tables) (c : Clock) → Going t c → (i : ℕ) → i < t .sizes .threads
     → LastWaking i (whyOf (rowOf (ran t c ss .tables) i)) (t .kernel .steps) (whyOf (rowOf t i)) (moments t c ss)
-unfolding moments ran
 last-wakings [] hs t c g i l = LastWaking.ends refl
 last-wakings (s ∷ ss) (HostSteps.more h hs) t c g i l =
     waking-after t c g s h i l
@@ -80,7 +79,6 @@ last-wakings (s ∷ ss) (HostSteps.more h hs) t c g i l =
 
 pub steps-numbered : (ss : List Step) → HostSteps ss → (t : Tables) (c : Clock) → Going t c
     → ran t c ss .tables .kernel .steps ≡ numbered (t .kernel .steps) (moments t c ss)
-unfolding moments ran
 steps-numbered [] hs t c g = refl
 steps-numbered (s ∷ ss) (HostSteps.more h hs) t c g =
     steps-numbered ss hs (stepped t c s .tables) (stepped t c s .clock) (going-on t c g s h)

@@ -17,15 +17,15 @@ use Rattle.library.specs.declared.tables.Tables.{Tables}
 use Rattle.steps.specs.Stepping.{stepped}
 use Rattle.promises.specs.Paper.World.{World, noBox, noPool, found}
 use Rattle.promises.specs.Paper.Fresh.{FreshTables}
-use Rattle.promises.specs.Paper.Host.{HostSteps}
+use Rattle.promises.specs.Paper.Host.{HostSteps, Going}
 use Rattle.promises.specs.Paper.Pipes.{listed}
 use Rattle.promises.specs.Paper.Together.{number, larger, listings, isPromised}
 use Rattle.promises.specs.Paper.Run.{Moment}
 use Rattle.promises.specs.Paper.History.{Event, those, History, shownIn, total, posted, fetched, added, each, lostAt}
 use Rattle.promises.specs.Paper.Ledger.{messageAt, Ledger, postings, noPostings, opened, ledger, values, BoxTold, EachOnce, Standing, standing, markIn, markOf, standingAt, standingIn, isFree, isOut, wasAdded, freeIn, Accounted}
-use Rattle.promises.specs.Runs.Run.{ran}
+use Rattle.promises.specs.Code.Steps.{ran, moments}
 use Rattle.promises.specs.Runs.Pipes.{length-listed}
-use Rattle.promises.specs.Runs.Moments.{moments, Going, going-on}
+use Rattle.promises.specs.Runs.Moments.{going-on}
 use Rattle.promises.specs.Runs.Dealing.{Dealt, total-append, values-append, values-length}
 use Rattle.promises.specs.Runs.Histories.{eventsIn, recorded}
 use Rattle.promises.specs.Runs.Counting.{length-those, Few, total-history, posted-once, ledger-whole, total-one}
@@ -40,7 +40,6 @@ postings-values w b (suc n) = values-append (postings w b n) _ ∙ rw (postings-
 
 -- a run has few threads throughout
 pub run-few : (ss : List Step) → HostSteps ss → (t : Tables) (c : Clock) → Going t c → Few (moments t c ss)
-unfolding moments
 run-few [] hs t c g = Few.none
 run-few (s ∷ ss) (HostSteps.more h hs) t c g =
     let few : t .sizes .threads ≤ 255 = omega (arith, g .together .sizes .threads .1) in

@@ -8,7 +8,6 @@ use mathlib.Core.Logic.{_≢_, inl, inr}
 use mathlib.Core.Bool.{Bool, true, false, cond, _&&_}
 use mathlib.Core.List.{List, [], _∷_, tail-eq-of-cons-eq}
 use lib.Dec.{eqb}
-use lib.IntN.{ℤ}
 use borrow.Author.Tests.{eq-eqb, ne-eqb}
 use Rattle.kernel.specs.declared.clock.Clock.{Clock}
 use Rattle.kernel.specs.declared.records.Thread.{Thread}
@@ -17,16 +16,16 @@ use Rattle.library.specs.declared.calls.Step.{Step}
 use Rattle.library.specs.declared.tables.Tables.{Tables}
 use Rattle.steps.specs.Stepping.{stepped}
 use Rattle.steps.proofs.StepLaws.{Untouched, step-refused}
-use Rattle.promises.specs.Paper.World.{risen, found}
-use Rattle.promises.specs.Paper.Together.{TicksFit, HangTogether}
-use Rattle.promises.specs.Paper.Host.{HostTables, HostStep, Host, HostSteps}
-use Rattle.promises.specs.Paper.Waking.{rowOf, inMask, WokenBy, sleptOn, SleeperAfter, ReadyAfter, WakerAfter, Due}
-use Rattle.promises.specs.Paper.Flags.{awaitsFlags, FlagsAfter}
-use Rattle.promises.specs.Paper.Causes.{causeFor, messageBy, whyOf, WhyAfter}
+use Rattle.promises.specs.Paper.Together.{TicksFit}
+use Rattle.promises.specs.Paper.Host.{HostStep, Host, HostSteps, Going}
+use Rattle.promises.specs.Paper.Waking.{rowOf, inMask, WokenBy, sleptOn, SleeperAfter, Due}
+use Rattle.promises.specs.Paper.Causes.{causeFor, messageBy}
 use Rattle.promises.specs.Paper.Step.{ClockAfter, StepOf}
-use Rattle.promises.specs.Paper.Run.{Moment, isTick, ticksIn, signalsAt, signalsIn, joinsAt, joinsIn, higher, WokenIn, TurnOf}
+use Rattle.promises.specs.Paper.Run.{isTick, ticksIn, signalsAt, signalsIn, joinsAt, joinsIn, higher, WokenIn, TurnOf, WakingOf, TurnAt}
 use Rattle.promises.specs.Paper.History.{Turns}
 use Rattle.promises.specs.Paper.Settling.{Settles}
+use Rattle.promises.specs.Paper.EachThread.{EachThread, Throughout}
+use Rattle.promises.specs.Code.Steps.{momentOf, moments}
 use Rattle.promises.specs.Together.Tests.{neither-means}
 use Rattle.promises.specs.Kept.Steps.{Hangs, step-hangs}
 use Rattle.promises.specs.Runs.Keeping.{queued-asleep}
@@ -37,21 +36,6 @@ use Rattle.promises.specs.Runs.Due.{due-woken, woken-due, quiet-due}
 use Rattle.promises.specs.Runs.Waiters.{turns-on, waits-on, turn-of}
 use Rattle.promises.specs.Meant.Together.{rules-together, together-rules}
 use Rattle.promises.specs.Meant.Step.{host-sized, sized-host, step-is}
-
--- a step with the tables that it finds and leaves
-abbrev pub momentOf : Tables → Clock → Step → Moment
-momentOf t c s = record { before = t; clock = c; step = s; result = stepped t c s .outcome; after = stepped t c s .tables }
-
--- the moments of a run
-unfoldable pub moments : Tables → Clock → List Step → List Moment
-moments t c [] = []
-moments t c (s ∷ ss) = momentOf t c s ∷ moments (stepped t c s .tables) (stepped t c s .clock) ss
-
--- a host's tables and clock, which hang together
-pub record Going (t : Tables) (c : Clock) : Type 0 where
-  pub together : HangTogether (found t) (t .kernel .words) c
-  pub tables : HostTables t
-  pub time : c .time .0 < 4294967296
 
 module _ (t : Tables) (c : Clock) (g : Going t c) where
   hangs : Hangs t c
@@ -107,10 +91,6 @@ sleeping (SleeperAfter.ready m o b l g e x y) z = contrary x z
 sleeping (SleeperAfter.done m u o d f b g e x y) z = contrary x z
 sleeping (SleeperAfter.again o g b e x y) z = contrary x z
 
--- the moment in which i was woken, and why
-abbrev pub WakingOf : ℕ → Moment → ℤ → ℕ → Type 0
-WakingOf i m x o = WokenBy (m .before) (m .step) i (rowOf (m .before) i) x o
-
 module _ (t : Tables) (c : Clock) (g : Going t c) (s : Step) (h : HostStep s) where
   -- after an accepted step that does not wake it, a timed sleeper has as many ticks left as before, less this one
   left-after : stepped t c s .outcome .code ≡ 0 → (i : ℕ) → i < t .sizes .threads → rowOf t i .state ≢ 0 → rowOf t i .call .timeout ≢ 4294967295
@@ -138,7 +118,6 @@ module _ (t : Tables) (c : Clock) (g : Going t c) (s : Step) (h : HostStep s) wh
 pub sleeps-end : (ss : List Step) → HostSteps ss → (t : Tables) (c : Clock) → Going t c → (i : ℕ) → i < t .sizes .threads
     → rowOf t i .state ≢ 0 → rowOf t i .call .timeout ≢ 4294967295 → rowOf t i .remaining ≤ ticksIn (moments t c ss)
     → WokenIn i (WakingOf i) (moments t c ss)
-unfolding moments
 sleeps-end [] hs t c g i l n m r = absurd (omega (arith, r, timed-left (g .together .threads i l .ticks) n m))
 sleeps-end (s ∷ ss) (HostSteps.more h hs) t c g i l n m r =
     same-or (stepped t c s .outcome .code) 0
@@ -162,10 +141,6 @@ sleeps-end (s ∷ ss) (HostSteps.more h hs) t c g i l n m r =
 
 -- ---- c. a waiter's turn comes
 
--- the moment in which a waiter at p was woken, and why
-abbrev pub TurnAt : ℕ → ℕ → Moment → ℤ → ℕ → Type 0
-TurnAt p i m x o = TurnOf p (rowOf (m .before) i) (m .step) x o
-
 -- a waiter at p that a step wakes, and why
 module _ (t : Tables) (c : Clock) (g : Going t c) (s : Step) (h : HostStep s) (e : stepped t c s .outcome .code ≡ 0) where
   pub turn-woken : (p : ℕ) → p < 20 → (i : ℕ) → i < t .sizes .threads → rowOf t i .state ≡ 3 → rowOf t i .place ≡ p
@@ -187,7 +162,6 @@ module _ (t : Tables) (c : Clock) (g : Going t c) (s : Step) (h : HostStep s) (e
 pub turn-comes : (p : ℕ) → p < 20 → (ss : List Step) → HostSteps ss → (t : Tables) (c : Clock) → Going t c → (i : ℕ) → i < t .sizes .threads
     → rowOf t i .state ≡ 3 → rowOf t i .place ≡ p → joinsIn p i (moments t c ss) ≡ false → higher t p i < signalsIn p (moments t c ss)
     → WokenIn i (TurnAt p i) (moments t c ss)
-unfolding moments
 turn-comes p near [] hs t c g i l st pl none r = absurd (omega arith)
 turn-comes p near (s ∷ ss) (HostSteps.more h hs) t c g i l st pl none r =
     let no = neither-means (eqb (stepped t c s .outcome .code) 0 && joinsAt p i s) (joinsIn p i (moments (stepped t c s .tables) (stepped t c s .clock) ss)) none in
@@ -215,35 +189,6 @@ turn-comes p near (s ∷ ss) (HostSteps.more h hs) t c g i l st pl none r =
 
 -- ---- b. each step, and each thread
 
--- what an accepted moment made of each thread
-pub record EachThread (m : Moment) : Type 0 where
-  pub slept : (i : ℕ) → i < m .before .sizes .threads → rowOf (m .before) i .state ≢ 0
-      → SleeperAfter (m .before) (m .step) i (rowOf (m .after) i) (inMask i (m .result .woken)) (inMask i (m .result .finished))
-  pub ready : (i : ℕ) → i < m .before .sizes .threads → rowOf (m .before) i .state ≡ 0
-      → WakerAfter (m .before) (m .step) i (rowOf (m .after) i) (inMask i (m .result .woken))
-  pub woken-before : (i : ℕ) → i < m .before .sizes .threads → rowOf (m .before) i .state ≡ 0 → rowOf (m .before) i .call .kind ≢ 0
-      → ReadyAfter (m .before) (m .step) i (rowOf (m .after) i) (inMask i (m .result .woken)) (inMask i (m .result .finished))
-  -- whoever is due is woken; and who waits at no mailbox, only then
-  pub due : (i : ℕ) → i < m .before .sizes .threads → Due (m .before) (m .step) i → inMask i (m .result .woken) ≡ true
-  pub only-due : (i : ℕ) → i < m .before .sizes .threads → rowOf (m .before) i .state ≢ 0 → (rowOf (m .before) i .state ≡ 3 → rowOf (m .before) i .place < 28)
-      → inMask i (m .result .woken) ≡ true → Due (m .before) (m .step) i
-  -- and so is everybody, where no call goes on
-  pub quiet-due : Turns m (m .step .caller ∷ []) → (i : ℕ) → i < m .before .sizes .threads → inMask i (m .result .woken) ≡ true → Due (m .before) (m .step) i
-  -- of each: the cause and the number in its record are those of its last waking
-  pub why : (i : ℕ) → i < m .before .sizes .threads
-      → WhyAfter (m .before) (m .step) i (whyOf (rowOf (m .after) i)) (inMask i (m .result .woken))
-  pub number : m .after .kernel .steps ≡ risen (m .before .kernel .steps)
-  pub flags : (i : ℕ) → i < m .before .sizes .threads
-      → FlagsAfter (m .before) (m .step) i (rowOf (m .after) i) (inMask i (m .result .finished))
-  -- an event wait finishes only in a step after which its thread runs
-  pub goes-on : (i : ℕ) → i < m .before .sizes .threads → awaitsFlags (m .before) (m .step) i ≡ true → inMask i (m .result .finished) ≡ true
-      → m .result .running ≡ i
-
--- of every accepted moment of a run
-pub data Throughout (P : Moment → Type 0) : List Moment → Type 0 where
-  none : Throughout P []
-  more : {m : Moment} {ms : List Moment} → (m .result .code ≡ 0 → P m) → Throughout P ms → Throughout P (m ∷ ms)
-
 quiet : (t : Tables) (c : Clock) (s : Step) (x : Host t c s) (e : stepped t c s .outcome .code ≡ 0) (i : ℕ) → i < t .sizes .threads → {is : List ℕ}
     → Turns (momentOf t c s) is → is ≡ s .caller ∷ [] → inMask i (stepped t c s .outcome .woken) ≡ true → Due t s i
 quiet t c s x e i l (Turns.refused d) z w = absurd (d e)
@@ -251,7 +196,6 @@ quiet t c s x e i l (Turns.accepted d v y js a k) z w =
     quiet-due t c s x e i l v y a (subst (Settles y v) (tail-eq-of-cons-eq z) k) w
 
 pub each-step : (ss : List Step) → HostSteps ss → (t : Tables) (c : Clock) → Going t c → Throughout EachThread (moments t c ss)
-unfolding moments
 each-step [] hs t c g = Throughout.none
 each-step (s ∷ ss) (HostSteps.more h hs) t c g =
     Throughout.more

@@ -14,7 +14,8 @@ use Rattle.library.specs.declared.tables.Tables.{Tables}
 use Rattle.steps.specs.declared.stepping.Outcome.{Outcome}
 use Rattle.steps.specs.Stepping.{stepped}
 use Rattle.steps.proofs.StepLaws.{Untouched, step-refused}
-use Rattle.promises.specs.Runs.Run.{ranOn, ran}
+use Rattle.promises.specs.Paper.Run.{ranOn}
+use Rattle.promises.specs.Code.Steps.{ran}
 
 -- an accepted step's result
 abbrev pub isTaken : Outcome → Bool
@@ -35,7 +36,6 @@ acceptedSteps t c (s ∷ ss) =
 
 -- a run gives as many results as it has steps
 pub run-answers : (t : Tables) (c : Clock) (ss : List Step) → length (ran t c ss .outcomes) ≡ length ss
-unfolding ran
 run-answers t c [] = refl
 run-answers t c (s ∷ ss) = ap suc (run-answers (stepped t c s .tables) (stepped t c s .clock) ss)
 
@@ -47,14 +47,12 @@ pub run-parts : (t : Tables) (c : Clock) (xs ys : List Step)
       clock = ran (ran t c xs .tables) (ran t c xs .clock) ys .clock;
       outcomes = ran t c xs .outcomes ++ ran (ran t c xs .tables) (ran t c xs .clock) ys .outcomes;
     }
-unfolding ran
 run-parts t c [] ys = refl
 run-parts t c (s ∷ xs) ys = ap (ranOn (stepped t c s .outcome)) (run-parts (stepped t c s .tables) (stepped t c s .clock) xs ys)
 
 -- "All tables keep their bytes": after a refused step a run goes on as if it had not been
 pub run-refused : (t : Tables) (c : Clock) (s : Step) (ss : List Step) → stepped t c s .outcome .code ≢ 0
     → ran t c (s ∷ ss) ≡ ranOn (stepped t c s .outcome) (ran t c ss)
-unfolding ran
 run-refused t c s ss n = rw (step-refused t c s n .tables, step-refused t c s n .clock)
 
 -- the accepted steps alone leave what all the steps leave, and give the accepted ones' results
@@ -65,7 +63,7 @@ pub run-accepted : (t : Tables) (c : Clock) (ss : List Step)
       clock = ran t c ss .clock;
       outcomes = acceptedOutcomes (ran t c ss .outcomes);
     }
-unfolding ran acceptedSteps
+unfolding acceptedSteps
 run-accepted t c [] = refl
 run-accepted t c (s ∷ ss) =
     split (isTaken (stepped t c s .outcome))

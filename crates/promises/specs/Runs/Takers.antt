@@ -17,15 +17,15 @@ use Rattle.library.specs.declared.calls.Step.{Step}
 use Rattle.library.specs.declared.tables.Tables.{Tables}
 use Rattle.accounts.specs.declared.account.Account.{Account}
 use Rattle.accounts.specs.Account.{freshAccount, objectPlace, setIf, entered}
-use Rattle.promises.specs.Paper.Host.{HostSteps}
+use Rattle.promises.specs.Paper.Host.{HostSteps, Going}
 use Rattle.promises.specs.Paper.Run.{Moment}
 use Rattle.promises.specs.Paper.History.{Event, shownBy, those, inTurn, isOwn, OwnFirst, History, shown, shownIn, total, each}
 use Rattle.promises.specs.Paper.Ledger.{Standing, whenAdded, whenTaken, whenFreed, stood, standing, markOf, standingAt, AccountOf}
+use Rattle.promises.specs.Code.Steps.{tallied, moments}
 use Rattle.promises.specs.Runs.Counting.{Few, total-shown}
 use Rattle.promises.specs.Runs.Dealing.{standing-append}
 use Rattle.promises.specs.Runs.Objects.{mistaken-stays}
-use Rattle.promises.specs.Runs.Tallied.{tallied, entryFor, enteredAll, entered-append, run-enters, posted-fresh, fetched-fresh, lost-fresh, added-fresh}
-use Rattle.promises.specs.Runs.Moments.{moments, Going}
+use Rattle.promises.specs.Runs.Tallied.{entryFor, enteredAll, entered-append, run-enters, posted-fresh, fetched-fresh, lost-fresh, added-fresh}
 use Rattle.promises.specs.Runs.Ledgers.{run-few}
 use Rattle.promises.specs.Together.Tests.{neither-means}
 

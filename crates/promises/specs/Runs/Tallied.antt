@@ -20,13 +20,11 @@ use Rattle.library.specs.declared.tables.Tables.{Tables}
 use Rattle.library.specs.Signs.{same}
 use Rattle.accounts.specs.declared.account.Account.{Account}
 use Rattle.accounts.specs.declared.account.Entry.{Entry}
-use Rattle.accounts.specs.declared.accounting.Report.{Report}
 use Rattle.accounts.specs.Account.{freshAccount, isPost, raisedIf, entered}
 use Rattle.accounts.specs.Accounting.{valueOf as enteredValue, entryOf, interruptEntered, threadEntered, threadsEntered, accountedStep}
-use Rattle.steps.specs.declared.stepping.Outcome.{Outcome}
 use Rattle.steps.specs.Stepping.{stepped}
 use Rattle.promises.specs.Paper.World.{kept}
-use Rattle.promises.specs.Paper.Host.{HostSteps}
+use Rattle.promises.specs.Paper.Host.{HostSteps, Going}
 use Rattle.promises.specs.Paper.Together.{isZero}
 use Rattle.promises.specs.Paper.Run.{Moment}
 use Rattle.promises.specs.Paper.Waking.{rowOf, inMask}
@@ -48,21 +46,14 @@ use Rattle.promises.specs.Paper.History.{
   each,
   lostAt,
 }
-use Rattle.promises.specs.Runs.Moments.{momentOf, moments, Going, host, going-on}
+use Rattle.promises.specs.Paper.Ledger.{reportOf}
+use Rattle.promises.specs.Code.Steps.{momentOf, moments, tallied}
+use Rattle.promises.specs.Runs.Moments.{host, going-on}
 use Rattle.promises.specs.Runs.Histories.{finished-within}
 use Rattle.promises.specs.Runs.Counting.{total-same}
 use Rattle.promises.specs.Meant.Together.{zero-same}
 use Rattle.promises.specs.Together.Hanging.{all-blank}
 use Rattle.promises.specs.Together.Tests.{neither-means}
-
--- what a result reports of finished calls
-abbrev pub reportOf : Outcome → Report
-reportOf o = record { code = o .code; finished = o .finished; message = o .message; datum = o .datum }
-
--- the account of a run whose first moment is the n-th
-unfoldable pub tallied : ℕ → Account → List Moment → Account
-tallied n a [] = a
-tallied n a (m ∷ ms) = tallied (suc n) (accountedStep a n (m .before) (m .step) (reportOf (m .result)) (m .after)) ms
 
 -- ---- an event is entered
 
@@ -196,7 +187,6 @@ module _ (n : ℕ) (m : Moment) (no : m .result .code ≢ 0) where
 
 pub run-enters : (ss : List Step) → HostSteps ss → (n : ℕ) (t : Tables) (c : Clock) → Going t c → (a : Account)
     → tallied n a (moments t c ss) ≡ enteredAll a (shownIn n (moments t c ss))
-unfolding moments tallied
 run-enters [] hs n t c g a = refl
 run-enters (s ∷ ss) (HostSteps.more h hs) n t c g a =
     let m = momentOf t c s in

@@ -14,14 +14,14 @@ use Rattle.library.specs.declared.sizes.Sizes.{Sizes}
 use Rattle.library.specs.declared.tables.Tables.{Tables}
 use Rattle.library.specs.Fresh.{made}
 use Rattle.steps.specs.Stepping.{stepped}
-use Rattle.promises.specs.Paper.Fresh.{FreshTables}
-use Rattle.promises.specs.Paper.Host.{HostStep, HostSteps}
+use Rattle.promises.specs.Paper.Fresh.{FreshTables, Legal}
+use Rattle.promises.specs.Paper.Host.{HostStep, HostSteps, Going}
 use Rattle.promises.specs.Paper.Waking.{rowOf, inMask}
 use Rattle.promises.specs.Paper.Run.{Moment, isAccepted, howMany, anyOf, TurnOf}
 use Rattle.promises.specs.Paper.Causes.{causeFor, messageBy, Why, whyOf, notYet, numbered, LastWaking}
-use Rattle.promises.specs.Meant.Fresh.{made-fresh}
-use Rattle.promises.specs.Runs.Run.{ran}
-use Rattle.promises.specs.Runs.Moments.{moments, Going, turn-woken, sleeper-woken}
+use Rattle.promises.specs.Code.Steps.{ran, moments, freshMoments, freshRan}
+use Rattle.promises.specs.Meant.Fresh.{made-legal}
+use Rattle.promises.specs.Runs.Moments.{turn-woken, sleeper-woken}
 use Rattle.promises.specs.Runs.LastWakings.{last-wakings, steps-numbered, numbered-count, numbered-stays, unwoken-same, fresh-why}
 use Rattle.promises.specs.Top.Demands.{fresh-going, run-going}
 
@@ -55,15 +55,15 @@ module _ (t : Tables) (c : Clock) (g : Going t c) (s : Step) (h : HostStep s) (a
 
 -- ---- from fresh tables
 
-module _ (y : Sizes) (r : Rate) (legal : made y r .code ≡ 0) (ss : List Step) (hs : HostSteps ss) where
+module _ (y : Sizes) (r : Rate) (legal : Legal y r) (ss : List Step) (hs : HostSteps ss) where
   abbrev pub run : List Moment
-  run = moments (made y r .tables) (made y r .clock) ss
+  run = freshMoments y r ss
 
   abbrev pub end : Tables
-  end = ran (made y r .tables) (made y r .clock) ss .tables
+  end = freshRan y r ss .tables
 
   fresh : FreshTables y (made y r .tables)
-  fresh = made-fresh y r legal
+  fresh = made-legal y r legal .tables
 
   -- "none yet", and "0 before any"
   pub why-fresh : (i : ℕ) → i < y .threads → LastWaking i (whyOf (rowOf end i)) 0 notYet run

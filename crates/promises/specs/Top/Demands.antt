@@ -3,65 +3,44 @@
 -- code is `stepped` alone, which each function is proved to compute.
 use Prim.Native.Nat.{ℕ, _+_, _≤_, _<_}
 use native.Mathlib.Omega.{arith}
-use mathlib.Core.Path.{_≡_, refl, sym, _∙_, subst}
-use mathlib.Core.Logic.{_≢_, _⊎_, _↔_}
+use mathlib.Core.Path.{_≡_, sym, _∙_, subst}
+use mathlib.Core.Logic.{_≢_, _⊎_}
 use mathlib.Core.Bool.{true, false}
 use mathlib.Core.List.{List, [], _∷_}
 use borrow.Author.Tests.{eq-eqb}
 use Rattle.kernel.specs.declared.clock.Clock.{Clock}
 use Rattle.kernel.specs.declared.records.Thread.{Thread}
 use Rattle.kernel.specs.declared.units.Rate.{Rate}
-use Rattle.kernel.specs.Units.{frequencyOf, frequencyFits}
-use Rattle.kernel.proofs.Cases.{same-or, in-or-out, chosen}
+use Rattle.kernel.proofs.Cases.{same-or, in-or-out}
 use Rattle.library.specs.declared.calls.Step.{Step}
-use Rattle.library.specs.declared.fresh.Made.{Made}
 use Rattle.library.specs.declared.sizes.Sizes.{Sizes}
 use Rattle.library.specs.declared.tables.Tables.{Tables}
 use Rattle.library.specs.Fresh.{made}
-use Rattle.library.specs.Sizes.{sizesFit}
 use Rattle.steps.specs.declared.stepping.Stepped.{Stepped}
 use Rattle.steps.specs.Stepping.{stepped}
 use Rattle.host.specs.Screen.{readyCount, readyFirst, waitersAt}
 use Rattle.promises.specs.Paper.World.{found}
 use Rattle.promises.specs.Paper.Together.{TicksFit, WordsAgree, HangTogether}
-use Rattle.promises.specs.Paper.Host.{Host, HostSteps}
-use Rattle.promises.specs.Paper.Refusals.{Broken, RefusedWith}
+use Rattle.promises.specs.Paper.Host.{Host, HostSteps, Going}
+use Rattle.promises.specs.Paper.Refusals.{Broken, RefusedWith, Answered}
 use Rattle.promises.specs.Paper.Step.{StepOf}
 use Rattle.promises.specs.Paper.Waking.{rowOf, inMask}
 use Rattle.promises.specs.Paper.Boundary.{ScreenOf}
-use Rattle.promises.specs.Paper.Run.{ticksIn, signalsIn, joinsIn, higher, WokenIn}
+use Rattle.promises.specs.Paper.Run.{ticksIn, signalsIn, joinsIn, higher, WokenIn, WakingOf, TurnAt}
 use Rattle.promises.specs.Paper.Flags.{answeredIn, Account}
-use Rattle.promises.specs.Runs.Run.{ran}
+use Rattle.promises.specs.Paper.EachThread.{EachThread, Throughout}
+use Rattle.promises.specs.Paper.Fresh.{Legal}
+use Rattle.promises.specs.Code.Steps.{ran, moments, freshRan}
 use Rattle.promises.specs.Kept.Steps.{made-hang}
-use Rattle.promises.specs.Runs.Moments.{
-  moments,
-  Going,
-  going-on,
-  WakingOf,
-  sleeps-end,
-  TurnAt,
-  turn-comes,
-  EachThread,
-  Throughout,
-  each-step,
-}
+use Rattle.promises.specs.Runs.Moments.{going-on, sleeps-end, turn-comes, each-step}
 use Rattle.promises.specs.Runs.Accounts.{flag-account, signalled-kept}
 use Rattle.promises.specs.Meant.Together.{rules-together}
 use Rattle.promises.specs.Meant.Screen.{screen-is}
 use Rattle.promises.specs.Meant.Step.{sized-host, step-is, demand-two}
+use Rattle.promises.specs.Meant.Fresh.{made-legal}
 
 -- ---- DEMAND 1: "Any tables and any step get an answer. Bad ones get the refusal number of document 01; then every table byte stays as it
 -- was, no thread is woken, no call finishes"
-
-pub record Answered (t : Tables) (c : Clock) (s : Step) : Type 0 where
-  -- "Given exactly when", "in the order of checking": its rule is broken and none before it
-  pub refused : (n : ℕ) → n ≢ 0 → (stepped t c s .outcome .code ≡ n) ↔ (Broken t c s n × ((m : ℕ) → m < n → Broken t c s m → ⊥))
-  -- accepted is what breaks none
-  pub accepted : (stepped t c s .outcome .code ≡ 0) ↔ ((n : ℕ) → Broken t c s n → ⊥)
-  -- and a refused step leaves tables and clock, wakes nobody and finishes nothing
-  pub untouched : stepped t c s .outcome .code ≢ 0 → RefusedWith t c (stepped t c s .outcome .code) (stepped t c s)
-  -- there are seven numbers
-  pub numbers : stepped t c s .outcome .code ≤ 7
 
 -- the rules have the numbers 1 to 7
 broken-number : {t : Tables} {c : Clock} {s : Step} {n : ℕ} → Broken t c s n → (1 ≤ n) × (n ≤ 7)
@@ -107,7 +86,7 @@ module _ (t : Tables) (c : Clock) (s : Step) (host : Host t c s) where
       → m ≡ k
   first-rule m k a f b g = same-or m k (λ e. e) (λ d. in-or-out m k (λ l. absurd (g m l a)) (λ l. absurd (f k (omega arith) b)))
 
-  answered : Verdict → Answered t c s
+  answered : Verdict → Answered t c s (stepped t c s)
   answered (Verdict.taken e b) =
       record {
         refused = λ m d. (λ x. absurd (d (sym x ∙ e)), λ x. absurd (b m (x .0)));
@@ -126,7 +105,7 @@ module _ (t : Tables) (c : Clock) (s : Step) (host : Host t c s) where
         numbers = broken-number b .1;
       }
 
-  pub demand-1 : Answered t c s
+  pub demand-1 : Answered t c s (stepped t c s)
   demand-1 = answered (verdict (step-is t c s host))
 
   -- ---- DEMAND 2: "Every accepted step gives the tables, wakeups, finished calls and answer that the NIL manual and document 01 define": it
@@ -168,24 +147,17 @@ module _ (t : Tables) (c : Clock) (g : Going t c) (ss : List Step) (hs : HostSte
 
 -- ---- "Fresh tables pass, and accepted steps keep it so"
 
--- the time of fresh tables is 0
-fresh-time : (y : Sizes) (r : Rate) → made y r .clock .time .0 ≡ 0
-unfolding made
-fresh-time y r =
-    let P : Made → Type 0 = λ m. m .clock .time .0 ≡ 0 in
-    chosen P (sizesFit y) (λ e. chosen P (frequencyFits (frequencyOf r)) (λ f. refl) (λ f. refl)) (λ e. refl)
-
-pub fresh-going : (y : Sizes) (r : Rate) → made y r .code ≡ 0 → Going (made y r .tables) (made y r .clock)
-fresh-going y r e =
-    let h = made-hang y r e in
+pub fresh-going : (y : Sizes) (r : Rate) → Legal y r → Going (made y r .tables) (made y r .clock)
+fresh-going y r legal =
+    let m = made-legal y r legal in
+    let h = made-hang y r (m .code) in
     record {
       together = rules-together (made y r .tables) (made y r .clock) (h .together);
       tables = sized-host (made y r .tables) (h .sized);
-      time = rw (fresh-time y r) (omega arith);
+      time = rw (m .clock .time) (omega arith);
     }
 
 pub run-going : (ss : List Step) → HostSteps ss → (t : Tables) (c : Clock) → Going t c → Going (ran t c ss .tables) (ran t c ss .clock)
-unfolding ran
 run-going [] hs t c g = g
 run-going (s ∷ ss) (HostSteps.more h hs) t c g = run-going ss hs (stepped t c s .tables) (stepped t c s .clock) (going-on t c g s h)
 
@@ -221,18 +193,17 @@ module _ (t : Tables) (c : Clock) (g : Going t c) where
   pub no-flag-lost : (s : Step) (ss : List Step) → HostSteps (s ∷ ss) → (i n : ℕ) → i < t .sizes .threads
       → stepped t c s .outcome .code ≡ 0 → s .kind ≡ 13 → s .object ≡ i → inMask n (s .a) ≡ true
       → (inMask n (rowOf (ran t c (s ∷ ss) .tables) i .pending) ≡ true) ⊎ (answeredIn i n (moments t c (s ∷ ss)) ≡ true)
-  unfolding moments
   no-flag-lost s ss hs i n l e k o f =
       signalled-kept (flag-account (s ∷ ss) hs t c g i n l)
       (rw (eq-eqb (stepped t c s .outcome .code) 0 e, eq-eqb (s .kind) 13 k, eq-eqb (s .object) i o) f)
 
 -- ---- DEMAND 3, from fresh tables of the sizes y, after any steps xs, over any steps ss
-module _ (y : Sizes) (r : Rate) (legal : made y r .code ≡ 0) (xs : List Step) (hx : HostSteps xs) where
+module _ (y : Sizes) (r : Rate) (legal : Legal y r) (xs : List Step) (hx : HostSteps xs) where
   abbrev pub t₁ : Tables
-  t₁ = ran (made y r .tables) (made y r .clock) xs .tables
+  t₁ = freshRan y r xs .tables
 
   abbrev pub c₁ : Clock
-  c₁ = ran (made y r .tables) (made y r .clock) xs .clock
+  c₁ = freshRan y r xs .clock
 
   going : Going t₁ c₁
   going = run-going xs hx (made y r .tables) (made y r .clock) (fresh-going y r legal)

@@ -36,7 +36,8 @@ use Rattle.trace.specs.declared.decoding.Found.the-variants.{Ended}
 use Rattle.trace.specs.Ordered.{getN}
 use Rattle.trace.specs.Decoding.{endsInside, lengthRefusal, stepRefusal, decodedSizes, decodedStep, openedRead, steppedRead, nextRead}
 use Rattle.trace.specs.Traces.{Reading, readFrom, readAll}
-use Rattle.promises.specs.Runs.Run.{Ran, ran}
+use Rattle.promises.specs.Paper.Run.{Ran}
+use Rattle.promises.specs.Code.Steps.{ran}
 
 -- "a line per step (record number, code, running, woken, finished)"
 abbrev pub lineOf : ℕ → Outcome → List ℕ
@@ -109,7 +110,7 @@ told =
 
 -- the twelve facts
 pub twelve-facts : computed ≡ told
-unfolding firstFrom allFrom countOf wordOf firstOf firstReady firstWaiter takenOff putOn woken slept finished blocked enqueued releasedFirst releasedAll taken waited signalled ticked sizesFit made inTicks signalActed callMade effected actedOnKernel acted wentOn settled callFits waitFits ticksFit flagsFit rowFits rowsFit queuedCount countersFit readyWord waitingWord readyFits waitingFits wordsFit holderFits referencesFit positionsFit mailboxesFit promisedCount occurrences entriesFit objectsFit poolFits poolsFit hangsTogether refusalOf maskOf outcomeOf doneWith refusedWith stepped getN endsInside lengthRefusal stepRefusal decodedSizes decodedStep openedRead steppedRead nextRead readFrom readAll ran
+unfolding firstFrom allFrom countOf wordOf firstOf firstReady firstWaiter takenOff putOn woken slept finished blocked enqueued releasedFirst releasedAll taken waited signalled ticked sizesFit made inTicks signalActed callMade effected actedOnKernel acted wentOn settled callFits waitFits ticksFit flagsFit rowFits rowsFit queuedCount countersFit readyWord waitingWord readyFits waitingFits wordsFit holderFits referencesFit positionsFit mailboxesFit promisedCount occurrences entriesFit objectsFit poolFits poolsFit hangsTogether refusalOf maskOf outcomeOf doneWith refusedWith stepped getN endsInside lengthRefusal stepRefusal decodedSizes decodedStep openedRead steppedRead nextRead readFrom readAll
 twelve-facts = refl
 
 -- and the trace of the six steps is read to its end

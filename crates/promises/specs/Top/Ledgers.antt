@@ -16,18 +16,16 @@ use Rattle.library.specs.declared.tables.Tables.{Tables}
 use Rattle.library.specs.Fresh.{made}
 use Rattle.accounts.specs.Account.{freshAccount}
 use Rattle.promises.specs.Paper.World.{found}
-use Rattle.promises.specs.Paper.Fresh.{FreshTables}
-use Rattle.promises.specs.Paper.Host.{HostSteps}
+use Rattle.promises.specs.Paper.Fresh.{FreshTables, Legal}
+use Rattle.promises.specs.Paper.Host.{HostSteps, Going}
 use Rattle.promises.specs.Paper.Together.{number, isZero}
 use Rattle.promises.specs.Paper.Run.{Moment}
 use Rattle.promises.specs.Paper.History.{Event, answerBy, finishes, shownBy, Turns, isAmong, inTurn, History, shownIn, total, posted, fetched, added, each, lostAt}
 use Rattle.promises.specs.Paper.Ledger.{Ledger, noPostings, opened, ledger, times, HandsOver, Paired, Standing, standing, standingIn, isOut, markIn, freeIn, Accounted, AccountOf}
-use Rattle.promises.specs.Meant.Fresh.{made-fresh}
+use Rattle.promises.specs.Code.Steps.{ran, moments, tallied, freshMoments, freshRan}
+use Rattle.promises.specs.Meant.Fresh.{made-legal}
 use Rattle.promises.specs.Meant.History.{turns-only, history-only}
-use Rattle.promises.specs.Runs.Run.{ran}
-use Rattle.promises.specs.Runs.Moments.{moments, Going}
 use Rattle.promises.specs.Runs.Ledgers.{accounted, accounted-fresh}
-use Rattle.promises.specs.Runs.Tallied.{tallied}
 use Rattle.promises.specs.Runs.Takers.{before-run, never-added, printed}
 use Rattle.promises.specs.Top.Demands.{fresh-going, run-going}
 
@@ -36,12 +34,12 @@ pub nothing-lost : (t : Tables) (c : Clock) → Going t c → (ss : List Step) �
     → Accounted (t .sizes) (opened t) (standingIn t) (moments t c ss) (ran t c ss .tables)
 nothing-lost t c g ss hs = accounted ss hs t c g (run-going ss hs t c g)
 
--- and what is printed of it is the account of this history
-pub account-printed : (t : Tables) (c : Clock) (g : Going t c) (ss : List Step) (hs : HostSteps ss)
-    → AccountOf (tallied 1 freshAccount (moments t c ss)) (t .sizes) (standingIn t) (moments t c ss) (nothing-lost t c g ss hs .events)
-account-printed t c g ss hs =
+-- and what is printed of it is the account of its history
+pub account-printed : (t : Tables) (c : Clock) → Going t c → (ss : List Step) → HostSteps ss → (es : List Event) → History 1 (moments t c ss) es
+    → AccountOf (tallied 1 freshAccount (moments t c ss)) (t .sizes) (standingIn t) (moments t c ss) es
+account-printed t c g ss hs es h =
     let a = nothing-lost t c g ss hs in
-    printed ss hs t c g (standingIn t) (λ q o. before-run (markIn (found t) q o)) (a .events) (a .history) (a .object-right)
+    printed ss hs t c g (standingIn t) (λ q o. before-run (markIn (found t) q o)) es h (rw (history-only h (a .history)) (a .object-right))
 
 -- ---- what follows of a run
 
@@ -89,15 +87,15 @@ module _ {z : Sizes} {l : ℕ → Ledger} {st : ℕ → ℕ → Standing} {ms : 
 
 -- ---- from fresh tables, where nothing was posted and no object added
 
-module _ (y : Sizes) (r : Rate) (legal : made y r .code ≡ 0) (ss : List Step) (hs : HostSteps ss) where
+module _ (y : Sizes) (r : Rate) (legal : Legal y r) (ss : List Step) (hs : HostSteps ss) where
   abbrev pub run : List Moment
-  run = moments (made y r .tables) (made y r .clock) ss
+  run = freshMoments y r ss
 
   abbrev pub end : Tables
-  end = ran (made y r .tables) (made y r .clock) ss .tables
+  end = freshRan y r ss .tables
 
   fresh : FreshTables y (made y r .tables)
-  fresh = made-fresh y r legal
+  fresh = made-legal y r legal .tables
 
   pub nothing-lost-fresh : Accounted y (λ b. noPostings) (λ q o. Standing.absent) run end
   nothing-lost-fresh =
@@ -110,16 +108,19 @@ module _ (y : Sizes) (r : Rate) (legal : made y r .code ≡ 0) (ss : List Step) 
       ≡ found end .box b .positions .count + total (each (fetched b)) (shownIn 1 run) + total (lostAt b) (shownIn 1 run)
   messages-sum b there = omega (arith, nothing-lost-fresh .box-sum b there)
 
-  -- "For each pool, objects ever added equal those free plus those out"
-  pub objects-sum : (q : ℕ) → q < y .pools
-      → total (each (added q)) (shownIn 1 run)
-      ≡ freeIn (found end) q + number (λ o. isOut (standing q o Standing.absent (nothing-lost-fresh .events))) 32
-  objects-sum q there = sym (zero-add (total (each (added q)) (shownIn 1 run))) ∙ nothing-lost-fresh .pool-sum q there
+  -- the history of the run
+  module _ (es : List Event) (history : History 1 run es) where
+    same : es ≡ nothing-lost-fresh .events
+    same = history-only history (nothing-lost-fresh .history)
 
-  -- and what `./account` prints is the account of this history
-  pub account-printed-fresh : AccountOf (tallied 1 freshAccount run) y (λ q o. Standing.absent) run (nothing-lost-fresh .events)
-  account-printed-fresh =
-      let a = nothing-lost-fresh in
-      subst (λ (z : Sizes). AccountOf (tallied 1 freshAccount run) z (λ q o. Standing.absent) run (a .events)) (fresh .sizes)
-      (printed ss hs (made y r .tables) (made y r .clock) (fresh-going y r legal) (λ q o. Standing.absent) (λ q o. never-added) (a .events) (a .history)
-      (λ q o there. a .object-right q o (rw (fresh .sizes) at there)))
+    -- "For each pool, objects ever added equal those free plus those out"
+    pub objects-sum : (q : ℕ) → q < y .pools
+        → total (each (added q)) (shownIn 1 run) ≡ freeIn (found end) q + number (λ o. isOut (standing q o Standing.absent es)) 32
+    objects-sum q there = sym (zero-add (total (each (added q)) (shownIn 1 run))) ∙ rw same (nothing-lost-fresh .pool-sum q there)
+
+    -- and what `./account` prints is the account of this history
+    pub account-printed-fresh : AccountOf (tallied 1 freshAccount run) y (λ q o. Standing.absent) run es
+    account-printed-fresh =
+        subst (λ (z : Sizes). AccountOf (tallied 1 freshAccount run) z (λ q o. Standing.absent) run es) (fresh .sizes)
+        (printed ss hs (made y r .tables) (made y r .clock) (fresh-going y r legal) (λ q o. Standing.absent) (λ q o. never-added) es history
+        (λ q o there. rw same (nothing-lost-fresh .object-right q o (rw (fresh .sizes) at there))))

@@ -32,8 +32,8 @@ use Rattle.promises.specs.Paper.History.{Event, isOwn, OwnFirst}
 use Rattle.promises.specs.Paper.Ledger.{inBox, noPostings, ledger, BoxTold, Standing, standing}
 use Rattle.promises.specs.Paper.Signals.{AtTop, SignalTold}
 use Rattle.promises.specs.Paper.Causes.{Wakes}
+use Rattle.promises.specs.Paper.EachThread.{EachThread}
 use Rattle.promises.specs.Runs.Sleepers.{last-by}
-use Rattle.promises.specs.Runs.Moments.{EachThread}
 use Rattle.promises.specs.Runs.Pipes.{smaller-le, numbered}
 
 -- -1 and -2 are not 0

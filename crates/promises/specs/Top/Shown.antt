@@ -37,9 +37,11 @@ use Rattle.steps.specs.Stepping.{maskOf, outcomeOf, doneWith, refusedWith, step
 use Rattle.host.specs.Screen.{readyCount, readyFirst, waitersAt}
 use Rattle.promises.specs.Paper.Host.{HostStep, HostSteps}
 use Rattle.promises.specs.Paper.Waking.{rowOf}
-use Rattle.promises.specs.Paper.Run.{WokenIn}
-use Rattle.promises.specs.Runs.Run.{ran}
-use Rattle.promises.specs.Runs.Moments.{moments, WakingOf, TurnAt, EachThread, Throughout}
+use Rattle.promises.specs.Paper.Run.{WokenIn, WakingOf, TurnAt}
+use Rattle.promises.specs.Paper.EachThread.{EachThread, Throughout}
+use Rattle.promises.specs.Paper.Fresh.{Legal}
+use Rattle.promises.specs.Meant.Fresh.{code-legal}
+use Rattle.promises.specs.Code.Steps.{ran, moments}
 use Rattle.promises.specs.Top.Demands.{t₁, c₁, demand-3a, demand-3b, demand-3c, demand-3c-pools}
 
 -- two threads, one semaphore, one pool
@@ -47,9 +49,9 @@ abbrev two : Sizes
 two = record { threads = 2; semaphores = 1; queues = 0; references = 0; mailboxes = 0; pools = 1; slots = 0 ∷ 0 ∷ 0 ∷ 0 ∷ [] }
 
 -- such tables are made
-pub made-shown : made two Standard .code ≡ 0
+pub made-shown : Legal two Standard
 unfolding allFrom sizesFit made
-made-shown = refl
+made-shown = code-legal two Standard refl
 
 -- a step on object 0
 abbrev by : ℕ → ℕ → ℕ → ℕ → Step
@@ -79,7 +81,7 @@ waits-typed timeout = one 0 2 0 timeout (omega arith)
 pub demand-3a-shown :
     WokenIn 0 (WakingOf 0)
     (moments (t₁ two Standard made-shown (alone (waits 0 1)) (waits-typed 1)) (c₁ two Standard made-shown (alone (waits 0 1)) (waits-typed 1)) (alone tick))
-unfolding firstFrom allFrom countOf wordOf firstOf firstReady firstWaiter takenOff putOn woken slept finished blocked enqueued releasedFirst releasedAll taken waited signalled ticked sizesFit made signalActed callMade effected actedOnKernel acted wentOn settled callFits waitFits ticksFit flagsFit rowFits rowsFit queuedCount countersFit readyWord waitingWord readyFits waitingFits wordsFit holderFits referencesFit positionsFit mailboxesFit promisedCount occurrences entriesFit objectsFit poolFits poolsFit hangsTogether refusalOf maskOf outcomeOf doneWith refusedWith stepped ran moments
+unfolding firstFrom allFrom countOf wordOf firstOf firstReady firstWaiter takenOff putOn woken slept finished blocked enqueued releasedFirst releasedAll taken waited signalled ticked sizesFit made signalActed callMade effected actedOnKernel acted wentOn settled callFits waitFits ticksFit flagsFit rowFits rowsFit queuedCount countersFit readyWord waitingWord readyFits waitingFits wordsFit holderFits referencesFit positionsFit mailboxesFit promisedCount occurrences entriesFit objectsFit poolFits poolsFit hangsTogether refusalOf maskOf outcomeOf doneWith refusedWith stepped
 demand-3a-shown =
     demand-3a two Standard made-shown (alone (waits 0 1)) (waits-typed 1) (alone tick) (one 255 1 0 0 (omega arith)) 0 (omega arith)
     (λ z. omega (arith, z)) (omega arith) (omega arith)
@@ -87,7 +89,7 @@ demand-3a-shown =
 pub demand-3b-shown :
     Throughout EachThread
     (moments (t₁ two Standard made-shown (alone (waits 0 1)) (waits-typed 1)) (c₁ two Standard made-shown (alone (waits 0 1)) (waits-typed 1)) (alone tick))
-unfolding firstFrom allFrom countOf wordOf firstOf firstReady firstWaiter takenOff putOn woken slept finished blocked enqueued releasedFirst releasedAll taken waited signalled ticked sizesFit made signalActed callMade effected actedOnKernel acted wentOn settled callFits waitFits ticksFit flagsFit rowFits rowsFit queuedCount countersFit readyWord waitingWord readyFits waitingFits wordsFit holderFits referencesFit positionsFit mailboxesFit promisedCount occurrences entriesFit objectsFit poolFits poolsFit hangsTogether refusalOf maskOf outcomeOf doneWith refusedWith stepped ran moments
+unfolding firstFrom allFrom countOf wordOf firstOf firstReady firstWaiter takenOff putOn woken slept finished blocked enqueued releasedFirst releasedAll taken waited signalled ticked sizesFit made signalActed callMade effected actedOnKernel acted wentOn settled callFits waitFits ticksFit flagsFit rowFits rowsFit queuedCount countersFit readyWord waitingWord readyFits waitingFits wordsFit holderFits referencesFit positionsFit mailboxesFit promisedCount occurrences entriesFit objectsFit poolFits poolsFit hangsTogether refusalOf maskOf outcomeOf doneWith refusedWith stepped
 demand-3b-shown =
     demand-3b two Standard made-shown (alone (waits 0 1)) (waits-typed 1) (alone tick) (one 255 1 0 0 (omega arith)) 0 (omega arith)
 
@@ -109,7 +111,7 @@ signals-typed = HostSteps.more (typed 255 3 0 0 (omega arith)) (HostSteps.more (
 pub demand-3c-shown :
     WokenIn 1 (TurnAt 0 1)
     (moments (t₁ two Standard made-shown bothWait both-typed) (c₁ two Standard made-shown bothWait both-typed) twoSignals)
-unfolding firstFrom allFrom countOf wordOf firstOf firstReady firstWaiter takenOff putOn woken slept finished blocked enqueued releasedFirst releasedAll taken waited signalled ticked sizesFit made signalActed callMade effected actedOnKernel acted wentOn settled callFits waitFits ticksFit flagsFit rowFits rowsFit queuedCount countersFit readyWord waitingWord readyFits waitingFits wordsFit holderFits referencesFit positionsFit mailboxesFit promisedCount occurrences entriesFit objectsFit poolFits poolsFit hangsTogether refusalOf maskOf outcomeOf doneWith refusedWith stepped ran moments
+unfolding firstFrom allFrom countOf wordOf firstOf firstReady firstWaiter takenOff putOn woken slept finished blocked enqueued releasedFirst releasedAll taken waited signalled ticked sizesFit made signalActed callMade effected actedOnKernel acted wentOn settled callFits waitFits ticksFit flagsFit rowFits rowsFit queuedCount countersFit readyWord waitingWord readyFits waitingFits wordsFit holderFits referencesFit positionsFit mailboxesFit promisedCount occurrences entriesFit objectsFit poolFits poolsFit hangsTogether refusalOf maskOf outcomeOf doneWith refusedWith stepped
 demand-3c-shown =
     demand-3c two Standard made-shown bothWait both-typed twoSignals signals-typed 1 (omega arith) 0 (omega arith) refl refl refl (omega arith)
 
@@ -122,7 +124,7 @@ pub demand-3c-pools-shown :
     WokenIn 0 (TurnAt 16 0)
     (moments (t₁ two Standard made-shown (alone allocs) (one 0 20 0 4294967295 (omega arith)))
     (c₁ two Standard made-shown (alone allocs) (one 0 20 0 4294967295 (omega arith))) (alone (by 255 22 5 0)))
-unfolding firstFrom allFrom countOf wordOf firstOf firstReady firstWaiter takenOff putOn woken slept finished blocked enqueued releasedFirst releasedAll taken waited signalled ticked sizesFit made signalActed callMade effected actedOnKernel acted wentOn settled callFits waitFits ticksFit flagsFit rowFits rowsFit queuedCount countersFit readyWord waitingWord readyFits waitingFits wordsFit holderFits referencesFit positionsFit mailboxesFit promisedCount occurrences entriesFit objectsFit poolFits poolsFit hangsTogether refusalOf maskOf outcomeOf doneWith refusedWith stepped ran moments popped pushed handedOver allocTried putBack boxEffected actedOnBox
+unfolding firstFrom allFrom countOf wordOf firstOf firstReady firstWaiter takenOff putOn woken slept finished blocked enqueued releasedFirst releasedAll taken waited signalled ticked sizesFit made signalActed callMade effected actedOnKernel acted wentOn settled callFits waitFits ticksFit flagsFit rowFits rowsFit queuedCount countersFit readyWord waitingWord readyFits waitingFits wordsFit holderFits referencesFit positionsFit mailboxesFit promisedCount occurrences entriesFit objectsFit poolFits poolsFit hangsTogether refusalOf maskOf outcomeOf doneWith refusedWith stepped popped pushed handedOver allocTried putBack boxEffected actedOnBox
 demand-3c-pools-shown =
     demand-3c-pools two Standard made-shown (alone allocs) (one 0 20 0 4294967295 (omega arith)) (alone (by 255 22 5 0))
     (one 255 22 5 0 (omega arith)) 0 (omega arith) 0 (omega arith) refl refl refl (omega arith)
@@ -137,7 +139,7 @@ wordsAfter ss =
 
 pub words-shown : wordsAfter [] ∷ wordsAfter (alone (waits 0 5)) ∷ wordsAfter bothWait ∷ wordsAfter (bothWait ++ alone (by 255 3 0 0)) ∷ []
     ≡ (3 ∷ 0 ∷ 2 ∷ 0 ∷ []) ∷ (2 ∷ 1 ∷ 1 ∷ 1 ∷ []) ∷ (0 ∷ 3 ∷ 0 ∷ 255 ∷ []) ∷ (1 ∷ 2 ∷ 1 ∷ 0 ∷ []) ∷ []
-unfolding firstFrom allFrom countOf wordOf firstOf firstReady firstWaiter takenOff putOn woken slept finished blocked enqueued releasedFirst releasedAll taken waited signalled ticked sizesFit made signalActed callMade effected actedOnKernel acted wentOn settled callFits waitFits ticksFit flagsFit rowFits rowsFit queuedCount countersFit readyWord waitingWord readyFits waitingFits wordsFit holderFits referencesFit positionsFit mailboxesFit promisedCount occurrences entriesFit objectsFit poolFits poolsFit hangsTogether refusalOf maskOf outcomeOf doneWith refusedWith stepped ran onesOf
+unfolding firstFrom allFrom countOf wordOf firstOf firstReady firstWaiter takenOff putOn woken slept finished blocked enqueued releasedFirst releasedAll taken waited signalled ticked sizesFit made signalActed callMade effected actedOnKernel acted wentOn settled callFits waitFits ticksFit flagsFit rowFits rowsFit queuedCount countersFit readyWord waitingWord readyFits waitingFits wordsFit holderFits referencesFit positionsFit mailboxesFit promisedCount occurrences entriesFit objectsFit poolFits poolsFit hangsTogether refusalOf maskOf outcomeOf doneWith refusedWith stepped onesOf
 words-shown = refl
 
 -- ---- the flags of document 02, in runs. Thread 1 is slow: it awaits flags 1 or 2, and thread 0 sleeps for one tick
@@ -162,10 +164,10 @@ slowAfter ss =
 -- "a slow thread awaiting flags 1 or 2 was signalled 1, then 2 before it ran, and saw both"; flag 4 is not its
 pub both-flags-seen : slowAfter (slow 9 ++ signals 1 ∷ signals 6 ∷ []) ∷ slowAfter (slow 9 ++ signals 1 ∷ signals 6 ∷ goesOn) ∷ []
     ≡ (0 ∷ 14 ∷ 7 ∷ [], record { message = pos 0; datum = 0 }) ∷ (0 ∷ 0 ∷ 4 ∷ [], record { message = pos 0; datum = 3 }) ∷ []
-unfolding firstFrom allFrom countOf wordOf firstOf firstReady firstWaiter takenOff putOn woken slept finished blocked enqueued releasedFirst releasedAll taken waited signalled sleptFor tookFlags eventSignalled eventWaited ticked sizesFit made signalActed callMade effected actedOnKernel acted wentOn settled callFits waitFits ticksFit flagsFit rowFits rowsFit queuedCount countersFit readyWord waitingWord readyFits waitingFits wordsFit holderFits referencesFit positionsFit mailboxesFit promisedCount occurrences entriesFit objectsFit poolFits poolsFit hangsTogether refusalOf maskOf outcomeOf doneWith refusedWith stepped ran
+unfolding firstFrom allFrom countOf wordOf firstOf firstReady firstWaiter takenOff putOn woken slept finished blocked enqueued releasedFirst releasedAll taken waited signalled sleptFor tookFlags eventSignalled eventWaited ticked sizesFit made signalActed callMade effected actedOnKernel acted wentOn settled callFits waitFits ticksFit flagsFit rowFits rowsFit queuedCount countersFit readyWord waitingWord readyFits waitingFits wordsFit holderFits referencesFit positionsFit mailboxesFit promisedCount occurrences entriesFit objectsFit poolFits poolsFit hangsTogether refusalOf maskOf outcomeOf doneWith refusedWith stepped
 both-flags-seen = refl
 
 -- "A wait that timed out still answers -1 with 0, and flags that came afterwards stay pending"
 pub late-flag-stays : slowAfter (slow 1 ++ signals 1 ∷ goesOn) ≡ (0 ∷ 0 ∷ 1 ∷ [], record { message = negsuc 0; datum = 0 })
-unfolding firstFrom allFrom countOf wordOf firstOf firstReady firstWaiter takenOff putOn woken slept finished blocked enqueued releasedFirst releasedAll taken waited signalled sleptFor tookFlags eventSignalled eventWaited ticked sizesFit made signalActed callMade effected actedOnKernel acted wentOn settled callFits waitFits ticksFit flagsFit rowFits rowsFit queuedCount countersFit readyWord waitingWord readyFits waitingFits wordsFit holderFits referencesFit positionsFit mailboxesFit promisedCount occurrences entriesFit objectsFit poolFits poolsFit hangsTogether refusalOf maskOf outcomeOf doneWith refusedWith stepped ran
+unfolding firstFrom allFrom countOf wordOf firstOf firstReady firstWaiter takenOff putOn woken slept finished blocked enqueued releasedFirst releasedAll taken waited signalled sleptFor tookFlags eventSignalled eventWaited ticked sizesFit made signalActed callMade effected actedOnKernel acted wentOn settled callFits waitFits ticksFit flagsFit rowFits rowsFit queuedCount countersFit readyWord waitingWord readyFits waitingFits wordsFit holderFits referencesFit positionsFit mailboxesFit promisedCount occurrences entriesFit objectsFit poolFits poolsFit hangsTogether refusalOf maskOf outcomeOf doneWith refusedWith stepped
 late-flag-stays = refl

@@ -38,16 +38,16 @@ use Rattle.promises.specs.Paper.Host.{HostStep, HostSteps}
 use Rattle.promises.specs.Paper.Waking.{rowOf}
 use Rattle.promises.specs.Paper.Run.{Moment, isAccepted, howMany}
 use Rattle.promises.specs.Paper.Causes.{whyOf, notYet, LastWaking}
-use Rattle.promises.specs.Runs.Run.{ran}
-use Rattle.promises.specs.Runs.Moments.{moments}
+use Rattle.promises.specs.Paper.Fresh.{Legal}
+use Rattle.promises.specs.Meant.Fresh.{code-legal}
 use Rattle.promises.specs.Top.Causes.{run, end, why-fresh, steps-fresh}
 
 abbrev valve : Sizes
 valve = record { threads = 2; semaphores = 1; queues = 0; references = 0; mailboxes = 1; pools = 0; slots = 1 ∷ 0 ∷ 0 ∷ 0 ∷ [] }
 
-pub made-valve : made valve Standard .code ≡ 0
+pub made-valve : Legal valve Standard
 unfolding allFrom sizesFit made
-made-valve = refl
+made-valve = code-legal valve Standard refl
 
 -- a step on object 0, and its widths
 abbrev by : ℕ → ℕ → ℕ → ℕ → Step
@@ -122,7 +122,7 @@ pub shift-shown : shown (run valve Standard made-valve shift shift-typed)
     ∷ (0 ∷ 2 ∷ 11 ∷ 8 ∷ 10 ∷ 6 ∷ 11 ∷ [])
     ∷ (0 ∷ 1 ∷ 12 ∷ 5 ∷ 12 ∷ 6 ∷ 11 ∷ [])
     ∷ []
-unfolding firstFrom allFrom countOf wordOf firstOf firstReady firstWaiter takenOff putOn woken slept finished blocked enqueued releasedFirst releasedAll taken waited signalled resetTo suspendedOn resumed sleptFor sleptUntil tookFlags eventSignalled eventWaited ticked binarySignalled ringPosted postedAhead ringFetched emptied postDone postTried fetchDone fetchTried bothReleased mailboxReset mailboxResumed popped pushed handedOver allocTried putBack sizesFit made signalActed callMade effected actedOnKernel boxEffected actedOnBox acted wentOn settled callFits waitFits ticksFit flagsFit rowFits rowsFit queuedCount countersFit readyWord waitingWord readyFits waitingFits wordsFit holderFits referencesFit positionsFit mailboxesFit promisedCount occurrences entriesFit objectsFit poolFits poolsFit hangsTogether refusalOf maskOf outcomeOf doneWith refusedWith stepped ran moments
+unfolding firstFrom allFrom countOf wordOf firstOf firstReady firstWaiter takenOff putOn woken slept finished blocked enqueued releasedFirst releasedAll taken waited signalled resetTo suspendedOn resumed sleptFor sleptUntil tookFlags eventSignalled eventWaited ticked binarySignalled ringPosted postedAhead ringFetched emptied postDone postTried fetchDone fetchTried bothReleased mailboxReset mailboxResumed popped pushed handedOver allocTried putBack sizesFit made signalActed callMade effected actedOnKernel boxEffected actedOnBox acted wentOn settled callFits waitFits ticksFit flagsFit rowFits rowsFit queuedCount countersFit readyWord waitingWord readyFits waitingFits wordsFit holderFits referencesFit positionsFit mailboxesFit promisedCount occurrences entriesFit objectsFit poolFits poolsFit hangsTogether refusalOf maskOf outcomeOf doneWith refusedWith stepped
 shift-shown = refl
 
 -- the promise speaks of it
@@ -132,5 +132,5 @@ shift-why = why-fresh valve Standard made-valve shift shift-typed 0 (omega arith
 -- and its step number is the number of accepted steps: thirteen, less the refused one
 pub shift-steps : (howMany isAccepted (run valve Standard made-valve shift shift-typed) ≡ 12)
     × (end valve Standard made-valve shift shift-typed .kernel .steps ≡ 12)
-unfolding firstFrom allFrom countOf wordOf firstOf firstReady firstWaiter takenOff putOn woken slept finished blocked enqueued releasedFirst releasedAll taken waited signalled resetTo suspendedOn resumed sleptFor sleptUntil tookFlags eventSignalled eventWaited ticked binarySignalled ringPosted postedAhead ringFetched emptied postDone postTried fetchDone fetchTried bothReleased mailboxReset mailboxResumed popped pushed handedOver allocTried putBack sizesFit made signalActed callMade effected actedOnKernel boxEffected actedOnBox acted wentOn settled callFits waitFits ticksFit flagsFit rowFits rowsFit queuedCount countersFit readyWord waitingWord readyFits waitingFits wordsFit holderFits referencesFit positionsFit mailboxesFit promisedCount occurrences entriesFit objectsFit poolFits poolsFit hangsTogether refusalOf maskOf outcomeOf doneWith refusedWith stepped ran moments
+unfolding firstFrom allFrom countOf wordOf firstOf firstReady firstWaiter takenOff putOn woken slept finished blocked enqueued releasedFirst releasedAll taken waited signalled resetTo suspendedOn resumed sleptFor sleptUntil tookFlags eventSignalled eventWaited ticked binarySignalled ringPosted postedAhead ringFetched emptied postDone postTried fetchDone fetchTried bothReleased mailboxReset mailboxResumed popped pushed handedOver allocTried putBack sizesFit made signalActed callMade effected actedOnKernel boxEffected actedOnBox acted wentOn settled callFits waitFits ticksFit flagsFit rowFits rowsFit queuedCount countersFit readyWord waitingWord readyFits waitingFits wordsFit holderFits referencesFit positionsFit mailboxesFit promisedCount occurrences entriesFit objectsFit poolFits poolsFit hangsTogether refusalOf maskOf outcomeOf doneWith refusedWith stepped
 shift-steps = (refl, steps-fresh valve Standard made-valve shift shift-typed (omega arith))

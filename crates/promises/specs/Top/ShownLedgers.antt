@@ -40,10 +40,10 @@ use Rattle.promises.specs.Paper.Host.{HostStep, HostSteps}
 use Rattle.promises.specs.Paper.Together.{number, isPromised}
 use Rattle.promises.specs.Paper.History.{Event, History, shownIn, total, posted, fetched, added, each, lostAt}
 use Rattle.promises.specs.Paper.Ledger.{noPostings, ledger, Standing, freeIn, Accounted}
+use Rattle.promises.specs.Paper.Fresh.{Legal}
 use Rattle.promises.specs.Meant.History.{history-only}
 use Rattle.promises.specs.Meant.Settling.{turns}
-use Rattle.promises.specs.Runs.Run.{ran}
-use Rattle.promises.specs.Runs.Moments.{moments}
+use Rattle.promises.specs.Meant.Fresh.{code-legal}
 use Rattle.promises.specs.Runs.Histories.{turnsOf, eventsIn, recorded}
 use Rattle.promises.specs.Top.Demands.{fresh-going}
 use Rattle.promises.specs.Top.Ledgers.{run, end, nothing-lost-fresh}
@@ -51,9 +51,9 @@ use Rattle.promises.specs.Top.Ledgers.{run, end, nothing-lost-fresh}
 abbrev line : Sizes
 line = record { threads = 2; semaphores = 0; queues = 0; references = 0; mailboxes = 1; pools = 1; slots = 3 ∷ 0 ∷ 0 ∷ 0 ∷ [] }
 
-pub made-line : made line Standard .code ≡ 0
+pub made-line : Legal line Standard
 unfolding allFrom sizesFit made
-made-line = refl
+made-line = code-legal line Standard refl
 
 -- a step on object 0, and its widths
 abbrev by : ℕ → ℕ → ℕ → ℕ → Step
@@ -119,7 +119,7 @@ later =
 
 -- what its results show
 pub day-shown : shownIn 1 (run line Standard made-line day day-typed) ≡ (event 2 0 17 5 ∷ event 2 1 15 5 ∷ later)
-unfolding firstFrom allFrom countOf wordOf firstOf firstReady firstWaiter takenOff putOn woken slept finished blocked enqueued releasedFirst releasedAll taken waited signalled resetTo suspendedOn resumed sleptFor sleptUntil tookFlags eventSignalled eventWaited ticked binarySignalled ringPosted postedAhead ringFetched emptied postDone postTried fetchDone fetchTried bothReleased mailboxReset mailboxResumed popped pushed handedOver allocTried putBack sizesFit made signalActed callMade effected actedOnKernel boxEffected actedOnBox acted wentOn settled callFits waitFits ticksFit flagsFit rowFits rowsFit queuedCount countersFit readyWord waitingWord readyFits waitingFits wordsFit holderFits referencesFit positionsFit mailboxesFit promisedCount occurrences entriesFit objectsFit poolFits poolsFit hangsTogether refusalOf maskOf outcomeOf doneWith refusedWith stepped ran moments
+unfolding firstFrom allFrom countOf wordOf firstOf firstReady firstWaiter takenOff putOn woken slept finished blocked enqueued releasedFirst releasedAll taken waited signalled resetTo suspendedOn resumed sleptFor sleptUntil tookFlags eventSignalled eventWaited ticked binarySignalled ringPosted postedAhead ringFetched emptied postDone postTried fetchDone fetchTried bothReleased mailboxReset mailboxResumed popped pushed handedOver allocTried putBack sizesFit made signalActed callMade effected actedOnKernel boxEffected actedOnBox acted wentOn settled callFits waitFits ticksFit flagsFit rowFits rowsFit queuedCount countersFit readyWord waitingWord readyFits waitingFits wordsFit holderFits referencesFit positionsFit mailboxesFit promisedCount occurrences entriesFit objectsFit poolFits poolsFit hangsTogether refusalOf maskOf outcomeOf doneWith refusedWith stepped
 day-shown = refl
 
 -- in the order in which they came, the post before the fetch: three were handed over, each as it was first, and two were lost
@@ -136,14 +136,14 @@ abbrev pub sumsOf : List Event → List ℕ
 sumsOf es = total (each (posted 0)) es ∷ total (each (fetched 0)) es ∷ total (lostAt 0) es ∷ total (each (added 0)) es ∷ []
 
 pub day-sums : sumsOf (shownIn 1 (run line Standard made-line day day-typed)) ≡ (5 ∷ 3 ∷ 2 ∷ 1 ∷ [])
-unfolding firstFrom allFrom countOf wordOf firstOf firstReady firstWaiter takenOff putOn woken slept finished blocked enqueued releasedFirst releasedAll taken waited signalled resetTo suspendedOn resumed sleptFor sleptUntil tookFlags eventSignalled eventWaited ticked binarySignalled ringPosted postedAhead ringFetched emptied postDone postTried fetchDone fetchTried bothReleased mailboxReset mailboxResumed popped pushed handedOver allocTried putBack sizesFit made signalActed callMade effected actedOnKernel boxEffected actedOnBox acted wentOn settled callFits waitFits ticksFit flagsFit rowFits rowsFit queuedCount countersFit readyWord waitingWord readyFits waitingFits wordsFit holderFits referencesFit positionsFit mailboxesFit promisedCount occurrences entriesFit objectsFit poolFits poolsFit hangsTogether refusalOf maskOf outcomeOf doneWith refusedWith stepped ran moments
+unfolding firstFrom allFrom countOf wordOf firstOf firstReady firstWaiter takenOff putOn woken slept finished blocked enqueued releasedFirst releasedAll taken waited signalled resetTo suspendedOn resumed sleptFor sleptUntil tookFlags eventSignalled eventWaited ticked binarySignalled ringPosted postedAhead ringFetched emptied postDone postTried fetchDone fetchTried bothReleased mailboxReset mailboxResumed popped pushed handedOver allocTried putBack sizesFit made signalActed callMade effected actedOnKernel boxEffected actedOnBox acted wentOn settled callFits waitFits ticksFit flagsFit rowFits rowsFit queuedCount countersFit readyWord waitingWord readyFits waitingFits wordsFit holderFits referencesFit positionsFit mailboxesFit promisedCount occurrences entriesFit objectsFit poolFits poolsFit hangsTogether refusalOf maskOf outcomeOf doneWith refusedWith stepped
 day-sums = refl
 
 -- and the object that thread 1 was promised is free still
 pub day-promised : (freeIn (found (end line Standard made-line day day-typed)) 0
     ∷ number (isPromised (found (end line Standard made-line day day-typed)) 0) 2
     ∷ []) ≡ (1 ∷ 1 ∷ [])
-unfolding firstFrom allFrom countOf wordOf firstOf firstReady firstWaiter takenOff putOn woken slept finished blocked enqueued releasedFirst releasedAll taken waited signalled resetTo suspendedOn resumed sleptFor sleptUntil tookFlags eventSignalled eventWaited ticked binarySignalled ringPosted postedAhead ringFetched emptied postDone postTried fetchDone fetchTried bothReleased mailboxReset mailboxResumed popped pushed handedOver allocTried putBack sizesFit made signalActed callMade effected actedOnKernel boxEffected actedOnBox acted wentOn settled callFits waitFits ticksFit flagsFit rowFits rowsFit queuedCount countersFit readyWord waitingWord readyFits waitingFits wordsFit holderFits referencesFit positionsFit mailboxesFit promisedCount occurrences entriesFit objectsFit poolFits poolsFit hangsTogether refusalOf maskOf outcomeOf doneWith refusedWith stepped ran moments
+unfolding firstFrom allFrom countOf wordOf firstOf firstReady firstWaiter takenOff putOn woken slept finished blocked enqueued releasedFirst releasedAll taken waited signalled resetTo suspendedOn resumed sleptFor sleptUntil tookFlags eventSignalled eventWaited ticked binarySignalled ringPosted postedAhead ringFetched emptied postDone postTried fetchDone fetchTried bothReleased mailboxReset mailboxResumed popped pushed handedOver allocTried putBack sizesFit made signalActed callMade effected actedOnKernel boxEffected actedOnBox acted wentOn settled callFits waitFits ticksFit flagsFit rowFits rowsFit queuedCount countersFit readyWord waitingWord readyFits waitingFits wordsFit holderFits referencesFit positionsFit mailboxesFit promisedCount occurrences entriesFit objectsFit poolFits poolsFit hangsTogether refusalOf maskOf outcomeOf doneWith refusedWith stepped
 day-promised = refl
 
 -- ---- the order of two calls in one step
@@ -152,9 +152,9 @@ day-promised = refl
 abbrev narrow : Sizes
 narrow = record { threads = 2; semaphores = 0; queues = 0; references = 0; mailboxes = 1; pools = 0; slots = 1 ∷ 0 ∷ 0 ∷ 0 ∷ [] }
 
-pub made-narrow : made narrow Standard .code ≡ 0
+pub made-narrow : Legal narrow Standard
 unfolding allFrom sizesFit made
-made-narrow = refl
+made-narrow = code-legal narrow Standard refl
 
 -- thread 0 posts 7, and sleeps to post 8 ahead; thread 1 fetches
 abbrev turn : List Step
@@ -165,7 +165,7 @@ turn-typed = more 0 15 7 0 _ (omega arith) (more 0 16 8 forever _ (omega arith) 
 
 -- 7 is fetched, and then 8 goes ahead
 turn-events : eventsIn 1 (made narrow Standard .tables) (made narrow Standard .clock) turn ≡ (event 1 0 15 7 ∷ event 3 1 17 7 ∷ event 3 0 16 8 ∷ [])
-unfolding firstFrom allFrom countOf wordOf firstOf firstReady firstWaiter takenOff putOn woken slept finished blocked enqueued releasedFirst releasedAll taken waited signalled resetTo suspendedOn resumed sleptFor sleptUntil tookFlags eventSignalled eventWaited ticked binarySignalled ringPosted postedAhead ringFetched emptied postDone postTried fetchDone fetchTried bothReleased mailboxReset mailboxResumed popped pushed handedOver allocTried putBack sizesFit made signalActed callMade effected actedOnKernel boxEffected actedOnBox acted wentOn settled callFits waitFits ticksFit flagsFit rowFits rowsFit queuedCount countersFit readyWord waitingWord readyFits waitingFits wordsFit holderFits referencesFit positionsFit mailboxesFit promisedCount occurrences entriesFit objectsFit poolFits poolsFit hangsTogether refusalOf maskOf outcomeOf doneWith refusedWith stepped ran moments turns turnsOf eventsIn
+unfolding firstFrom allFrom countOf wordOf firstOf firstReady firstWaiter takenOff putOn woken slept finished blocked enqueued releasedFirst releasedAll taken waited signalled resetTo suspendedOn resumed sleptFor sleptUntil tookFlags eventSignalled eventWaited ticked binarySignalled ringPosted postedAhead ringFetched emptied postDone postTried fetchDone fetchTried bothReleased mailboxReset mailboxResumed popped pushed handedOver allocTried putBack sizesFit made signalActed callMade effected actedOnKernel boxEffected actedOnBox acted wentOn settled callFits waitFits ticksFit flagsFit rowFits rowsFit queuedCount countersFit readyWord waitingWord readyFits waitingFits wordsFit holderFits referencesFit positionsFit mailboxesFit promisedCount occurrences entriesFit objectsFit poolFits poolsFit hangsTogether refusalOf maskOf outcomeOf doneWith refusedWith stepped turns turnsOf eventsIn
 turn-events = refl
 
 -- and there is no other history of it, such as the post ahead before the fetch

@@ -31,12 +31,14 @@ use Rattle.rules.specs.Hanging.{hangsTogether}
 use Rattle.steps.specs.Refusal.{refusalOf}
 use Rattle.steps.specs.Stepping.{maskOf, outcomeOf, doneWith, refusedWith, stepped}
 use Rattle.promises.specs.Paper.World.{found}
-use Rattle.promises.specs.Paper.Host.{HostStep, HostSteps}
+use Rattle.promises.specs.Paper.Host.{HostStep, HostSteps, Going}
 use Rattle.promises.specs.Paper.Waking.{rowOf}
 use Rattle.promises.specs.Paper.Run.{Moment}
 use Rattle.promises.specs.Paper.Signals.{AtTop}
-use Rattle.promises.specs.Runs.Run.{ran}
-use Rattle.promises.specs.Runs.Moments.{moments, Going, host}
+use Rattle.promises.specs.Paper.Fresh.{Legal}
+use Rattle.promises.specs.Meant.Fresh.{code-legal}
+use Rattle.promises.specs.Code.Steps.{ran, moments}
+use Rattle.promises.specs.Runs.Moments.{host}
 use Rattle.promises.specs.Top.Demands.{fresh-going, run-going}
 use Rattle.promises.specs.Top.Signals.{signal-told}
 
@@ -44,9 +46,9 @@ abbrev tank : Sizes
 tank = record { threads = 2; semaphores = 1; queues = 0; references = 0; mailboxes = 0; pools = 1; slots = 0 ∷ 0 ∷ 0 ∷ 0 ∷ [] }
 
 -- such tables are made
-pub made-tank : made tank Standard .code ≡ 0
+pub made-tank : Legal tank Standard
 unfolding allFrom sizesFit made
-made-tank = refl
+made-tank = code-legal tank Standard refl
 
 -- a step on semaphore 0
 abbrev by : ℕ → ℕ → ℕ → ℕ → Step
@@ -89,7 +91,7 @@ pub weeks-shown : shown (moments (made tank Standard .tables) (made tank Standar
     ∷ (0 ∷ 0 ∷ 0 ∷ 1 ∷ 2147483646 ∷ 0 ∷ [])
     ∷ (0 ∷ 0 ∷ 0 ∷ 1 ∷ 2147483647 ∷ 0 ∷ [])
     ∷ []
-unfolding firstFrom allFrom countOf wordOf firstOf firstReady firstWaiter takenOff putOn woken slept finished blocked enqueued releasedFirst releasedAll taken waited signalled sizesFit made signalActed callMade effected actedOnKernel acted wentOn settled callFits waitFits ticksFit flagsFit rowFits rowsFit queuedCount countersFit readyWord waitingWord readyFits waitingFits wordsFit holderFits referencesFit positionsFit mailboxesFit promisedCount occurrences entriesFit objectsFit poolFits poolsFit hangsTogether refusalOf maskOf outcomeOf doneWith refusedWith stepped ran moments resetTo binarySignalled
+unfolding firstFrom allFrom countOf wordOf firstOf firstReady firstWaiter takenOff putOn woken slept finished blocked enqueued releasedFirst releasedAll taken waited signalled sizesFit made signalActed callMade effected actedOnKernel acted wentOn settled callFits waitFits ticksFit flagsFit rowFits rowsFit queuedCount countersFit readyWord waitingWord readyFits waitingFits wordsFit holderFits referencesFit positionsFit mailboxesFit promisedCount occurrences entriesFit objectsFit poolFits poolsFit hangsTogether refusalOf maskOf outcomeOf doneWith refusedWith stepped resetTo binarySignalled
 weeks-shown = refl
 
 -- the tables and the clock after the first two, of which the promise speaks
@@ -103,10 +105,10 @@ full-going : Going full then
 full-going = run-going near near-typed (made tank Standard .tables) (made tank Standard .clock) (fresh-going tank Standard made-tank)
 
 pub top-shown : AtTop full then (by 0 3 0 0) (stepped full then (by 0 3 0 0))
-unfolding firstFrom allFrom countOf wordOf firstOf firstReady firstWaiter takenOff putOn woken slept finished blocked enqueued releasedFirst releasedAll taken waited signalled sizesFit made signalActed callMade effected actedOnKernel acted wentOn settled callFits waitFits ticksFit flagsFit rowFits rowsFit queuedCount countersFit readyWord waitingWord readyFits waitingFits wordsFit holderFits referencesFit positionsFit mailboxesFit promisedCount occurrences entriesFit objectsFit poolFits poolsFit hangsTogether refusalOf maskOf outcomeOf doneWith refusedWith stepped ran moments resetTo
+unfolding firstFrom allFrom countOf wordOf firstOf firstReady firstWaiter takenOff putOn woken slept finished blocked enqueued releasedFirst releasedAll taken waited signalled sizesFit made signalActed callMade effected actedOnKernel acted wentOn settled callFits waitFits ticksFit flagsFit rowFits rowsFit queuedCount countersFit readyWord waitingWord readyFits waitingFits wordsFit holderFits referencesFit positionsFit mailboxesFit promisedCount occurrences entriesFit objectsFit poolFits poolsFit hangsTogether refusalOf maskOf outcomeOf doneWith refusedWith stepped resetTo
 top-shown = signal-told full then (by 0 3 0 0) (host full then full-going (by 0 3 0 0) (typed 0 3 0 0 (omega arith))) refl .at-top refl refl
 
 pub interrupt-shown : AtTop full then (by 255 3 0 0) (stepped full then (by 255 3 0 0))
-unfolding firstFrom allFrom countOf wordOf firstOf firstReady firstWaiter takenOff putOn woken slept finished blocked enqueued releasedFirst releasedAll taken waited signalled sizesFit made signalActed callMade effected actedOnKernel acted wentOn settled callFits waitFits ticksFit flagsFit rowFits rowsFit queuedCount countersFit readyWord waitingWord readyFits waitingFits wordsFit holderFits referencesFit positionsFit mailboxesFit promisedCount occurrences entriesFit objectsFit poolFits poolsFit hangsTogether refusalOf maskOf outcomeOf doneWith refusedWith stepped ran moments resetTo
+unfolding firstFrom allFrom countOf wordOf firstOf firstReady firstWaiter takenOff putOn woken slept finished blocked enqueued releasedFirst releasedAll taken waited signalled sizesFit made signalActed callMade effected actedOnKernel acted wentOn settled callFits waitFits ticksFit flagsFit rowFits rowsFit queuedCount countersFit readyWord waitingWord readyFits waitingFits wordsFit holderFits referencesFit positionsFit mailboxesFit promisedCount occurrences entriesFit objectsFit poolFits poolsFit hangsTogether refusalOf maskOf outcomeOf doneWith refusedWith stepped resetTo
 interrupt-shown =
     signal-told full then (by 255 3 0 0) (host full then full-going (by 255 3 0 0) (typed 255 3 0 0 (omega arith))) refl .at-top refl refl

@@ -20,13 +20,13 @@ use Rattle.library.specs.declared.tables.Tables.{Tables}
 use Rattle.library.specs.Fresh.{made}
 use Rattle.steps.specs.Stepping.{stepped}
 use Rattle.promises.specs.Paper.World.{found}
-use Rattle.promises.specs.Paper.Host.{Host, HostSteps}
+use Rattle.promises.specs.Paper.Host.{Host, HostSteps, Going}
 use Rattle.promises.specs.Paper.Refusals.{Broken}
 use Rattle.promises.specs.Paper.Together.{larger, PoolFits}
 use Rattle.promises.specs.Paper.Waking.{rowOf}
 use Rattle.promises.specs.Paper.Signals.{Counts, SignalTold}
-use Rattle.promises.specs.Runs.Run.{ran}
-use Rattle.promises.specs.Runs.Moments.{Going}
+use Rattle.promises.specs.Paper.Fresh.{Legal}
+use Rattle.promises.specs.Code.Steps.{ran, freshRan}
 use Rattle.promises.specs.Runs.Waiters.{waited-low}
 use Rattle.promises.specs.Runs.Signals.{signal-is-told}
 use Rattle.promises.specs.Top.Demands.{demand-1, fresh-going, run-going}
@@ -87,7 +87,7 @@ module _ (t : Tables) (c : Clock) (g : Going t c) (ss : List Step) (hs : HostSte
   pub pools-low : (q : ℕ) → q < ran t c ss .tables .sizes .pools → ltZ (pos 32) (found (ran t c ss .tables) .counter (16 + q)) ≡ false
   pools-low q l = pool-low (run-going ss hs t c g .together .pools q l)
 
-pub pools-low-fresh : (y : Sizes) (r : Rate) (legal : made y r .code ≡ 0) (ss : List Step) → HostSteps ss → (q : ℕ)
-    → q < ran (made y r .tables) (made y r .clock) ss .tables .sizes .pools
-    → ltZ (pos 32) (found (ran (made y r .tables) (made y r .clock) ss .tables) .counter (16 + q)) ≡ false
+pub pools-low-fresh : (y : Sizes) (r : Rate) (legal : Legal y r) (ss : List Step) → HostSteps ss → (q : ℕ)
+    → q < freshRan y r ss .tables .sizes .pools
+    → ltZ (pos 32) (found (freshRan y r ss .tables) .counter (16 + q)) ≡ false
 pools-low-fresh y r legal ss hs = pools-low (made y r .tables) (made y r .clock) (fresh-going y r legal) ss hs
