@@ -16,7 +16,7 @@ use Rattle.steps.specs.declared.stepping.Outcome.{Outcome}
 use Rattle.steps.specs.declared.stepping.Stepped.{Stepped}
 use Rattle.promises.specs.Paper.World.{found}
 use Rattle.promises.specs.Paper.Together.{number, isQueued}
-use Rattle.promises.specs.Paper.Waking.{rowOf, inMask, WokenBy}
+use Rattle.promises.specs.Paper.Waking.{rowOf, inMask, WokenBy, spanOf}
 
 -- one step of a run, with the tables before and after it, and the clock that it finds
 pub record Moment : Type 0 where
@@ -108,6 +108,11 @@ pub data TurnOf (p : ℕ) (a : Thread) (s : Step) : ℤ → ℕ → Type 0 where
   last-tick : s .kind ≡ 1 → a .remaining ≡ 1 → TurnOf p a s (negsuc 0) 8
   -- of a semaphore only
   reset : s .kind ≡ 4 → s .object ≡ p → p < 16 → TurnOf p a s (negsuc 1) 7
+
+-- the timeout of a sleep that thread i begins in the step s, on the tables t: of the step's own call, if i is its caller; else of the mailbox call
+-- that its record kept, which sleeps again "with its FULL timeout"
+abbrev pub begunWith : Tables → Clock → Step → ℕ → ℕ
+begunWith t c s i = cond (eqb (s .caller) i) (spanOf (c .time) s) (rowOf t i .call .timeout)
 
 -- of thread i, woken in the moment m: its waking is one that the papers give it there
 abbrev pub WakingOf : ℕ → Moment → ℤ → ℕ → Type 0

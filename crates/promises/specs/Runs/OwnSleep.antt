@@ -3,25 +3,28 @@
 use Prim.Native.Nat.{ℕ, _+_, _-_, _%_, _<_}
 use native.Mathlib.Omega.{arith}
 use mathlib.Core.Path.{_≡_, refl, sym, ap, _∙_, subst}
-use mathlib.Core.Logic.{_≢_}
+use mathlib.Core.Logic.{_≢_, inl, inr}
 use mathlib.Core.Bool.{Bool, cond}
 use lib.Dec.{eqb}
 use lib.IntN.{ℤ, pos}
-use borrow.Author.Tests.{ne-eqb}
+use borrow.Author.Tests.{ne-eqb, eq-eqb}
 use Rattle.kernel.specs.declared.clock.Clock.{Clock}
 use Rattle.kernel.specs.declared.time.SystemTime.{SystemTime}
 use Rattle.kernel.specs.declared.records.Call.{Call}
 use Rattle.kernel.specs.declared.records.Thread.{Thread}
+use Rattle.kernel.proofs.Cases.{same-or}
 use Rattle.library.specs.declared.calls.Step.{Step}
 use Rattle.library.specs.declared.tables.Tables.{Tables}
 use Rattle.steps.specs.Stepping.{stepped}
 use Rattle.promises.specs.Paper.World.{World, found, ended, asleep, fallAsleep, kept}
 use Rattle.promises.specs.Paper.Host.{Host}
 use Rattle.promises.specs.Paper.Rows.{Waits, SemaphoreWait, EventWait, Post, Fetch, Alloc, Act}
-use Rattle.promises.specs.Paper.Waking.{rowOf, spanOf, FellAsleep}
+use Rattle.promises.specs.Paper.Waking.{rowOf, spanOf, FellAsleep, ReadyAfter, WakerAfter}
+use Rattle.promises.specs.Paper.Run.{begunWith}
+use Rattle.promises.specs.Paper.Together.{WaitFits}
 use Rattle.promises.specs.Runs.Keeping.{put-same, KeepsOn}
-use Rattle.promises.specs.Runs.OneRow.{ended-own, Stands, Steady, row-on}
-use Rattle.promises.specs.Runs.OneStep.{act, few, rows-after}
+use Rattle.promises.specs.Runs.OneRow.{ended-own, Stands, Steady, row-on, mail-other}
+use Rattle.promises.specs.Runs.OneStep.{act, few, rows-after, waker-after, woken-after}
 
 module _ (t : Tables) (now : SystemTime) (s : Step) (i : ℕ) (someone : i ≢ 255) where
   -- a record whose call is unfinished has it from the step, and its ticks if it sleeps
@@ -135,3 +138,43 @@ module _ (t : Tables) (c : Clock) (s : Step) (host : Host t c s) (e : stepped t 
       let o = rows-after t c s host e i (λ b. b .call .kind ≢ 0 → OwnCall t (c .time) s i someone b) (owned-keeps t (c .time) s i someone)
       (row-owned t (c .time) s i someone refl refl (act t c s host e)) k in
       record { kind = o .kind; timeout = o .timeout; ticks = o .ticks n }
+
+  -- a thread that is not ready has a call
+  calls : {a : Thread} → WaitFits a → a .state ≢ 0 → a .call .kind ≢ 0
+  calls (WaitFits.ready x p) n z = n x
+  calls (WaitFits.sleeps (inl x) b p) n z = omega (arith, x, z)
+  calls (WaitFits.sleeps (inr x) b p) n z = omega (arith, x, z)
+  calls (WaitFits.reference x b p) n z = omega (arith, x, z)
+  calls (WaitFits.semaphore x b p) n z = omega (arith, x, z)
+  calls (WaitFits.pool x b p) n z = omega (arith, x, z)
+  calls (WaitFits.queue x b p) n z = omega (arith, x, z)
+  calls (WaitFits.writer (inl x) b p) n z = omega (arith, x, z)
+  calls (WaitFits.writer (inr x) b p) n z = omega (arith, x, z)
+  calls (WaitFits.reader x b p) n z = omega (arith, x, z)
+  calls (WaitFits.events x b p) n z = omega (arith, x, z)
+
+  -- THE TIMEOUT OF A SLEEP THAT BEGINS IN THE STEP, of its own call or of a mailbox call that was tried again
+  pub begun-timeout : (i : ℕ) → i < t .sizes .threads → rowOf t i .state ≡ 0 → rowOf (stepped t c s .tables) i .state ≢ 0
+      → WaitFits (rowOf (stepped t c s .tables) i) → rowOf (stepped t c s .tables) i .call .timeout ≡ begunWith t c s i
+  begun-timeout i l z n fit =
+      let u = stepped t c s .tables in
+      same-or (s .caller) i
+      (λ x. rw (eq-eqb (s .caller) i x)
+      (subst (λ (j : ℕ). rowOf u j .call .timeout ≡ spanOf (c .time) s) x
+      (fell-asleep (subst (λ (j : ℕ). j < t .sizes .threads) (sym x) l) (subst (λ (j : ℕ). rowOf u j .call .kind ≢ 0) (sym x) (calls fit n))
+      (subst (λ (j : ℕ). rowOf u j .state ≢ 0) (sym x) n) .timeout)))
+      (λ x. rw (ne-eqb (s .caller) i x) (waked (waker-after t c s host e i l z) x))
+    where
+      again : {b : Thread} {w f : Bool} → ReadyAfter t s i b w f → b .state ≢ 0 → b .call .timeout ≡ rowOf t i .call .timeout
+      again (ReadyAfter.on x p q) k = ap (λ (u : Thread). u .call .timeout) x
+      again (ReadyAfter.done y d f a x p q) k = absurd (k (ap (λ (u : Thread). u .state) x))
+      again (ReadyAfter.again pl side m x p q) k = ap (λ (u : Thread). u .call .timeout) x
+      again (ReadyAfter.ready-again pl o side m by x p q) k = absurd (k (ap (λ (u : Thread). u .state) x))
+      again (ReadyAfter.done-again pl o y d side m by a x p q) k = absurd (k (ap (λ (u : Thread). u .state) x))
+      again (ReadyAfter.slept-again pl o side m by x p q) k = ap (λ (u : Thread). u .call .timeout) x
+
+      waked : {w : Bool} → WakerAfter t s i (rowOf (stepped t c s .tables) i) w → s .caller ≢ i
+          → rowOf (stepped t c s .tables) i .call .timeout ≡ rowOf t i .call .timeout
+      waked (WakerAfter.unwoken a p) x = absurd (n a)
+      waked (WakerAfter.own-sleep o st pl w a) x = absurd (x o)
+      waked (WakerAfter.tried-again b m a) x = again (woken-after t c s host e i l z (λ k. mail-other b .1 k)) n

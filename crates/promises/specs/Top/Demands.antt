@@ -21,19 +21,21 @@ use Rattle.steps.specs.Stepping.{stepped}
 use Rattle.host.specs.Screen.{readyCount, readyFirst, waitersAt}
 use Rattle.promises.specs.Paper.World.{found}
 use Rattle.promises.specs.Paper.Together.{TicksFit, WordsAgree, HangTogether}
-use Rattle.promises.specs.Paper.Host.{Host, HostSteps, Going}
+use Rattle.promises.specs.Paper.Host.{Host, HostSteps, Going, HostStep}
 use Rattle.promises.specs.Paper.Refusals.{Broken, RefusedWith, Answered}
 use Rattle.promises.specs.Paper.Step.{StepOf}
 use Rattle.promises.specs.Paper.Waking.{rowOf, inMask}
 use Rattle.promises.specs.Paper.Boundary.{ScreenOf}
-use Rattle.promises.specs.Paper.Run.{ticksIn, signalsIn, joinsIn, higher, WokenIn, WakingOf, TurnAt}
+use Rattle.promises.specs.Paper.Run.{ticksIn, signalsIn, joinsIn, higher, WokenIn, WakingOf, TurnAt, begunWith}
 use Rattle.promises.specs.Paper.Flags.{answeredIn, Account}
 use Rattle.promises.specs.Paper.EachThread.{EachThread, Throughout}
 use Rattle.promises.specs.Paper.Fresh.{Legal}
 use Rattle.promises.specs.Code.Steps.{ran, moments, freshRan}
 use Rattle.promises.specs.Kept.Steps.{made-hang}
-use Rattle.promises.specs.Runs.Moments.{going-on, sleeps-end, turn-comes, each-step}
+use Rattle.promises.specs.Runs.Moments.{going-on, sleeps-end, turn-comes, each-step, host}
 use Rattle.promises.specs.Runs.Accounts.{flag-account, signalled-kept}
+use Rattle.promises.specs.Runs.OneStep.{sizes-after}
+use Rattle.promises.specs.Runs.OwnSleep.{begun-timeout}
 use Rattle.promises.specs.Meant.Together.{rules-together}
 use Rattle.promises.specs.Meant.Screen.{screen-is}
 use Rattle.promises.specs.Meant.Step.{sized-host, step-is, demand-two}
@@ -145,6 +147,23 @@ module _ (t : Tables) (c : Clock) (g : Going t c) (ss : List Step) (hs : HostSte
   turn-of-pool i q l there st pl none r =
       turn-comes (16 + q) (omega (arith, there, g .together .sizes .pools)) ss hs t c g i l st pl none r
 
+-- a, from the step in which a sleep begins: its caller's own, with that step's timeout (12's interval), or a mailbox call's that sleeps again, with
+-- its full one
+module _ (t : Tables) (c : Clock) (g : Going t c) (s : Step) (h : HostStep s) (accepted : stepped t c s .outcome .code ≡ 0) (ss : List Step) (hs : HostSteps ss) where
+  abbrev pub u : Tables
+  u = stepped t c s .tables
+
+  abbrev pub d : Clock
+  d = stepped t c s .clock
+
+  pub begun-ends : (i : ℕ) → i < t .sizes .threads → rowOf t i .state ≡ 0 → rowOf u i .state ≢ 0 → begunWith t c s i ≤ 4294967294
+      → begunWith t c s i ≤ ticksIn (moments u d ss) → WokenIn i (WakingOf i) (moments u d ss)
+  begun-ends i l z n m r =
+      let on = going-on t c g s h in
+      let there : i < u .sizes .threads = rw (sizes-after t c s (host t c g s h) accepted) l in
+      let span = begun-timeout t c s (host t c g s h) accepted i l z n (on .together .threads i there .wait) in
+      sleep-ends u d on ss hs i there n (rw span m) (rw span r)
+
 -- ---- "Fresh tables pass, and accepted steps keep it so"
 
 pub fresh-going : (y : Sizes) (r : Rate) → Legal y r → Going (made y r .tables) (made y r .clock)
@@ -220,6 +239,13 @@ module _ (y : Sizes) (r : Rate) (legal : Legal y r) (xs : List Step) (hx : HostS
     pub demand-3a : rowOf t₁ i .state ≢ 0 → rowOf t₁ i .call .timeout ≤ 4294967294 → rowOf t₁ i .call .timeout ≤ ticksIn (moments t₁ c₁ ss)
         → WokenIn i (WakingOf i) (moments t₁ c₁ ss)
     demand-3a = sleep-ends t₁ c₁ going ss hs i within
+
+    -- the same from the step in which it begins, which leaves s the tables u and the clock d
+    pub demand-3a-begun : (s : Step) → HostStep s → stepped t₁ c₁ s .outcome .code ≡ 0 → rowOf t₁ i .state ≡ 0
+        → rowOf (stepped t₁ c₁ s .tables) i .state ≢ 0 → begunWith t₁ c₁ s i ≤ 4294967294
+        → begunWith t₁ c₁ s i ≤ ticksIn (moments (stepped t₁ c₁ s .tables) (stepped t₁ c₁ s .clock) ss)
+        → WokenIn i (WakingOf i) (moments (stepped t₁ c₁ s .tables) (stepped t₁ c₁ s .clock) ss)
+    demand-3a-begun s h e = begun-ends t₁ c₁ going s h e ss hs i within
 
     -- "each sleep ends at most once, at its first waking, with that waking's message"
     pub demand-3b : Throughout EachThread (moments t₁ c₁ ss)
