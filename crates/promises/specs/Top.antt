@@ -7,10 +7,12 @@ pub mod Signals
 pub mod Causes
 pub mod Wakings
 pub mod Facts
+pub mod ShownSteps
 pub mod Shown
 pub mod ShownArms
 pub mod ShownRest
 pub mod ShownPipes
 pub mod ShownLedgers
+pub mod ShownAgain
 pub mod ShownSignals
 pub mod ShownCauses

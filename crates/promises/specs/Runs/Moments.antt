@@ -21,7 +21,7 @@ use Rattle.promises.specs.Paper.Host.{HostStep, Host, HostSteps, Going}
 use Rattle.promises.specs.Paper.Waking.{rowOf, inMask, WokenBy, sleptOn, SleeperAfter, Due}
 use Rattle.promises.specs.Paper.Causes.{causeFor, messageBy}
 use Rattle.promises.specs.Paper.Step.{ClockAfter, StepOf}
-use Rattle.promises.specs.Paper.Run.{isTick, ticksIn, signalsAt, signalsIn, joinsAt, joinsIn, higher, WokenIn, TurnOf, WakingOf, TurnAt}
+use Rattle.promises.specs.Paper.Run.{isTick, ticksIn, signalsAt, signalsIn, joinsAt, joinsIn, higher, WokenIn, TurnOf, WakingOf, TurnAt, begunWith}
 use Rattle.promises.specs.Paper.History.{Turns}
 use Rattle.promises.specs.Paper.Settling.{Settles}
 use Rattle.promises.specs.Paper.EachThread.{EachThread, Throughout}
@@ -34,6 +34,7 @@ use Rattle.promises.specs.Runs.Places.{cause-for, message-by}
 use Rattle.promises.specs.Runs.GoingOn.{goes-running}
 use Rattle.promises.specs.Runs.Due.{due-woken, woken-due, quiet-due}
 use Rattle.promises.specs.Runs.Waiters.{turns-on, waits-on, turn-of}
+use Rattle.promises.specs.Runs.OwnSleep.{begun-timeout}
 use Rattle.promises.specs.Meant.Together.{rules-together, together-rules}
 use Rattle.promises.specs.Meant.Step.{host-sized, sized-host, step-is}
 
@@ -114,6 +115,15 @@ module _ (t : Tables) (c : Clock) (g : Going t c) (s : Step) (h : HostStep s) wh
 
     none-woken : (i : ℕ) → inMask i (stepped t c s .outcome .woken) ≡ false
     none-woken i = rw (same .nobody-woken) (no-bit i)
+
+-- a sleep that begins in an accepted step has the timeout that it began with
+pub begun : (t : Tables) (c : Clock) (g : Going t c) (s : Step) (h : HostStep s) → stepped t c s .outcome .code ≡ 0 → (i : ℕ) → i < t .sizes .threads
+    → rowOf t i .state ≡ 0 → rowOf (stepped t c s .tables) i .state ≢ 0
+    → (i < stepped t c s .tables .sizes .threads) × (rowOf (stepped t c s .tables) i .call .timeout ≡ begunWith t c s i)
+begun t c g s h e i l z n =
+    let ht = host t c g s h in
+    let there : i < stepped t c s .tables .sizes .threads = rw (sizes-after t c s ht e) l in
+    (there, begun-timeout t c s ht e i l z n (going-on t c g s h .together .threads i there .wait))
 
 pub sleeps-end : (ss : List Step) → HostSteps ss → (t : Tables) (c : Clock) → Going t c → (i : ℕ) → i < t .sizes .threads
     → rowOf t i .state ≢ 0 → rowOf t i .call .timeout ≢ 4294967295 → rowOf t i .remaining ≤ ticksIn (moments t c ss)

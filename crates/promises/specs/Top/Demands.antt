@@ -32,10 +32,8 @@ use Rattle.promises.specs.Paper.EachThread.{EachThread, Throughout}
 use Rattle.promises.specs.Paper.Fresh.{Legal}
 use Rattle.promises.specs.Code.Steps.{ran, moments, freshRan}
 use Rattle.promises.specs.Kept.Steps.{made-hang}
-use Rattle.promises.specs.Runs.Moments.{going-on, sleeps-end, turn-comes, each-step, host}
+use Rattle.promises.specs.Runs.Moments.{going-on, sleeps-end, turn-comes, each-step, begun}
 use Rattle.promises.specs.Runs.Accounts.{flag-account, signalled-kept}
-use Rattle.promises.specs.Runs.OneStep.{sizes-after}
-use Rattle.promises.specs.Runs.OwnSleep.{begun-timeout}
 use Rattle.promises.specs.Meant.Together.{rules-together}
 use Rattle.promises.specs.Meant.Screen.{screen-is}
 use Rattle.promises.specs.Meant.Step.{sized-host, step-is, demand-two}
@@ -159,10 +157,8 @@ module _ (t : Tables) (c : Clock) (g : Going t c) (s : Step) (h : HostStep s) (a
   pub begun-ends : (i : ℕ) → i < t .sizes .threads → rowOf t i .state ≡ 0 → rowOf u i .state ≢ 0 → begunWith t c s i ≤ 4294967294
       → begunWith t c s i ≤ ticksIn (moments u d ss) → WokenIn i (WakingOf i) (moments u d ss)
   begun-ends i l z n m r =
-      let on = going-on t c g s h in
-      let there : i < u .sizes .threads = rw (sizes-after t c s (host t c g s h) accepted) l in
-      let span = begun-timeout t c s (host t c g s h) accepted i l z n (on .together .threads i there .wait) in
-      sleep-ends u d on ss hs i there n (rw span m) (rw span r)
+      let x = begun t c g s h accepted i l z n in
+      sleep-ends u d (going-on t c g s h) ss hs i (x .0) n (rw (x .1) m) (rw (x .1) r)
 
 -- ---- "Fresh tables pass, and accepted steps keep it so"
 

@@ -35,14 +35,15 @@ use Rattle.rules.specs.Hanging.{hangsTogether}
 use Rattle.steps.specs.Refusal.{refusalOf}
 use Rattle.steps.specs.Stepping.{maskOf, outcomeOf, doneWith, refusedWith, stepped}
 use Rattle.host.specs.Screen.{readyCount, readyFirst, waitersAt}
-use Rattle.promises.specs.Paper.Host.{HostStep, HostSteps}
+use Rattle.promises.specs.Paper.Host.{HostSteps}
 use Rattle.promises.specs.Paper.Waking.{rowOf}
 use Rattle.promises.specs.Paper.Run.{WokenIn, WakingOf, TurnAt}
 use Rattle.promises.specs.Paper.EachThread.{EachThread, Throughout}
 use Rattle.promises.specs.Paper.Fresh.{Legal}
 use Rattle.promises.specs.Meant.Fresh.{code-legal}
-use Rattle.promises.specs.Code.Steps.{ran, moments}
-use Rattle.promises.specs.Top.Demands.{t₁, c₁, demand-3a, demand-3b, demand-3c, demand-3c-pools}
+use Rattle.promises.specs.Code.Steps.{moments, freshRan}
+use Rattle.promises.specs.Top.ShownSteps.{by, typed}
+use Rattle.promises.specs.Top.Demands.{demand-3a, demand-3a-begun, demand-3b, demand-3c, demand-3c-pools}
 
 -- two threads, one semaphore, one pool
 abbrev two : Sizes
@@ -52,14 +53,6 @@ two = record { threads = 2; semaphores = 1; queues = 0; references = 0; mailboxe
 pub made-shown : Legal two Standard
 unfolding allFrom sizesFit made
 made-shown = code-legal two Standard refl
-
--- a step on object 0
-abbrev by : ℕ → ℕ → ℕ → ℕ → Step
-by i kind a timeout = record { kind = kind; caller = i; object = 0; a = a; timeout = timeout }
-
--- its fields have a host's widths
-typed : (i kind a timeout : ℕ) → a < 4294967296 → HostStep (by i kind a timeout)
-typed i kind a timeout h = record { object = omega arith; operand = h }
 
 abbrev alone : Step → List Step
 alone s = s ∷ []
@@ -80,15 +73,24 @@ waits-typed timeout = one 0 2 0 timeout (omega arith)
 
 pub demand-3a-shown :
     WokenIn 0 (WakingOf 0)
-    (moments (t₁ two Standard made-shown (alone (waits 0 1)) (waits-typed 1)) (c₁ two Standard made-shown (alone (waits 0 1)) (waits-typed 1)) (alone tick))
+    (moments (freshRan two Standard (alone (waits 0 1)) .tables) (freshRan two Standard (alone (waits 0 1)) .clock) (alone tick))
 unfolding firstFrom allFrom countOf wordOf firstOf firstReady firstWaiter takenOff putOn woken slept finished blocked enqueued releasedFirst releasedAll taken waited signalled ticked sizesFit made signalActed callMade effected actedOnKernel acted wentOn settled callFits waitFits ticksFit flagsFit rowFits rowsFit queuedCount countersFit readyWord waitingWord readyFits waitingFits wordsFit holderFits referencesFit positionsFit mailboxesFit promisedCount occurrences entriesFit objectsFit poolFits poolsFit hangsTogether refusalOf maskOf outcomeOf doneWith refusedWith stepped
 demand-3a-shown =
     demand-3a two Standard made-shown (alone (waits 0 1)) (waits-typed 1) (alone tick) (one 255 1 0 0 (omega arith)) 0 (omega arith)
     (λ z. omega (arith, z)) (omega arith) (omega arith)
 
+-- the same from the step in which it begins to wait
+pub demand-3a-begun-shown :
+    WokenIn 0 (WakingOf 0) (moments (stepped (freshRan two Standard [] .tables) (freshRan two Standard [] .clock) (waits 0 1) .tables)
+    (stepped (freshRan two Standard [] .tables) (freshRan two Standard [] .clock) (waits 0 1) .clock) (alone tick))
+unfolding firstFrom allFrom countOf wordOf firstOf firstReady firstWaiter takenOff putOn woken slept finished blocked enqueued releasedFirst releasedAll taken waited signalled ticked sizesFit made signalActed callMade effected actedOnKernel acted wentOn settled callFits waitFits ticksFit flagsFit rowFits rowsFit queuedCount countersFit readyWord waitingWord readyFits waitingFits wordsFit holderFits referencesFit positionsFit mailboxesFit promisedCount occurrences entriesFit objectsFit poolFits poolsFit hangsTogether refusalOf maskOf outcomeOf doneWith refusedWith stepped
+demand-3a-begun-shown =
+    demand-3a-begun two Standard made-shown [] HostSteps.none (alone tick) (one 255 1 0 0 (omega arith)) 0 (omega arith) (waits 0 1)
+    (typed 0 2 0 1 (omega arith)) refl refl (λ z. omega (arith, z)) (omega arith) (omega arith)
+
 pub demand-3b-shown :
     Throughout EachThread
-    (moments (t₁ two Standard made-shown (alone (waits 0 1)) (waits-typed 1)) (c₁ two Standard made-shown (alone (waits 0 1)) (waits-typed 1)) (alone tick))
+    (moments (freshRan two Standard (alone (waits 0 1)) .tables) (freshRan two Standard (alone (waits 0 1)) .clock) (alone tick))
 unfolding firstFrom allFrom countOf wordOf firstOf firstReady firstWaiter takenOff putOn woken slept finished blocked enqueued releasedFirst releasedAll taken waited signalled ticked sizesFit made signalActed callMade effected actedOnKernel acted wentOn settled callFits waitFits ticksFit flagsFit rowFits rowsFit queuedCount countersFit readyWord waitingWord readyFits waitingFits wordsFit holderFits referencesFit positionsFit mailboxesFit promisedCount occurrences entriesFit objectsFit poolFits poolsFit hangsTogether refusalOf maskOf outcomeOf doneWith refusedWith stepped
 demand-3b-shown =
     demand-3b two Standard made-shown (alone (waits 0 1)) (waits-typed 1) (alone tick) (one 255 1 0 0 (omega arith)) 0 (omega arith)
@@ -110,7 +112,7 @@ signals-typed = HostSteps.more (typed 255 3 0 0 (omega arith)) (HostSteps.more (
 
 pub demand-3c-shown :
     WokenIn 1 (TurnAt 0 1)
-    (moments (t₁ two Standard made-shown bothWait both-typed) (c₁ two Standard made-shown bothWait both-typed) twoSignals)
+    (moments (freshRan two Standard bothWait .tables) (freshRan two Standard bothWait .clock) twoSignals)
 unfolding firstFrom allFrom countOf wordOf firstOf firstReady firstWaiter takenOff putOn woken slept finished blocked enqueued releasedFirst releasedAll taken waited signalled ticked sizesFit made signalActed callMade effected actedOnKernel acted wentOn settled callFits waitFits ticksFit flagsFit rowFits rowsFit queuedCount countersFit readyWord waitingWord readyFits waitingFits wordsFit holderFits referencesFit positionsFit mailboxesFit promisedCount occurrences entriesFit objectsFit poolFits poolsFit hangsTogether refusalOf maskOf outcomeOf doneWith refusedWith stepped
 demand-3c-shown =
     demand-3c two Standard made-shown bothWait both-typed twoSignals signals-typed 1 (omega arith) 0 (omega arith) refl refl refl (omega arith)
@@ -122,8 +124,8 @@ allocs = by 0 20 0 4294967295
 
 pub demand-3c-pools-shown :
     WokenIn 0 (TurnAt 16 0)
-    (moments (t₁ two Standard made-shown (alone allocs) (one 0 20 0 4294967295 (omega arith)))
-    (c₁ two Standard made-shown (alone allocs) (one 0 20 0 4294967295 (omega arith))) (alone (by 255 22 5 0)))
+    (moments (freshRan two Standard (alone allocs) .tables)
+    (freshRan two Standard (alone allocs) .clock) (alone (by 255 22 5 0)))
 unfolding firstFrom allFrom countOf wordOf firstOf firstReady firstWaiter takenOff putOn woken slept finished blocked enqueued releasedFirst releasedAll taken waited signalled ticked sizesFit made signalActed callMade effected actedOnKernel acted wentOn settled callFits waitFits ticksFit flagsFit rowFits rowsFit queuedCount countersFit readyWord waitingWord readyFits waitingFits wordsFit holderFits referencesFit positionsFit mailboxesFit promisedCount occurrences entriesFit objectsFit poolFits poolsFit hangsTogether refusalOf maskOf outcomeOf doneWith refusedWith stepped popped pushed handedOver allocTried putBack boxEffected actedOnBox
 demand-3c-pools-shown =
     demand-3c-pools two Standard made-shown (alone allocs) (one 0 20 0 4294967295 (omega arith)) (alone (by 255 22 5 0))
@@ -134,7 +136,7 @@ demand-3c-pools-shown =
 
 abbrev wordsAfter : List Step → List ℕ
 wordsAfter ss =
-    let t : Tables = ran (made two Standard .tables) (made two Standard .clock) ss .tables in
+    let t : Tables = freshRan two Standard ss .tables in
     t .kernel .words .ready ∷ waitersAt t 0 ∷ readyCount t ∷ readyFirst t ∷ []
 
 pub words-shown : wordsAfter [] ∷ wordsAfter (alone (waits 0 5)) ∷ wordsAfter bothWait ∷ wordsAfter (bothWait ++ alone (by 255 3 0 0)) ∷ []
@@ -158,7 +160,7 @@ goesOn = by 0 11 0 1 ∷ []
 -- thread 1 then: its state, the kind of its unfinished call, its pending flags, and its last answer
 abbrev slowAfter : List Step → (List ℕ) × Answer
 slowAfter ss =
-    let u : Thread = rowOf (ran (made two Standard .tables) (made two Standard .clock) ss .tables) 1 in
+    let u : Thread = rowOf (freshRan two Standard ss .tables) 1 in
     (u .state ∷ u .call .kind ∷ u .pending ∷ [], u .answer)
 
 -- "a slow thread awaiting flags 1 or 2 was signalled 1, then 2 before it ran, and saw both"; flag 4 is not its

@@ -42,19 +42,16 @@ use Rattle.rules.specs.PoolRules.{promisedCount, occurrences, entriesFit, objec
 use Rattle.rules.specs.Hanging.{hangsTogether}
 use Rattle.steps.specs.Refusal.{refusalOf}
 use Rattle.steps.specs.Stepping.{maskOf, outcomeOf, doneWith, refusedWith, stepped}
-use Rattle.promises.specs.Code.Steps.{ran}
+use Rattle.promises.specs.Code.Steps.{freshRan}
+use Rattle.promises.specs.Top.ShownSteps.{by}
 
 abbrev one : Sizes
 one = record { threads = 2; semaphores = 1; queues = 1; references = 1; mailboxes = 1; pools = 1; slots = 1 ∷ 0 ∷ 0 ∷ 0 ∷ [] }
 
--- a step on object 0
-abbrev by : ℕ → ℕ → ℕ → ℕ → Step
-by i kind a timeout = record { kind = kind; caller = i; object = 0; a = a; timeout = timeout }
-
 -- after the steps xs the step s is accepted, and the arm's test passes before it
 abbrev met : List Step → Step → (Plant → Bool) → Bool
 met xs s test =
-    let r = ran (made one Standard .tables) (made one Standard .clock) xs in
+    let r = freshRan one Standard xs in
     eqb (stepped (r .tables) (r .clock) s .outcome .code) 0 && test (opened (r .tables))
 
 -- the tests

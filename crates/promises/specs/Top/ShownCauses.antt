@@ -1,6 +1,6 @@
 -- Why threads woke, in a run from fresh tables, by computation: a signal, a timeout and a reset at one semaphore, with a refused step in between;
 -- and a fetch that waits and is woken by a post that goes on in the same step. Two threads, a semaphore, and a mailbox of one slot.
-use Prim.Native.Nat.{ℕ, _<_}
+use Prim.Native.Nat.{ℕ}
 use native.Mathlib.Omega.{arith}
 use mathlib.Core.Path.{_≡_, refl}
 use mathlib.Core.List.{List, [], _∷_}
@@ -34,13 +34,15 @@ use Rattle.steps.specs.Refusal.{refusalOf}
 use Rattle.steps.specs.Stepping.{maskOf, outcomeOf, doneWith, refusedWith, stepped}
 use Rattle.library.specs.declared.calls.Step.{Step}
 use Rattle.library.specs.declared.sizes.Sizes.{Sizes}
-use Rattle.promises.specs.Paper.Host.{HostStep, HostSteps}
+use Rattle.promises.specs.Paper.Host.{HostSteps}
 use Rattle.promises.specs.Paper.Waking.{rowOf}
 use Rattle.promises.specs.Paper.Run.{Moment, isAccepted, howMany}
 use Rattle.promises.specs.Paper.Causes.{whyOf, notYet, LastWaking}
 use Rattle.promises.specs.Paper.Fresh.{Legal}
+use Rattle.promises.specs.Code.Steps.{freshMoments, freshRan}
 use Rattle.promises.specs.Meant.Fresh.{code-legal}
-use Rattle.promises.specs.Top.Causes.{run, end, why-fresh, steps-fresh}
+use Rattle.promises.specs.Top.ShownSteps.{by, more}
+use Rattle.promises.specs.Top.Causes.{why-fresh, steps-fresh}
 
 abbrev valve : Sizes
 valve = record { threads = 2; semaphores = 1; queues = 0; references = 0; mailboxes = 1; pools = 0; slots = 1 ∷ 0 ∷ 0 ∷ 0 ∷ [] }
@@ -48,16 +50,6 @@ valve = record { threads = 2; semaphores = 1; queues = 0; references = 0; mailbo
 pub made-valve : Legal valve Standard
 unfolding allFrom sizesFit made
 made-valve = code-legal valve Standard refl
-
--- a step on object 0, and its widths
-abbrev by : ℕ → ℕ → ℕ → ℕ → Step
-by i kind a timeout = record { kind = kind; caller = i; object = 0; a = a; timeout = timeout }
-
-typed : (i kind a timeout : ℕ) → a < 4294967296 → HostStep (by i kind a timeout)
-typed i kind a timeout h = record { object = omega arith; operand = h }
-
-more : (i kind a timeout : ℕ) (ss : List Step) → a < 4294967296 → HostSteps ss → HostSteps (by i kind a timeout ∷ ss)
-more i kind a timeout ss h hs = HostSteps.more (typed i kind a timeout h) hs
 
 -- thread 0 waits, and an interrupt signals; it waits for a tick, signals where it does not run, which is refused, and the tick comes; it waits, and
 -- the interrupt resets. It sleeps for a tick, thread 1 posts, posts again and waits, and the tick comes; it fetches, which wakes thread 1,
@@ -107,7 +99,7 @@ shown (m ∷ ms) =
     ∷ [])
     ∷ shown ms
 
-pub shift-shown : shown (run valve Standard made-valve shift shift-typed)
+pub shift-shown : shown (freshMoments valve Standard shift)
     ≡ (0 ∷ 0 ∷ 1 ∷ 0 ∷ 0 ∷ 0 ∷ 0 ∷ [])
     ∷ (0 ∷ 1 ∷ 2 ∷ 1 ∷ 2 ∷ 0 ∷ 0 ∷ [])
     ∷ (0 ∷ 0 ∷ 3 ∷ 1 ∷ 2 ∷ 0 ∷ 0 ∷ [])
@@ -126,11 +118,11 @@ unfolding firstFrom allFrom countOf wordOf firstOf firstReady firstWaiter takenO
 shift-shown = refl
 
 -- the promise speaks of it
-pub shift-why : LastWaking 0 (whyOf (rowOf (end valve Standard made-valve shift shift-typed) 0)) 0 notYet (run valve Standard made-valve shift shift-typed)
+pub shift-why : LastWaking 0 (whyOf (rowOf (freshRan valve Standard shift .tables) 0)) 0 notYet (freshMoments valve Standard shift)
 shift-why = why-fresh valve Standard made-valve shift shift-typed 0 (omega arith)
 
 -- and its step number is the number of accepted steps: thirteen, less the refused one
-pub shift-steps : (howMany isAccepted (run valve Standard made-valve shift shift-typed) ≡ 12)
-    × (end valve Standard made-valve shift shift-typed .kernel .steps ≡ 12)
+pub shift-steps : (howMany isAccepted (freshMoments valve Standard shift) ≡ 12)
+    × (freshRan valve Standard shift .tables .kernel .steps ≡ 12)
 unfolding firstFrom allFrom countOf wordOf firstOf firstReady firstWaiter takenOff putOn woken slept finished blocked enqueued releasedFirst releasedAll taken waited signalled resetTo suspendedOn resumed sleptFor sleptUntil tookFlags eventSignalled eventWaited ticked binarySignalled ringPosted postedAhead ringFetched emptied postDone postTried fetchDone fetchTried bothReleased mailboxReset mailboxResumed popped pushed handedOver allocTried putBack sizesFit made signalActed callMade effected actedOnKernel boxEffected actedOnBox acted wentOn settled callFits waitFits ticksFit flagsFit rowFits rowsFit queuedCount countersFit readyWord waitingWord readyFits waitingFits wordsFit holderFits referencesFit positionsFit mailboxesFit promisedCount occurrences entriesFit objectsFit poolFits poolsFit hangsTogether refusalOf maskOf outcomeOf doneWith refusedWith stepped
 shift-steps = (refl, steps-fresh valve Standard made-valve shift shift-typed (omega arith))

@@ -1,7 +1,7 @@
 -- A run in which everything happens that a ledger must know, by computation: a reader that sleeps is woken by a post and fetches it in the same
 -- step, a thread's and then an interrupt's; a post goes ahead; a reset loses two messages; and an object that is promised to a woken thread is
 -- still free. Two threads, a mailbox of three slots, a pool.
-use Prim.Native.Nat.{ℕ, _<_}
+use Prim.Native.Nat.{ℕ}
 use native.Mathlib.Omega.{arith}
 use mathlib.Core.Path.{_≡_, refl, _∙_}
 use mathlib.Core.List.{List, [], _∷_}
@@ -36,17 +36,19 @@ use Rattle.steps.specs.Stepping.{maskOf, outcomeOf, doneWith, refusedWith, step
 use Rattle.library.specs.declared.calls.Step.{Step}
 use Rattle.library.specs.declared.sizes.Sizes.{Sizes}
 use Rattle.promises.specs.Paper.World.{found}
-use Rattle.promises.specs.Paper.Host.{HostStep, HostSteps}
+use Rattle.promises.specs.Paper.Host.{HostSteps}
 use Rattle.promises.specs.Paper.Together.{number, isPromised}
 use Rattle.promises.specs.Paper.History.{Event, History, shownIn, total, posted, fetched, added, each, lostAt}
 use Rattle.promises.specs.Paper.Ledger.{noPostings, ledger, Standing, freeIn, Accounted}
 use Rattle.promises.specs.Paper.Fresh.{Legal}
+use Rattle.promises.specs.Code.Steps.{freshMoments, freshRan}
 use Rattle.promises.specs.Meant.History.{history-only}
 use Rattle.promises.specs.Meant.Settling.{turns}
 use Rattle.promises.specs.Meant.Fresh.{code-legal}
 use Rattle.promises.specs.Runs.Histories.{turnsOf, eventsIn, recorded}
+use Rattle.promises.specs.Top.ShownSteps.{by, more}
 use Rattle.promises.specs.Top.Demands.{fresh-going}
-use Rattle.promises.specs.Top.Ledgers.{run, end, nothing-lost-fresh}
+use Rattle.promises.specs.Top.Ledgers.{nothing-lost-fresh}
 
 abbrev line : Sizes
 line = record { threads = 2; semaphores = 0; queues = 0; references = 0; mailboxes = 1; pools = 1; slots = 3 ∷ 0 ∷ 0 ∷ 0 ∷ [] }
@@ -54,16 +56,6 @@ line = record { threads = 2; semaphores = 0; queues = 0; references = 0; mailbox
 pub made-line : Legal line Standard
 unfolding allFrom sizesFit made
 made-line = code-legal line Standard refl
-
--- a step on object 0, and its widths
-abbrev by : ℕ → ℕ → ℕ → ℕ → Step
-by i kind a timeout = record { kind = kind; caller = i; object = 0; a = a; timeout = timeout }
-
-typed : (i kind a timeout : ℕ) → a < 4294967296 → HostStep (by i kind a timeout)
-typed i kind a timeout h = record { object = omega arith; operand = h }
-
-more : (i kind a timeout : ℕ) (ss : List Step) → a < 4294967296 → HostSteps ss → HostSteps (by i kind a timeout ∷ ss)
-more i kind a timeout ss h hs = HostSteps.more (typed i kind a timeout h) hs
 
 abbrev forever : ℕ
 forever = 4294967295
@@ -98,7 +90,7 @@ day-typed =
     (more 255 15 9 0 _ (omega arith) (more 0 18 0 0 _ (omega arith) (more 0 22 3 0 _ (omega arith) HostSteps.none))))))))))
 
 -- the promise speaks of it
-pub day-accounted : Accounted line (λ b. noPostings) (λ q o. Standing.absent) (run line Standard made-line day day-typed) (end line Standard made-line day day-typed)
+pub day-accounted : Accounted line (λ b. noPostings) (λ q o. Standing.absent) (freshMoments line Standard day) (freshRan line Standard day .tables)
 day-accounted = nothing-lost-fresh line Standard made-line day day-typed
 
 abbrev event : ℕ → ℕ → ℕ → ℕ → Event
@@ -118,7 +110,7 @@ later =
     ∷ []
 
 -- what its results show
-pub day-shown : shownIn 1 (run line Standard made-line day day-typed) ≡ (event 2 0 17 5 ∷ event 2 1 15 5 ∷ later)
+pub day-shown : shownIn 1 (freshMoments line Standard day) ≡ (event 2 0 17 5 ∷ event 2 1 15 5 ∷ later)
 unfolding firstFrom allFrom countOf wordOf firstOf firstReady firstWaiter takenOff putOn woken slept finished blocked enqueued releasedFirst releasedAll taken waited signalled resetTo suspendedOn resumed sleptFor sleptUntil tookFlags eventSignalled eventWaited ticked binarySignalled ringPosted postedAhead ringFetched emptied postDone postTried fetchDone fetchTried bothReleased mailboxReset mailboxResumed popped pushed handedOver allocTried putBack sizesFit made signalActed callMade effected actedOnKernel boxEffected actedOnBox acted wentOn settled callFits waitFits ticksFit flagsFit rowFits rowsFit queuedCount countersFit readyWord waitingWord readyFits waitingFits wordsFit holderFits referencesFit positionsFit mailboxesFit promisedCount occurrences entriesFit objectsFit poolFits poolsFit hangsTogether refusalOf maskOf outcomeOf doneWith refusedWith stepped
 day-shown = refl
 
@@ -135,13 +127,13 @@ day-ledger = refl
 abbrev pub sumsOf : List Event → List ℕ
 sumsOf es = total (each (posted 0)) es ∷ total (each (fetched 0)) es ∷ total (lostAt 0) es ∷ total (each (added 0)) es ∷ []
 
-pub day-sums : sumsOf (shownIn 1 (run line Standard made-line day day-typed)) ≡ (5 ∷ 3 ∷ 2 ∷ 1 ∷ [])
+pub day-sums : sumsOf (shownIn 1 (freshMoments line Standard day)) ≡ (5 ∷ 3 ∷ 2 ∷ 1 ∷ [])
 unfolding firstFrom allFrom countOf wordOf firstOf firstReady firstWaiter takenOff putOn woken slept finished blocked enqueued releasedFirst releasedAll taken waited signalled resetTo suspendedOn resumed sleptFor sleptUntil tookFlags eventSignalled eventWaited ticked binarySignalled ringPosted postedAhead ringFetched emptied postDone postTried fetchDone fetchTried bothReleased mailboxReset mailboxResumed popped pushed handedOver allocTried putBack sizesFit made signalActed callMade effected actedOnKernel boxEffected actedOnBox acted wentOn settled callFits waitFits ticksFit flagsFit rowFits rowsFit queuedCount countersFit readyWord waitingWord readyFits waitingFits wordsFit holderFits referencesFit positionsFit mailboxesFit promisedCount occurrences entriesFit objectsFit poolFits poolsFit hangsTogether refusalOf maskOf outcomeOf doneWith refusedWith stepped
 day-sums = refl
 
 -- and the object that thread 1 was promised is free still
-pub day-promised : (freeIn (found (end line Standard made-line day day-typed)) 0
-    ∷ number (isPromised (found (end line Standard made-line day day-typed)) 0) 2
+pub day-promised : (freeIn (found (freshRan line Standard day .tables)) 0
+    ∷ number (isPromised (found (freshRan line Standard day .tables)) 0) 2
     ∷ []) ≡ (1 ∷ 1 ∷ [])
 unfolding firstFrom allFrom countOf wordOf firstOf firstReady firstWaiter takenOff putOn woken slept finished blocked enqueued releasedFirst releasedAll taken waited signalled resetTo suspendedOn resumed sleptFor sleptUntil tookFlags eventSignalled eventWaited ticked binarySignalled ringPosted postedAhead ringFetched emptied postDone postTried fetchDone fetchTried bothReleased mailboxReset mailboxResumed popped pushed handedOver allocTried putBack sizesFit made signalActed callMade effected actedOnKernel boxEffected actedOnBox acted wentOn settled callFits waitFits ticksFit flagsFit rowFits rowsFit queuedCount countersFit readyWord waitingWord readyFits waitingFits wordsFit holderFits referencesFit positionsFit mailboxesFit promisedCount occurrences entriesFit objectsFit poolFits poolsFit hangsTogether refusalOf maskOf outcomeOf doneWith refusedWith stepped
 day-promised = refl
@@ -169,7 +161,7 @@ unfolding firstFrom allFrom countOf wordOf firstOf firstReady firstWaiter takenO
 turn-events = refl
 
 -- and there is no other history of it, such as the post ahead before the fetch
-pub turn-only : (es : List Event) → History 1 (run narrow Standard made-narrow turn turn-typed) es
+pub turn-only : (es : List Event) → History 1 (freshMoments narrow Standard turn) es
     → es ≡ (event 1 0 15 7 ∷ event 3 1 17 7 ∷ event 3 0 16 8 ∷ [])
 turn-only es h =
     history-only h (recorded turn turn-typed 1 (made narrow Standard .tables) (made narrow Standard .clock) (fresh-going narrow Standard made-narrow) .0)

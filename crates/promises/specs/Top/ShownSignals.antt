@@ -1,9 +1,8 @@
 -- Signals at the top, in a run from fresh tables, by computation: two threads, a semaphore and a pool.
-use Prim.Native.Nat.{ℕ, _<_}
+use Prim.Native.Nat.{ℕ, _+_}
 use native.Mathlib.Omega.{arith}
 use mathlib.Core.Path.{_≡_, refl}
 use mathlib.Core.List.{List, [], _∷_}
-use lib.IntN.{natAbs}
 use Rattle.kernel.specs.declared.clock.Clock.{Clock}
 use Rattle.kernel.specs.declared.units.Rate.the-variants.{Standard}
 use Rattle.kernel.specs.Walk.{firstFrom, allFrom, countOf}
@@ -31,16 +30,18 @@ use Rattle.rules.specs.Hanging.{hangsTogether}
 use Rattle.steps.specs.Refusal.{refusalOf}
 use Rattle.steps.specs.Stepping.{maskOf, outcomeOf, doneWith, refusedWith, stepped}
 use Rattle.promises.specs.Paper.World.{found}
-use Rattle.promises.specs.Paper.Host.{HostStep, HostSteps, Going}
+use Rattle.promises.specs.Paper.Host.{HostSteps, Going}
 use Rattle.promises.specs.Paper.Waking.{rowOf}
 use Rattle.promises.specs.Paper.Run.{Moment}
 use Rattle.promises.specs.Paper.Signals.{AtTop}
 use Rattle.promises.specs.Paper.Fresh.{Legal}
 use Rattle.promises.specs.Meant.Fresh.{code-legal}
-use Rattle.promises.specs.Code.Steps.{ran, moments}
+use Rattle.promises.specs.Code.Steps.{freshMoments, freshRan}
 use Rattle.promises.specs.Runs.Moments.{host}
+use Rattle.promises.specs.Top.ShownSteps.{by, typed}
 use Rattle.promises.specs.Top.Demands.{fresh-going, run-going}
 use Rattle.promises.specs.Top.Signals.{signal-told}
+use lib.IntN.{ℤ, pos, negsuc}
 
 abbrev tank : Sizes
 tank = record { threads = 2; semaphores = 1; queues = 0; references = 0; mailboxes = 0; pools = 1; slots = 0 ∷ 0 ∷ 0 ∷ 0 ∷ [] }
@@ -49,14 +50,6 @@ tank = record { threads = 2; semaphores = 1; queues = 0; references = 0; mailbox
 pub made-tank : Legal tank Standard
 unfolding allFrom sizesFit made
 made-tank = code-legal tank Standard refl
-
--- a step on semaphore 0
-abbrev by : ℕ → ℕ → ℕ → ℕ → Step
-by i kind a timeout = record { kind = kind; caller = i; object = 0; a = a; timeout = timeout }
-
--- its fields have a host's widths
-typed : (i kind a timeout : ℕ) → a < 4294967296 → HostStep (by i kind a timeout)
-typed i kind a timeout h = record { object = omega arith; operand = h }
 
 -- thread 0 sets the counter one below the top, and an interrupt signals, which counts
 abbrev near : List Step
@@ -69,20 +62,25 @@ near-typed = HostSteps.more (typed 0 4 2147483646 0 (omega arith)) (HostSteps.mo
 abbrev weeks : List Step
 weeks = by 0 4 2147483646 0 ∷ by 255 3 0 0 ∷ by 255 3 0 0 ∷ by 0 3 0 0 ∷ by 0 5 0 0 ∷ by 0 2 0 5 ∷ by 0 3 0 0 ∷ []
 
+-- a number without its sign
+abbrev sizeOf : ℤ → ℕ
+sizeOf (pos n) = n
+sizeOf (negsuc n) = n + 1
+
 -- of each step its code, message, woken and finished threads; then the counter, and thread 0's last message
 abbrev shown : List Moment → List (List ℕ)
 shown [] = []
 shown (m ∷ ms) =
     (m .result .code
-    ∷ natAbs (m .result .message)
+    ∷ sizeOf (m .result .message)
     ∷ m .result .woken
     ∷ m .result .finished
-    ∷ natAbs (found (m .after) .counter 0)
-    ∷ natAbs (rowOf (m .after) 0 .answer .message)
+    ∷ sizeOf (found (m .after) .counter 0)
+    ∷ sizeOf (rowOf (m .after) 0 .answer .message)
     ∷ [])
     ∷ shown ms
 
-pub weeks-shown : shown (moments (made tank Standard .tables) (made tank Standard .clock) weeks)
+pub weeks-shown : shown (freshMoments tank Standard weeks)
     ≡ (0 ∷ 0 ∷ 0 ∷ 1 ∷ 2147483646 ∷ 0 ∷ [])
     ∷ (0 ∷ 0 ∷ 0 ∷ 0 ∷ 2147483647 ∷ 0 ∷ [])
     ∷ (0 ∷ 1 ∷ 0 ∷ 0 ∷ 2147483647 ∷ 0 ∷ [])
@@ -96,10 +94,10 @@ weeks-shown = refl
 
 -- the tables and the clock after the first two, of which the promise speaks
 abbrev pub full : Tables
-full = ran (made tank Standard .tables) (made tank Standard .clock) near .tables
+full = freshRan tank Standard near .tables
 
 abbrev pub then : Clock
-then = ran (made tank Standard .tables) (made tank Standard .clock) near .clock
+then = freshRan tank Standard near .clock
 
 full-going : Going full then
 full-going = run-going near near-typed (made tank Standard .tables) (made tank Standard .clock) (fresh-going tank Standard made-tank)
