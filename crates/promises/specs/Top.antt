@@ -6,6 +6,7 @@ pub mod Ledgers
 pub mod Signals
 pub mod Causes
 pub mod Wakings
+pub mod Broken
 pub mod Facts
 pub mod Shown
 pub mod ShownArms
@@ -14,3 +15,4 @@ pub mod ShownPipes
 pub mod ShownLedgers
 pub mod ShownSignals
 pub mod ShownCauses
+pub mod ShownBroken
