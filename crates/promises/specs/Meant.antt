@@ -8,6 +8,8 @@ pub mod Writer
 pub mod Encoding
 pub mod Pipes
 pub mod Boundary
+pub mod Rules
+pub mod Broken
 pub mod Words
 pub mod Together
 pub mod Screen

@@ -13,6 +13,7 @@ pub mod Reader
 pub mod Writer
 pub mod Pipes
 pub mod Boundary
+pub mod Broken
 pub mod Waking
 pub mod Run
 pub mod Flags

@@ -6,6 +6,7 @@ pub mod Ledgers
 pub mod Signals
 pub mod Causes
 pub mod Wakings
+pub mod Broken
 pub mod Facts
 pub mod ShownSteps
 pub mod Shown
@@ -16,3 +17,4 @@ pub mod ShownLedgers
 pub mod ShownAgain
 pub mod ShownSignals
 pub mod ShownCauses
+pub mod ShownBroken

@@ -3,15 +3,17 @@ use Prim.Native.Nat.{ℕ}
 use mathlib.Core.List.{List}
 use Rattle.kernel.specs.declared.clock.Clock.{Clock}
 use Rattle.kernel.specs.declared.units.Rate.{Rate}
+use Rattle.kernel.specs.declared.records.Call.{Call}
 use Rattle.library.specs.declared.calls.Step.{Step}
 use Rattle.library.specs.declared.sizes.Sizes.{Sizes}
 use Rattle.library.specs.declared.tables.Tables.{Tables}
 use Rattle.library.specs.Fresh.{made}
 use Rattle.accounts.specs.declared.account.Account.{Account}
-use Rattle.accounts.specs.Accounting.{accountedStep}
+use Rattle.accounts.specs.Accounting.{callBy, accountedStep}
 use Rattle.steps.specs.Stepping.{stepped}
 use Rattle.promises.specs.Paper.Run.{Moment, momentBy, momentsBy, Ran, ranBy}
 use Rattle.promises.specs.Paper.Ledger.{talliedBy}
+use Rattle.promises.specs.Paper.Waking.{rowOf}
 
 -- a step with the tables that it finds and leaves
 abbrev pub momentOf : Tables → Clock → Step → Moment
@@ -34,3 +36,7 @@ freshRan y r ss = ran (made y r .tables) (made y r .clock) ss
 -- the account of a run whose first moment is the n-th
 abbrev pub tallied : ℕ → Account → List Moment → Account
 tallied n a ms = talliedBy accountedStep n a ms
+
+-- the call that the account and `--why` take thread i's to be in a moment
+abbrev pub calledBy : Moment → ℕ → Call
+calledBy m i = callBy (m .step) i (rowOf (m .before) i .call)

@@ -236,10 +236,10 @@ module _ (k : Kernel) (z : Sizes) (s : GoodSizes z) where
   rows-used = used-all (z .threads) (s .threads .1)
 
   -- a word that is the walk's tells what the walk does, and the other way round
-  walk-tells : (test : Thread → Bool) (w : ℕ) → w ≡ wordOf (λ i. test (threadAt k i)) (usedRows (z .threads)) → Tells (z .threads) test k w
+  pub walk-tells : (test : Thread → Bool) (w : ℕ) → w ≡ wordOf (λ i. test (threadAt k i)) (usedRows (z .threads)) → Tells (z .threads) test k w
   walk-tells test w e j = rw (e, rows-used) (word-digit (λ i. test (threadAt k i)) (z .threads) j)
 
-  tells-walk : (test : Thread → Bool) (w : ℕ) → Tells (z .threads) test k w → w ≡ wordOf (λ i. test (threadAt k i)) (usedRows (z .threads))
+  pub tells-walk : (test : Thread → Bool) (w : ℕ) → Tells (z .threads) test k w → w ≡ wordOf (λ i. test (threadAt k i)) (usedRows (z .threads))
   tells-walk test w g =
       rw rows-used
       (same-digits w (wordOf (λ i. test (threadAt k i)) (z .threads))

@@ -78,7 +78,7 @@ number-count f (suc n) = rw (number-count f n) (split (f n) (λ e. rw e) (λ e. 
 -- ---- sizes
 
 module _ {z : Sizes} where
-  sizes-good : SizesFit z → GoodSizes z
+  pub sizes-good : SizesFit z → GoodSizes z
   sizes-good f =
       record {
         threads = f .threads;
@@ -154,196 +154,205 @@ module _ (z : Sizes) (t : Thread) where
         (λ e. CallFits.fetch e (rw e at (g .object d)) (g .operand d (rw e)) h)
         (λ e. CallFits.alloc e (rw e at (g .object d)) (g .operand d (rw e)) h))
 
-    module _ (s : GoodSizes z) where
-      writer-fits : t .state ≢ 0 → kind ≢ 0 → (kind ≡ 15) ⊎ (kind ≡ 16) → WaitFits t
-      writer-fits n d (inl e) =
-          WaitFits.writer (inl e) (rw e at (g .unready-state n))
-          ((rw e at (g .unready-place n)) ∙ ap (λ (o : ℕ). 28 + o) (small (post-room d (inl e)) (omega (arith, s .mailboxes))))
-      writer-fits n d (inr e) =
-          WaitFits.writer (inr e) (rw e at (g .unready-state n))
-          ((rw e at (g .unready-place n)) ∙ ap (λ (o : ℕ). 28 + o) (small (post-room d (inr e)) (omega (arith, s .mailboxes))))
-
-      wait-fits : WaitFits t
-      wait-fits =
-          same-or (t .state) 0 (λ e. WaitFits.ready e (g .ready-place e))
-          (λ n.
-          let d = g .unready-call n in
-          by-kind kind (g .kind d) (λ e. WaitFits.semaphore e (rw e at (g .unready-state n)) (rw e at (g .unready-place n)))
-          (λ e.
-          WaitFits.queue e (rw e at (g .unready-state n))
-          ((rw e at (g .unready-place n)) ∙ ap (λ (o : ℕ). 20 + o) (small (rw e at (g .object d)) (omega (arith, s .queues)))))
-          (λ e. WaitFits.reference e (rw e at (g .unready-state n)) (rw e at (g .unready-place n)))
-          (λ e. WaitFits.sleeps (inl e) (rw e at (g .unready-state n)) (rw e at (g .unready-place n)))
-          (λ e. WaitFits.sleeps (inr e) (rw e at (g .unready-state n)) (rw e at (g .unready-place n)))
-          (λ e. WaitFits.events e (rw e at (g .unready-state n)) (rw e at (g .unready-place n))) (writer-fits n d)
-          (λ e.
-          WaitFits.reader e (rw e at (g .unready-state n))
-          ((rw e at (g .unready-place n)) ∙ ap (λ (o : ℕ). 32 + o) (small (rw e at (g .object d)) (omega (arith, s .mailboxes)))))
-          (λ e.
-          WaitFits.pool e (rw e at (g .unready-state n))
-          ((rw e at (g .unready-place n)) ∙ ap (λ (o : ℕ). 16 + o) (small (rw e at (g .object d)) (omega (arith, s .pools))))))
-
-      pub thread-fits : ThreadFits z t
-      thread-fits =
-          record {
-            call = call-fits;
-            wait = wait-fits;
-            ticks = same-or (t .state) 0 (λ e. TicksFit.none (inl e) (g .ready-ticks e))
-                (λ n. same-or (t .call .timeout) 4294967295 (λ e. TicksFit.none (inr e) (g .infinite-ticks e))
-                (λ f. TicksFit.some n f (g .ticks n f .0) (g .ticks n f .1)));
-            awaited = same-or kind 14 (λ e. AwaitedFit.mask e (g .awaited ∙ rw e))
-                (λ d. AwaitedFit.none d (g .awaited ∙ rw (ne-eqb kind 14 d)));
-            none-pending = g .none-pending;
-            cause = g .cause;
-          }
-
   -- and back
-  module _ (f : ThreadFits z t) where
-    fits-object : CallFits z (t .call) → kind ≢ 0 → t .call .object < callLimit z kind
-    fits-object (CallFits.none e) d = absurd (d (ap (λ (c : Call). c .kind) e))
-    fits-object (CallFits.semaphore e o p h) d = rw e o
-    fits-object (CallFits.queue e o p h) d = rw e o
-    fits-object (CallFits.reference e o p h) d = rw e o
-    fits-object (CallFits.sleep-for e o p h) d = rw e (omega (arith, o))
-    fits-object (CallFits.sleep-until e o h) d = rw e (omega (arith, o))
-    fits-object (CallFits.events e o h) d = rw e (omega (arith, o))
-    fits-object (CallFits.post (inl e) o h) d = rw e o
-    fits-object (CallFits.post (inr e) o h) d = rw e o
-    fits-object (CallFits.fetch e o p h) d = rw e o
-    fits-object (CallFits.alloc e o p h) d = rw e o
+  fits-object : CallFits z (t .call) → kind ≢ 0 → t .call .object < callLimit z kind
+  fits-object (CallFits.none e) d = absurd (d (ap (λ (c : Call). c .kind) e))
+  fits-object (CallFits.semaphore e o p h) d = rw e o
+  fits-object (CallFits.queue e o p h) d = rw e o
+  fits-object (CallFits.reference e o p h) d = rw e o
+  fits-object (CallFits.sleep-for e o p h) d = rw e (omega (arith, o))
+  fits-object (CallFits.sleep-until e o h) d = rw e (omega (arith, o))
+  fits-object (CallFits.events e o h) d = rw e (omega (arith, o))
+  fits-object (CallFits.post (inl e) o h) d = rw e o
+  fits-object (CallFits.post (inr e) o h) d = rw e o
+  fits-object (CallFits.fetch e o p h) d = rw e o
+  fits-object (CallFits.alloc e o p h) d = rw e o
 
-    fits-kind : CallFits z (t .call) → kind ≢ 0 → CallKind kind
-    fits-kind (CallFits.none e) d = absurd (d (ap (λ (c : Call). c .kind) e))
-    fits-kind (CallFits.semaphore e o p h) d = inl e
-    fits-kind (CallFits.queue e o p h) d = inr (inl e)
-    fits-kind (CallFits.reference e o p h) d = inr (inr (inl e))
-    fits-kind (CallFits.sleep-for e o p h) d = inr (inr (inr (inl e)))
-    fits-kind (CallFits.sleep-until e o h) d = inr (inr (inr (inr (inl e))))
-    fits-kind (CallFits.events e o h) d = inr (inr (inr (inr (inr (inl (omega (arith, e), omega (arith, e)))))))
-    fits-kind (CallFits.post (inl e) o h) d = inr (inr (inr (inr (inr (inl (omega (arith, e), omega (arith, e)))))))
-    fits-kind (CallFits.post (inr e) o h) d = inr (inr (inr (inr (inr (inl (omega (arith, e), omega (arith, e)))))))
-    fits-kind (CallFits.fetch e o p h) d = inr (inr (inr (inr (inr (inl (omega (arith, e), omega (arith, e)))))))
-    fits-kind (CallFits.alloc e o p h) d = inr (inr (inr (inr (inr (inr e)))))
+  fits-kind : CallFits z (t .call) → kind ≢ 0 → CallKind kind
+  fits-kind (CallFits.none e) d = absurd (d (ap (λ (c : Call). c .kind) e))
+  fits-kind (CallFits.semaphore e o p h) d = inl e
+  fits-kind (CallFits.queue e o p h) d = inr (inl e)
+  fits-kind (CallFits.reference e o p h) d = inr (inr (inl e))
+  fits-kind (CallFits.sleep-for e o p h) d = inr (inr (inr (inl e)))
+  fits-kind (CallFits.sleep-until e o h) d = inr (inr (inr (inr (inl e))))
+  fits-kind (CallFits.events e o h) d = inr (inr (inr (inr (inr (inl (omega (arith, e), omega (arith, e)))))))
+  fits-kind (CallFits.post (inl e) o h) d = inr (inr (inr (inr (inr (inl (omega (arith, e), omega (arith, e)))))))
+  fits-kind (CallFits.post (inr e) o h) d = inr (inr (inr (inr (inr (inl (omega (arith, e), omega (arith, e)))))))
+  fits-kind (CallFits.fetch e o p h) d = inr (inr (inr (inr (inr (inl (omega (arith, e), omega (arith, e)))))))
+  fits-kind (CallFits.alloc e o p h) d = inr (inr (inr (inr (inr (inr e)))))
 
-    fits-timeout : CallFits z (t .call) → kind ≢ 0 → 1 ≤ t .call .timeout
-    fits-timeout (CallFits.none e) d = absurd (d (ap (λ (c : Call). c .kind) e))
-    fits-timeout (CallFits.semaphore e o p h) d = h
-    fits-timeout (CallFits.queue e o p h) d = h
-    fits-timeout (CallFits.reference e o p h) d = h
-    fits-timeout (CallFits.sleep-for e o p h) d = h
-    fits-timeout (CallFits.sleep-until e o h) d = h
-    fits-timeout (CallFits.events e o h) d = h
-    fits-timeout (CallFits.post e o h) d = h
-    fits-timeout (CallFits.fetch e o p h) d = h
-    fits-timeout (CallFits.alloc e o p h) d = h
+  fits-timeout : CallFits z (t .call) → kind ≢ 0 → 1 ≤ t .call .timeout
+  fits-timeout (CallFits.none e) d = absurd (d (ap (λ (c : Call). c .kind) e))
+  fits-timeout (CallFits.semaphore e o p h) d = h
+  fits-timeout (CallFits.queue e o p h) d = h
+  fits-timeout (CallFits.reference e o p h) d = h
+  fits-timeout (CallFits.sleep-for e o p h) d = h
+  fits-timeout (CallFits.sleep-until e o h) d = h
+  fits-timeout (CallFits.events e o h) d = h
+  fits-timeout (CallFits.post e o h) d = h
+  fits-timeout (CallFits.fetch e o p h) d = h
+  fits-timeout (CallFits.alloc e o p h) d = h
 
-    fits-operand : CallFits z (t .call) → kind ≢ 0 → keepsOperand kind ≡ false → t .call .operand ≡ 0
-    fits-operand (CallFits.none e) d n = ap (λ (c : Call). c .operand) e
-    fits-operand (CallFits.semaphore e o p h) d n = p
-    fits-operand (CallFits.queue e o p h) d n = p
-    fits-operand (CallFits.reference e o p h) d n = p
-    fits-operand (CallFits.sleep-for e o p h) d n = p
-    fits-operand (CallFits.sleep-until e o h) d n = contrary (rw e) n
-    fits-operand (CallFits.events e o h) d n = contrary (rw e) n
-    fits-operand (CallFits.post (inl e) o h) d n = contrary (rw e) n
-    fits-operand (CallFits.post (inr e) o h) d n = contrary (rw e) n
-    fits-operand (CallFits.fetch e o p h) d n = p
-    fits-operand (CallFits.alloc e o p h) d n = p
+  fits-operand : CallFits z (t .call) → kind ≢ 0 → keepsOperand kind ≡ false → t .call .operand ≡ 0
+  fits-operand (CallFits.none e) d n = ap (λ (c : Call). c .operand) e
+  fits-operand (CallFits.semaphore e o p h) d n = p
+  fits-operand (CallFits.queue e o p h) d n = p
+  fits-operand (CallFits.reference e o p h) d n = p
+  fits-operand (CallFits.sleep-for e o p h) d n = p
+  fits-operand (CallFits.sleep-until e o h) d n = contrary (rw e) n
+  fits-operand (CallFits.events e o h) d n = contrary (rw e) n
+  fits-operand (CallFits.post (inl e) o h) d n = contrary (rw e) n
+  fits-operand (CallFits.post (inr e) o h) d n = contrary (rw e) n
+  fits-operand (CallFits.fetch e o p h) d n = p
+  fits-operand (CallFits.alloc e o p h) d n = p
 
-    fits-none : CallFits z (t .call) → kind ≡ 0 → (t .call .object ≡ 0) × ((t .call .operand ≡ 0) × (t .call .timeout ≡ 0))
-    fits-none (CallFits.none e) d =
-        (ap (λ (c : Call). c .object) e, (ap (λ (c : Call). c .operand) e, ap (λ (c : Call). c .timeout) e))
-    fits-none (CallFits.semaphore e o p h) d = absurd (omega (arith, e, d))
-    fits-none (CallFits.queue e o p h) d = absurd (omega (arith, e, d))
-    fits-none (CallFits.reference e o p h) d = absurd (omega (arith, e, d))
-    fits-none (CallFits.sleep-for e o p h) d = absurd (omega (arith, e, d))
-    fits-none (CallFits.sleep-until e o h) d = absurd (omega (arith, e, d))
-    fits-none (CallFits.events e o h) d = absurd (omega (arith, e, d))
-    fits-none (CallFits.post (inl e) o h) d = absurd (omega (arith, e, d))
-    fits-none (CallFits.post (inr e) o h) d = absurd (omega (arith, e, d))
-    fits-none (CallFits.fetch e o p h) d = absurd (omega (arith, e, d))
-    fits-none (CallFits.alloc e o p h) d = absurd (omega (arith, e, d))
+  fits-none : CallFits z (t .call) → kind ≡ 0 → (t .call .object ≡ 0) × ((t .call .operand ≡ 0) × (t .call .timeout ≡ 0))
+  fits-none (CallFits.none e) d =
+      (ap (λ (c : Call). c .object) e, (ap (λ (c : Call). c .operand) e, ap (λ (c : Call). c .timeout) e))
+  fits-none (CallFits.semaphore e o p h) d = absurd (omega (arith, e, d))
+  fits-none (CallFits.queue e o p h) d = absurd (omega (arith, e, d))
+  fits-none (CallFits.reference e o p h) d = absurd (omega (arith, e, d))
+  fits-none (CallFits.sleep-for e o p h) d = absurd (omega (arith, e, d))
+  fits-none (CallFits.sleep-until e o h) d = absurd (omega (arith, e, d))
+  fits-none (CallFits.events e o h) d = absurd (omega (arith, e, d))
+  fits-none (CallFits.post (inl e) o h) d = absurd (omega (arith, e, d))
+  fits-none (CallFits.post (inr e) o h) d = absurd (omega (arith, e, d))
+  fits-none (CallFits.fetch e o p h) d = absurd (omega (arith, e, d))
+  fits-none (CallFits.alloc e o p h) d = absurd (omega (arith, e, d))
 
-    module _ (s : GoodSizes z) where
-      -- what a wait that fits says of one that is not ready
-      record Unready : Type 0 where
-        call : kind ≢ 0
-        state : t .state ≡ waitState kind
-        place : t .place ≡ waitPlace kind (t .call .object)
+  -- what a wait that fits says of one that is not ready
+  pub record Unready : Type 0 where
+    pub call : kind ≢ 0
+    pub state : t .state ≡ waitState kind
+    pub place : t .place ≡ waitPlace kind (t .call .object)
 
-      limit : {n : ℕ} → kind ≡ n → n ≢ 0 → t .call .object < callLimit z n
-      limit e d = subst (λ (k : ℕ). t .call .object < callLimit z k) e (fits-object (f .call) (λ x. d (sym e ∙ x)))
+  -- a wait, beside a call that fits
+  module _ (f : CallFits z (t .call)) (s : GoodSizes z) where
+    limit : {n : ℕ} → kind ≡ n → n ≢ 0 → t .call .object < callLimit z n
+    limit e d = subst (λ (k : ℕ). t .call .object < callLimit z k) e (fits-object f (λ x. d (sym e ∙ x)))
 
-      is : {n : ℕ} → kind ≡ n → n ≢ 0 → kind ≢ 0
-      is e d x = d (sym e ∙ x)
+    is : {n : ℕ} → kind ≡ n → n ≢ 0 → kind ≢ 0
+    is e d x = d (sym e ∙ x)
 
-      unready : WaitFits t → t .state ≢ 0 → Unready
-      unready (WaitFits.ready e p) n = absurd (n e)
-      unready (WaitFits.sleeps (inl e) a p) n = record { call = is e (λ x. omega arith); state = rw (e, a); place = rw (e, p) }
-      unready (WaitFits.sleeps (inr e) a p) n = record { call = is e (λ x. omega arith); state = rw (e, a); place = rw (e, p) }
-      unready (WaitFits.reference e a p) n = record { call = is e (λ x. omega arith); state = rw (e, a); place = rw (e, p) }
-      unready (WaitFits.semaphore e a p) n = record { call = is e (λ x. omega arith); state = rw (e, a); place = rw (e, p) }
-      unready (WaitFits.pool e a p) n =
-          let o = small (limit e (λ x. omega arith)) (omega (arith, s .pools)) in
-          record { call = is e (λ x. omega arith); state = rw (e, a); place = rw (e, p, o) }
-      unready (WaitFits.queue e a p) n =
-          let o = small (limit e (λ x. omega arith)) (omega (arith, s .queues)) in
-          record { call = is e (λ x. omega arith); state = rw (e, a); place = rw (e, p, o) }
-      unready (WaitFits.writer (inl e) a p) n =
-          let o = small (limit e (λ x. omega arith)) (omega (arith, s .mailboxes)) in
-          record { call = is e (λ x. omega arith); state = rw (e, a); place = rw (e, p, o) }
-      unready (WaitFits.writer (inr e) a p) n =
-          let o = small (limit e (λ x. omega arith)) (omega (arith, s .mailboxes)) in
-          record { call = is e (λ x. omega arith); state = rw (e, a); place = rw (e, p, o) }
-      unready (WaitFits.reader e a p) n =
-          let o = small (limit e (λ x. omega arith)) (omega (arith, s .mailboxes)) in
-          record { call = is e (λ x. omega arith); state = rw (e, a); place = rw (e, p, o) }
-      unready (WaitFits.events e a p) n = record { call = is e (λ x. omega arith); state = rw (e, a); place = rw (e, p) }
+    writer-fits : Unready → (kind ≡ 15) ⊎ (kind ≡ 16) → WaitFits t
+    writer-fits u (inl e) =
+        WaitFits.writer (inl e) (rw e at (u .state))
+        ((rw e at (u .place)) ∙ ap (λ (o : ℕ). 28 + o) (small (limit e (λ x. omega arith)) (omega (arith, s .mailboxes))))
+    writer-fits u (inr e) =
+        WaitFits.writer (inr e) (rw e at (u .state))
+        ((rw e at (u .place)) ∙ ap (λ (o : ℕ). 28 + o) (small (limit e (λ x. omega arith)) (omega (arith, s .mailboxes))))
 
-      rests : WaitFits t → t .state ≡ 0 → t .place ≡ 0
-      rests (WaitFits.ready e p) q = p
-      rests (WaitFits.sleeps e a p) q = p
-      rests (WaitFits.reference e a p) q = absurd (omega (arith, a, q))
-      rests (WaitFits.semaphore e a p) q = absurd (omega (arith, a, q))
-      rests (WaitFits.pool e a p) q = absurd (omega (arith, a, q))
-      rests (WaitFits.queue e a p) q = absurd (omega (arith, a, q))
-      rests (WaitFits.writer e a p) q = absurd (omega (arith, a, q))
-      rests (WaitFits.reader e a p) q = absurd (omega (arith, a, q))
-      rests (WaitFits.events e a p) q = p
+    pub wait-fits : (t .state ≡ 0 → t .place ≡ 0) → (t .state ≢ 0 → Unready) → WaitFits t
+    wait-fits rest waits =
+        same-or (t .state) 0 (λ e. WaitFits.ready e (rest e))
+        (λ n.
+        let u = waits n in
+        by-kind kind (fits-kind f (u .call)) (λ e. WaitFits.semaphore e (rw e at (u .state)) (rw e at (u .place)))
+        (λ e.
+        WaitFits.queue e (rw e at (u .state))
+        ((rw e at (u .place)) ∙ ap (λ (o : ℕ). 20 + o) (small (limit e (λ x. omega arith)) (omega (arith, s .queues)))))
+        (λ e. WaitFits.reference e (rw e at (u .state)) (rw e at (u .place)))
+        (λ e. WaitFits.sleeps (inl e) (rw e at (u .state)) (rw e at (u .place)))
+        (λ e. WaitFits.sleeps (inr e) (rw e at (u .state)) (rw e at (u .place)))
+        (λ e. WaitFits.events e (rw e at (u .state)) (rw e at (u .place))) (writer-fits u)
+        (λ e.
+        WaitFits.reader e (rw e at (u .state))
+        ((rw e at (u .place)) ∙ ap (λ (o : ℕ). 32 + o) (small (limit e (λ x. omega arith)) (omega (arith, s .mailboxes)))))
+        (λ e.
+        WaitFits.pool e (rw e at (u .state))
+        ((rw e at (u .place)) ∙ ap (λ (o : ℕ). 16 + o) (small (limit e (λ x. omega arith)) (omega (arith, s .pools))))))
 
-      no-ticks : TicksFit t → (t .state ≡ 0) ⊎ (t .call .timeout ≡ 4294967295) → t .remaining ≡ 0
-      no-ticks (TicksFit.none e r) h = r
-      no-ticks (TicksFit.some n m l u) (inl e) = absurd (n e)
-      no-ticks (TicksFit.some n m l u) (inr e) = absurd (m e)
+    pub unready : WaitFits t → t .state ≢ 0 → Unready
+    unready (WaitFits.ready e p) n = absurd (n e)
+    unready (WaitFits.sleeps (inl e) a p) n = record { call = is e (λ x. omega arith); state = rw (e, a); place = rw (e, p) }
+    unready (WaitFits.sleeps (inr e) a p) n = record { call = is e (λ x. omega arith); state = rw (e, a); place = rw (e, p) }
+    unready (WaitFits.reference e a p) n = record { call = is e (λ x. omega arith); state = rw (e, a); place = rw (e, p) }
+    unready (WaitFits.semaphore e a p) n = record { call = is e (λ x. omega arith); state = rw (e, a); place = rw (e, p) }
+    unready (WaitFits.pool e a p) n =
+        let o = small (limit e (λ x. omega arith)) (omega (arith, s .pools)) in
+        record { call = is e (λ x. omega arith); state = rw (e, a); place = rw (e, p, o) }
+    unready (WaitFits.queue e a p) n =
+        let o = small (limit e (λ x. omega arith)) (omega (arith, s .queues)) in
+        record { call = is e (λ x. omega arith); state = rw (e, a); place = rw (e, p, o) }
+    unready (WaitFits.writer (inl e) a p) n =
+        let o = small (limit e (λ x. omega arith)) (omega (arith, s .mailboxes)) in
+        record { call = is e (λ x. omega arith); state = rw (e, a); place = rw (e, p, o) }
+    unready (WaitFits.writer (inr e) a p) n =
+        let o = small (limit e (λ x. omega arith)) (omega (arith, s .mailboxes)) in
+        record { call = is e (λ x. omega arith); state = rw (e, a); place = rw (e, p, o) }
+    unready (WaitFits.reader e a p) n =
+        let o = small (limit e (λ x. omega arith)) (omega (arith, s .mailboxes)) in
+        record { call = is e (λ x. omega arith); state = rw (e, a); place = rw (e, p, o) }
+    unready (WaitFits.events e a p) n = record { call = is e (λ x. omega arith); state = rw (e, a); place = rw (e, p) }
 
-      ticks : TicksFit t → t .state ≢ 0 → t .call .timeout ≢ 4294967295 → (1 ≤ t .remaining) × (t .remaining ≤ t .call .timeout)
-      ticks (TicksFit.none (inl e) r) n m = absurd (n e)
-      ticks (TicksFit.none (inr e) r) n m = absurd (m e)
-      ticks (TicksFit.some x y l u) n m = (l, u)
+  pub rests : WaitFits t → t .state ≡ 0 → t .place ≡ 0
+  rests (WaitFits.ready e p) q = p
+  rests (WaitFits.sleeps e a p) q = p
+  rests (WaitFits.reference e a p) q = absurd (omega (arith, a, q))
+  rests (WaitFits.semaphore e a p) q = absurd (omega (arith, a, q))
+  rests (WaitFits.pool e a p) q = absurd (omega (arith, a, q))
+  rests (WaitFits.queue e a p) q = absurd (omega (arith, a, q))
+  rests (WaitFits.writer e a p) q = absurd (omega (arith, a, q))
+  rests (WaitFits.reader e a p) q = absurd (omega (arith, a, q))
+  rests (WaitFits.events e a p) q = p
 
-      awaited : AwaitedFit t → t .awaited ≡ cond (eqb kind 14) (t .call .operand) 0
-      awaited (AwaitedFit.mask e a) = rw e a
-      awaited (AwaitedFit.none d a) = rw (ne-eqb kind 14 d) a
+  -- ticks and awaited flags, both ways
+  pub ticks-fit : (t .state ≡ 0 → t .remaining ≡ 0) → (t .call .timeout ≡ 4294967295 → t .remaining ≡ 0)
+      → (t .state ≢ 0 → t .call .timeout ≢ 4294967295 → (1 ≤ t .remaining) × (t .remaining ≤ t .call .timeout)) → TicksFit t
+  ticks-fit a b g =
+      same-or (t .state) 0 (λ e. TicksFit.none (inl e) (a e))
+      (λ n. same-or (t .call .timeout) 4294967295 (λ e. TicksFit.none (inr e) (b e)) (λ f. TicksFit.some n f (g n f .0) (g n f .1)))
 
-      pub good-thread : GoodThread z t
-      good-thread =
-          record {
-            object = fits-object (f .call);
-            ready-ticks = λ e. no-ticks (f .ticks) (inl e);
-            infinite-ticks = λ e. no-ticks (f .ticks) (inr e);
-            ticks = ticks (f .ticks);
-            kind = fits-kind (f .call);
-            timeout = fits-timeout (f .call);
-            unready-call = λ n. unready (f .wait) n .call;
-            unready-state = λ n. unready (f .wait) n .state;
-            unready-place = λ n. unready (f .wait) n .place;
-            ready-place = rests (f .wait);
-            no-call = fits-none (f .call);
-            operand = fits-operand (f .call);
-            awaited = awaited (f .awaited);
-            none-pending = f .none-pending;
-            cause = f .cause;
-          }
+  pub no-ticks : TicksFit t → (t .state ≡ 0) ⊎ (t .call .timeout ≡ 4294967295) → t .remaining ≡ 0
+  no-ticks (TicksFit.none e r) h = r
+  no-ticks (TicksFit.some n m l u) (inl e) = absurd (n e)
+  no-ticks (TicksFit.some n m l u) (inr e) = absurd (m e)
+
+  pub some-ticks : TicksFit t → t .state ≢ 0 → t .call .timeout ≢ 4294967295 → (1 ≤ t .remaining) × (t .remaining ≤ t .call .timeout)
+  some-ticks (TicksFit.none (inl e) r) n m = absurd (n e)
+  some-ticks (TicksFit.none (inr e) r) n m = absurd (m e)
+  some-ticks (TicksFit.some x y l u) n m = (l, u)
+
+  pub awaited-fit : t .awaited ≡ cond (eqb kind 14) (t .call .operand) 0 → AwaitedFit t
+  awaited-fit h = same-or kind 14 (λ e. AwaitedFit.mask e (h ∙ rw e)) (λ d. AwaitedFit.none d (h ∙ rw (ne-eqb kind 14 d)))
+
+  pub awaited : AwaitedFit t → t .awaited ≡ cond (eqb kind 14) (t .call .operand) 0
+  awaited (AwaitedFit.mask e a) = rw e a
+  awaited (AwaitedFit.none d a) = rw (ne-eqb kind 14 d) a
+
+  -- the record, as the paper has it and as the laws do
+  pub thread-fits : GoodThread z t → GoodSizes z → ThreadFits z t
+  thread-fits g s =
+      record {
+        call = call-fits g;
+        wait =
+            wait-fits (call-fits g) s (g .ready-place)
+            (λ n. record { call = g .unready-call n; state = g .unready-state n; place = g .unready-place n });
+        ticks = ticks-fit (g .ready-ticks) (g .infinite-ticks) (g .ticks);
+        awaited = awaited-fit (g .awaited);
+        none-pending = g .none-pending;
+        cause = g .cause;
+      }
+
+  pub good-thread : ThreadFits z t → GoodSizes z → GoodThread z t
+  good-thread f s =
+      record {
+        object = fits-object (f .call);
+        ready-ticks = λ e. no-ticks (f .ticks) (inl e);
+        infinite-ticks = λ e. no-ticks (f .ticks) (inr e);
+        ticks = some-ticks (f .ticks);
+        kind = fits-kind (f .call);
+        timeout = fits-timeout (f .call);
+        unready-call = λ n. unready (f .call) s (f .wait) n .call;
+        unready-state = λ n. unready (f .call) s (f .wait) n .state;
+        unready-place = λ n. unready (f .call) s (f .wait) n .place;
+        ready-place = rests (f .wait);
+        no-call = fits-none (f .call);
+        operand = fits-operand (f .call);
+        awaited = awaited (f .awaited);
+        none-pending = f .none-pending;
+        cause = f .cause;
+      }
 
 -- ---- counters, pools
 
@@ -390,7 +399,7 @@ by-mark (inr (inl e)) = omega arith
 by-mark (inr (inr e)) = omega arith
 
 module _ (x : Pool) (c : ℤ) (n : ℕ) where
-  pool-fits : GoodPool x c n → PoolFits x c n
+  pub pool-fits : GoodPool x c n → PoolFits x c n
   pool-fits g =
       record {
         length = g .length;
@@ -401,7 +410,7 @@ module _ (x : Pool) (c : ℤ) (n : ℕ) where
         marks = λ o h. by-mark (g .marks o h);
       }
 
-  fits-pool : PoolFits x c n → GoodPool x c n
+  pub fits-pool : PoolFits x c n → GoodPool x c n
   fits-pool f =
       record {
         length = f .length;
@@ -429,7 +438,7 @@ module _ (t : Tables) (c : Clock) where
     unfolding queuedCount
     queued-are p = rw (rows-used n (s .threads .1)) (number-count (isQueued w p) n)
 
-    promised-are : (q : ℕ) → number (isPromised w q) n ≡ promisedCount k n q
+    pub promised-are : (q : ℕ) → number (isPromised w q) n ≡ promisedCount k n q
     unfolding promisedCount
     promised-are q =
         rw (rows-used n (s .threads .1))
@@ -437,21 +446,21 @@ module _ (t : Tables) (c : Clock) where
         ∙ count-agree (isPromised w q) _ n (λ i l. rw (zero-same (threadAt k i .message))))
 
     -- a counter at a place, told by the place's number
-    at-semaphore : (p q : ℕ) → q ≡ p → SemaphoreCounter (counterAt k q) (queuedCount k n q)
+    pub at-semaphore : (p q : ℕ) → q ≡ p → SemaphoreCounter (counterAt k q) (queuedCount k n q)
         → SemaphoreFits (w .counter p) (number (isQueued w p) n)
     at-semaphore p q e g = rw (queued-are p) (semaphore-fits (counterAt k p) (queuedCount k n p) (rw e at g))
 
-    at-queue : (p q : ℕ) → q ≡ p → QueueCounter (counterAt k q) (queuedCount k n q) → QueueFits (w .counter p) (number (isQueued w p) n)
+    pub at-queue : (p q : ℕ) → q ≡ p → QueueCounter (counterAt k q) (queuedCount k n q) → QueueFits (w .counter p) (number (isQueued w p) n)
     at-queue p q e g = rw (queued-are p) (queue-fits (counterAt k p) (queuedCount k n p) (rw e at g))
 
-    of-semaphore : (p q : ℕ) → q ≡ p → SemaphoreFits (w .counter p) (number (isQueued w p) n)
+    pub of-semaphore : (p q : ℕ) → q ≡ p → SemaphoreFits (w .counter p) (number (isQueued w p) n)
         → SemaphoreCounter (counterAt k q) (queuedCount k n q)
     of-semaphore p q e f = rw e (fits-semaphore (counterAt k p) (queuedCount k n p) (rw (queued-are p) at f))
 
-    of-queue : (p q : ℕ) → q ≡ p → QueueFits (w .counter p) (number (isQueued w p) n) → QueueCounter (counterAt k q) (queuedCount k n q)
+    pub of-queue : (p q : ℕ) → q ≡ p → QueueFits (w .counter p) (number (isQueued w p) n) → QueueCounter (counterAt k q) (queuedCount k n q)
     of-queue p q e f = rw e (fits-queue (counterAt k p) (queuedCount k n p) (rw (queued-are p) at f))
 
-    pool-at : (q : ℕ) → q < t .sizes .pools → 16 + q % 256 ≡ 16 + q
+    pub pool-at : (q : ℕ) → q < t .sizes .pools → 16 + q % 256 ≡ 16 + q
     pool-at q h = ap (λ (o : ℕ). 16 + o) (small h (omega (arith, s .pools)))
 
     queue-at : (q : ℕ) → q < t .sizes .queues → 20 + q % 256 ≡ 20 + q

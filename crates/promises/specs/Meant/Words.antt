@@ -54,7 +54,7 @@ in-use-or {C} z p f g =
 
 module _ (k : Kernel) (z : Sizes) (s : GoodSizes z) (p : ℕ) where
   -- what the paper calls in use passes the test
-  used-test : InUse z p → (p < 36) × (inUse z p ≡ true)
+  pub used-test : InUse z p → (p < 36) × (inUse z p ≡ true)
   used-test (InUse.semaphore l) = let x = semaphore-place k z s p l in (omega (arith, x .0), x .1)
   used-test (InUse.pool q l e) =
       let x = pool-place k z s q l p (e ∙ sym (at q (omega (arith, s .pools)))) in (omega (arith, x .1 .0), x .1 .1)
@@ -78,7 +78,7 @@ module _ (k : Kernel) (z : Sizes) (s : GoodSizes z) (p : ℕ) where
       at q h = omega arith
 
   -- and what passes it is in use
-  test-used : inUse z p ≡ true → InUse z p
+  pub test-used : inUse z p ≡ true → InUse z p
   test-used u =
       in-or-out p 16 (λ l. InUse.semaphore (ltb-true p (z .semaphores) (sym (semaphore-used z p l) ∙ u)))
       (λ a. in-or-out p 20 (λ l. InUse.pool (p - 16) (ltb-true (p - 16) (z .pools) (sym (pool-used z p a l) ∙ u)) (omega arith))

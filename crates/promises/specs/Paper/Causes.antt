@@ -7,6 +7,7 @@ use mathlib.Core.Bool.{Bool, true, false, cond, _&&_, _||_}
 use lib.Dec.{eqb, ltb}
 use mathlib.Core.List.{List, [], _∷_}
 use lib.IntN.{ℤ, pos, negsuc}
+use Rattle.kernel.specs.declared.records.Call.{Call}
 use Rattle.kernel.specs.declared.records.Thread.{Thread}
 use Rattle.library.specs.declared.calls.Step.{Step}
 use Rattle.library.specs.declared.tables.Tables.{Tables}
@@ -22,6 +23,14 @@ pub data FallsAt (t : Tables) (s : Step) (i : ℕ) : ℕ → ℕ → Type 0 wher
   own : {state place : ℕ} → s .caller ≡ i → OwnWait s state place → FallsAt t s i state place
   writer : IsPost (rowOf t i .call .kind) → FallsAt t s i 3 (28 + rowOf t i .call .object)
   reader : rowOf t i .call .kind ≡ 17 → FallsAt t s i 3 (32 + rowOf t i .call .object)
+
+-- where a call waits: at the place of its queue, its reference, or nowhere in a sleep and in an event wait
+abbrev pub placeOf : Call → ℕ
+placeOf c =
+    cond (eqb (c .kind) 2 || eqb (c .kind) 9) (c .object)
+    (cond (eqb (c .kind) 20) (16 + c .object)
+    (cond (eqb (c .kind) 6) (20 + c .object)
+    (cond (eqb (c .kind) 15 || eqb (c .kind) 16) (28 + c .object) (cond (eqb (c .kind) 17) (32 + c .object) 0))))
 
 -- a waking of thread i in the accepted step s, its message and its cause: of one that slept before the step; or of one that fell asleep in it,
 -- whom only a mailbox call can wake that goes on while the step settles

@@ -66,7 +66,7 @@ module _ (mark n : ℕ) where
       (λ e. both-true (le-leb mark out (mark-le known)) (eq-eqb n 0 (none (eqb-false mark free e))))
 
 module _ (x : Pool) (c : ℤ) (promised : ℕ) where
-  pool-good : poolFits x c promised ≡ true → GoodPool x c promised
+  pub pool-good : poolFits x c promised ≡ true → GoodPool x c promised
   unfolding poolFits entriesFit objectsFit
   pool-good e =
       let a = both-means (leb (x .length) 32) _ e in
@@ -95,7 +95,7 @@ module _ (x : Pool) (c : ℤ) (promised : ℕ) where
   of-objects g =
       all-of (objectAgrees x) 32 (λ o h. of-mark (markAt x o) (occurrences x o) (g .marks o h) (g .once o h) (g .no-other o h))
 
-  good-pool : GoodPool x c promised → poolFits x c promised ≡ true
+  pub good-pool : GoodPool x c promised → poolFits x c promised ≡ true
   unfolding poolFits
   good-pool g =
       both-true (le-leb (x .length) 32 (g .length))

@@ -93,7 +93,7 @@ module _ (z : Sizes) where
 -- ---- counters
 
 module _ (p : ℕ) (c : ℤ) (n : ℕ) where
-  semaphore-of : p < 20 → counterFits p c n ≡ true → SemaphoreCounter c n
+  pub semaphore-of : p < 20 → counterFits p c n ≡ true → SemaphoreCounter c n
   semaphore-of h e =
       record {
         waiters = λ l. same-means c (minus n) (rw (lt-ltb p 20 h, ne-eqb n 0 (some l)) at e);
@@ -103,12 +103,12 @@ module _ (p : ℕ) (c : ℤ) (n : ℕ) where
       some : 0 < n → n ≢ 0
       some l = omega arith
 
-  queue-of : 20 ≤ p → counterFits p c n ≡ true → QueueCounter c n
+  pub queue-of : 20 ≤ p → counterFits p c n ≡ true → QueueCounter c n
   queue-of h e =
       let s = same-means c (minus n) (rw (le-ltb p 20 h) at e) in
       record { waiters = λ l. s; none = λ q. s ∙ ap minus q }
 
-  of-semaphore : p < 20 → SemaphoreCounter c n → counterFits p c n ≡ true
+  pub of-semaphore : p < 20 → SemaphoreCounter c n → counterFits p c n ≡ true
   of-semaphore h g =
       same-or n 0
       (λ s. rw (lt-ltb p 20 h, eq-eqb n 0 s) (not-of (g .none s)))
@@ -117,7 +117,7 @@ module _ (p : ℕ) (c : ℤ) (n : ℕ) where
       some : n ≢ 0 → 0 < n
       some s = omega arith
 
-  of-queue : 20 ≤ p → QueueCounter c n → counterFits p c n ≡ true
+  pub of-queue : 20 ≤ p → QueueCounter c n → counterFits p c n ≡ true
   of-queue h g =
       rw (le-ltb p 20 h)
       (same-or n 0 (λ s. same-of c (minus n) (g .none s ∙ sym (ap minus s))) (λ s. same-of c (minus n) (g .waiters (some s))))
@@ -254,38 +254,46 @@ of-holds holder r i t g =
     not-of)
 
 module _ (k : Kernel) (z : Sizes) (s : GoodSizes z) where
+  module _ (r : ℕ) where
+    -- one reference: it is empty or holds a thread, and holds just who is suspended on it
+    pub holder-of : holderFits k (z .threads) r ≡ true
+        → ((holderAt k r ≡ nobody) ⊎ (holderAt k r < z .threads))
+        × ((i : ℕ) → i < z .threads → (holderAt k r ≡ i) ↔ SuspendedOn r (threadAt k i))
+    unfolding holderFits
+    holder-of e =
+        let x = both-means (isHolder (holderAt k r) (z .threads)) (allFrom (threadAgrees k (holderAt k r) r) 0 (usedRows (z .threads))) e in (
+          elim (either-means (eqb (holderAt k r) nobody) (ltb (holderAt k r) (z .threads)) (x .0)) [
+            | inl a ↦ inl (eqb-true (holderAt k r) nobody a)
+            | inr b ↦ inr (ltb-true (holderAt k r) (z .threads) b)
+          ],
+          λ i l.
+              holds-of (holderAt k r) r i (threadAt k i)
+              (all-at (threadAgrees k (holderAt k r) r) (z .threads) i (rw (used-all 16 (z .threads) (s .threads .1)) at (x .1)) l),
+        )
+
+    pub of-holder : (holderAt k r ≡ nobody) ⊎ (holderAt k r < z .threads)
+        → ((i : ℕ) → i < z .threads → (holderAt k r ≡ i) ↔ SuspendedOn r (threadAt k i)) → holderFits k (z .threads) r ≡ true
+    unfolding holderFits
+    of-holder a g =
+        both-true (held a)
+        (rw (used-all 16 (z .threads) (s .threads .1))
+        (all-of (threadAgrees k (holderAt k r) r) (z .threads) (λ i l. of-holds (holderAt k r) r i (threadAt k i) (g i l))))
+      where
+        held : (holderAt k r ≡ nobody) ⊎ (holderAt k r < z .threads) → isHolder (holderAt k r) (z .threads) ≡ true
+        held (inl e) = either-first (ltb (holderAt k r) (z .threads)) (eq-eqb (holderAt k r) nobody e)
+        held (inr l) = either-second (eqb (holderAt k r) nobody) (lt-ltb (holderAt k r) (z .threads) l)
+
   -- references that pass are good
   pub references-good : referencesFit k z ≡ true → GoodReferences k z
-  unfolding referencesFit holderFits
-  references-good e =
-      record {
-        holder = λ r h.
-            elim (either-means (eqb (holderAt k r) nobody) (ltb (holderAt k r) (z .threads)) (fits r h .0)) [
-              | inl a ↦ inl (eqb-true (holderAt k r) nobody a)
-              | inr b ↦ inr (ltb-true (holderAt k r) (z .threads) b)
-            ];
-        holds = λ r h i l.
-            holds-of (holderAt k r) r i (threadAt k i)
-            (all-at (threadAgrees k (holderAt k r) r) (z .threads) i
-            (rw (used-all 16 (z .threads) (s .threads .1)) at (fits r h .1)) l);
-      }
+  unfolding referencesFit
+  references-good e = record { holder = λ r h. holder-of r (fits r h) .0; holds = λ r h. holder-of r (fits r h) .1 }
     where
-      fits : (r : ℕ) → r < z .references
-          → (isHolder (holderAt k r) (z .threads) ≡ true) × (allFrom (threadAgrees k (holderAt k r) r) 0 (usedRows (z .threads)) ≡ true)
-      fits r h =
-          both-means (isHolder (holderAt k r) (z .threads)) _
-          (all-at (holderFits k (z .threads)) (z .references) r (rw (used-all 8 (z .references) (s .references)) at e) h)
+      fits : (r : ℕ) → r < z .references → holderFits k (z .threads) r ≡ true
+      fits r h = all-at (holderFits k (z .threads)) (z .references) r (rw (used-all 8 (z .references) (s .references)) at e) h
 
   -- good references pass
   pub good-references : GoodReferences k z → referencesFit k z ≡ true
-  unfolding referencesFit holderFits
+  unfolding referencesFit
   good-references g =
       rw (used-all 8 (z .references) (s .references))
-      (all-of (holderFits k (z .threads)) (z .references) (λ r h.
-      both-true (held r (g .holder r h))
-      (rw (used-all 16 (z .threads) (s .threads .1))
-      (all-of (threadAgrees k (holderAt k r) r) (z .threads) (λ i l. of-holds (holderAt k r) r i (threadAt k i) (g .holds r h i l))))))
-    where
-      held : (r : ℕ) → (holderAt k r ≡ nobody) ⊎ (holderAt k r < z .threads) → isHolder (holderAt k r) (z .threads) ≡ true
-      held r (inl a) = either-first (ltb (holderAt k r) (z .threads)) (eq-eqb (holderAt k r) nobody a)
-      held r (inr b) = either-second (eqb (holderAt k r) nobody) (lt-ltb (holderAt k r) (z .threads) b)
+      (all-of (holderFits k (z .threads)) (z .references) (λ r h. of-holder r (g .holder r h) (g .holds r h)))

@@ -72,7 +72,7 @@ module _ (z : Sizes) (t : Thread) where
   unfolding callFits
   sound-of e h = rw (ne-eqb (t .call .kind) 0 h) at e
 
-  waits-of : waitFits t ≡ true → t .state ≢ ready
+  pub waits-of : waitFits t ≡ true → t .state ≢ ready
       → (t .state ≡ waitState (t .call .kind)) × (t .place ≡ waitPlace (t .call .kind) (t .call .object))
   unfolding waitFits
   waits-of e h =
@@ -85,22 +85,22 @@ module _ (z : Sizes) (t : Thread) where
             (x .1),
       )
 
-  nowhere-of : waitFits t ≡ true → t .state ≡ ready → t .place ≡ nowhere
+  pub nowhere-of : waitFits t ≡ true → t .state ≡ ready → t .place ≡ nowhere
   unfolding waitFits
   nowhere-of e h = eqb-true (t .place) nowhere (rw (eq-eqb (t .state) ready h) at e)
 
-  no-ticks-of : ticksFit t ≡ true → isReady t || eqb (t .call .timeout) infinite ≡ true → t .remaining ≡ 0
+  pub no-ticks-of : ticksFit t ≡ true → isReady t || eqb (t .call .timeout) infinite ≡ true → t .remaining ≡ 0
   unfolding ticksFit
   no-ticks-of e h = eqb-true (t .remaining) 0 (rw h at e)
 
-  ticks-of : ticksFit t ≡ true → isReady t || eqb (t .call .timeout) infinite ≡ false
+  pub ticks-of : ticksFit t ≡ true → isReady t || eqb (t .call .timeout) infinite ≡ false
       → (1 ≤ t .remaining) × (t .remaining ≤ t .call .timeout)
   unfolding ticksFit
   ticks-of e h =
       let x = both-means (leb 1 (t .remaining)) (leb (t .remaining) (t .call .timeout)) (rw h at e) in
       (leb-true 1 (t .remaining) (x .0), leb-true (t .remaining) (t .call .timeout) (x .1))
 
-  none-pending-of : nonePending t ≡ true → t .state ≡ awaiting → bitAnd (t .pending) (t .awaited) ≡ 0
+  pub none-pending-of : nonePending t ≡ true → t .state ≡ awaiting → bitAnd (t .pending) (t .awaited) ≡ 0
   none-pending-of e h =
       eqb-true (bitAnd (t .pending) (t .awaited)) 0
       (not-false (eqb (bitAnd (t .pending) (t .awaited)) 0) (rw (eq-eqb (t .state) awaiting h) at (not-true (isMet t) e)))
@@ -109,7 +109,7 @@ module _ (z : Sizes) (t : Thread) where
   unfolding flagsFit
   flags-of e = both-means (awaitedFit t) (nonePending t) e
 
-  parts : rowFits t z ≡ true
+  pub parts : rowFits t z ≡ true
       → (callFits t z ≡ true) × ((waitFits t ≡ true) × ((ticksFit t ≡ true) × ((flagsFit t ≡ true) × (causeFits t ≡ true))))
   unfolding rowFits
   parts e =
@@ -145,7 +145,7 @@ module _ (z : Sizes) (t : Thread) where
       let b = both-means (eqb (t .call .operand) 0) (eqb (t .call .timeout) 0) (a .1) in
       (eqb-true (t .call .object) 0 (a .0), (eqb-true (t .call .operand) 0 (b .0), eqb-true (t .call .timeout) 0 (b .1)))
 
-  neither : t .state ≢ ready → t .call .timeout ≢ infinite → isReady t || eqb (t .call .timeout) infinite ≡ false
+  pub neither : t .state ≢ ready → t .call .timeout ≢ infinite → isReady t || eqb (t .call .timeout) infinite ≡ false
   neither n h = rw (ne-eqb (t .state) ready n, ne-eqb (t .call .timeout) infinite h)
 
   -- a record that passes is good
@@ -189,43 +189,54 @@ module _ (z : Sizes) (t : Thread) where
       (either-first (eqb (t .call .operand) 0))
       (λ k. either-second (keepsOperand (t .call .kind)) (eq-eqb (t .call .operand) 0 (g .operand n k))))))
 
-  of-waits : GoodThread z t → waitFits t ≡ true
+  pub of-waits : (t .state ≡ ready → t .place ≡ nowhere)
+      → (t .state ≢ ready → (t .state ≡ waitState (t .call .kind)) × (t .place ≡ waitPlace (t .call .kind) (t .call .object)))
+      → waitFits t ≡ true
   unfolding waitFits
-  of-waits g =
+  of-waits rests waits =
       chosen (λ v. v ≡ true) (isReady t)
-      (λ e. eq-eqb (t .place) nowhere (g .ready-place (eqb-true (t .state) ready e)))
+      (λ e. eq-eqb (t .place) nowhere (rests (eqb-true (t .state) ready e)))
       (λ e.
-      let n = eqb-false (t .state) ready e in
-      both-true (eq-eqb (t .state) (waitState (t .call .kind)) (g .unready-state n))
-      (eq-eqb (t .place) (waitPlace (t .call .kind) (t .call .object)) (g .unready-place n)))
+      let x = waits (eqb-false (t .state) ready e) in
+      both-true (eq-eqb (t .state) (waitState (t .call .kind)) (x .0))
+      (eq-eqb (t .place) (waitPlace (t .call .kind) (t .call .object)) (x .1)))
 
-  no-ticks : GoodThread z t → (isReady t ≡ true) ⊎ (eqb (t .call .timeout) infinite ≡ true) → t .remaining ≡ 0
-  no-ticks g (inl a) = g .ready-ticks (eqb-true (t .state) ready a)
-  no-ticks g (inr b) = g .infinite-ticks (eqb-true (t .call .timeout) infinite b)
-
-  of-ticks : GoodThread z t → ticksFit t ≡ true
+  pub of-ticks : ((t .state ≡ ready) ⊎ (t .call .timeout ≡ infinite) → t .remaining ≡ 0)
+      → (t .state ≢ ready → t .call .timeout ≢ infinite → (1 ≤ t .remaining) × (t .remaining ≤ t .call .timeout)) → ticksFit t ≡ true
   unfolding ticksFit
-  of-ticks g =
+  of-ticks none some =
       chosen (λ v. v ≡ true) (isReady t || eqb (t .call .timeout) infinite)
-      (λ e. eq-eqb (t .remaining) 0 (no-ticks g (either-means (isReady t) (eqb (t .call .timeout) infinite) e)))
+      (λ e. eq-eqb (t .remaining) 0 (none (reason (either-means (isReady t) (eqb (t .call .timeout) infinite) e))))
       (λ e.
       let n = neither-means (isReady t) (eqb (t .call .timeout) infinite) e in
-      let x = g .ticks (eqb-false (t .state) ready (n .0)) (eqb-false (t .call .timeout) infinite (n .1)) in
+      let x = some (eqb-false (t .state) ready (n .0)) (eqb-false (t .call .timeout) infinite (n .1)) in
       both-true (le-leb 1 (t .remaining) (x .0)) (le-leb (t .remaining) (t .call .timeout) (x .1)))
+    where
+      reason : (isReady t ≡ true) ⊎ (eqb (t .call .timeout) infinite ≡ true) → (t .state ≡ ready) ⊎ (t .call .timeout ≡ infinite)
+      reason (inl a) = inl (eqb-true (t .state) ready a)
+      reason (inr b) = inr (eqb-true (t .call .timeout) infinite b)
 
-  of-met : GoodThread z t → isMet t ≡ false
-  of-met g =
+  pub of-met : (t .state ≡ awaiting → bitAnd (t .pending) (t .awaited) ≡ 0) → isMet t ≡ false
+  of-met none =
       split (eqb (t .state) awaiting)
       (λ e.
       second-fails (eqb (t .state) awaiting)
-      (rw (eq-eqb (bitAnd (t .pending) (t .awaited)) 0 (g .none-pending (eqb-true (t .state) awaiting e)))))
+      (rw (eq-eqb (bitAnd (t .pending) (t .awaited)) 0 (none (eqb-true (t .state) awaiting e)))))
       (first-fails (not (eqb (bitAnd (t .pending) (t .awaited)) 0)))
 
   of-flags : GoodThread z t → flagsFit t ≡ true
   unfolding flagsFit
-  of-flags g = both-true (eq-eqb (t .awaited) (awaitedBy (t .call)) (g .awaited)) (not-of (of-met g))
+  of-flags g = both-true (eq-eqb (t .awaited) (awaitedBy (t .call)) (g .awaited)) (not-of (of-met (g .none-pending)))
+
+  -- a ready thread, or an infinite timeout
+  no-ticks : GoodThread z t → (t .state ≡ ready) ⊎ (t .call .timeout ≡ infinite) → t .remaining ≡ 0
+  no-ticks g (inl e) = g .ready-ticks e
+  no-ticks g (inr e) = g .infinite-ticks e
 
   -- a good record passes
   pub good-row : GoodThread z t → rowFits t z ≡ true
   unfolding rowFits
-  good-row g = both-true (of-call g) (both-true (of-waits g) (both-true (of-ticks g) (both-true (of-flags g) (le-leb (t .cause) 8 (g .cause)))))
+  good-row g =
+      both-true (of-call g)
+      (both-true (of-waits (g .ready-place) (λ n. (g .unready-state n, g .unready-place n)))
+      (both-true (of-ticks (no-ticks g) (g .ticks)) (both-true (of-flags g) (le-leb (t .cause) 8 (g .cause)))))

@@ -3,11 +3,13 @@
 -- makes of them is in `one-waking`, and which causes a waiter's turn has in `turn-of-semaphore` (Top.Demands).
 use Prim.Native.Nat.{ℕ, _≤_, _<_}
 use native.Mathlib.Omega.{arith}
-use mathlib.Core.Path.{_≡_, ap, _∙_, subst}
-use mathlib.Core.Logic.{_≢_}
+use mathlib.Core.Path.{_≡_, refl, ap, _∙_, subst}
+use mathlib.Core.Logic.{_≢_, inl, inr}
 use mathlib.Core.Bool.{true, false}
 use mathlib.Core.List.{List}
+use borrow.Author.Tests.{eq-eqb, ne-eqb}
 use Rattle.kernel.specs.declared.clock.Clock.{Clock}
+use Rattle.kernel.specs.declared.records.Thread.{Thread}
 use Rattle.kernel.specs.declared.units.Rate.{Rate}
 use Rattle.library.specs.declared.calls.Step.{Step}
 use Rattle.library.specs.declared.sizes.Sizes.{Sizes}
@@ -16,13 +18,17 @@ use Rattle.library.specs.Fresh.{made}
 use Rattle.steps.specs.Stepping.{stepped}
 use Rattle.promises.specs.Paper.Fresh.{FreshTables, Legal}
 use Rattle.promises.specs.Paper.Host.{HostStep, HostSteps, Going}
-use Rattle.promises.specs.Paper.Waking.{rowOf, inMask}
+use Rattle.promises.specs.Paper.Waking.{rowOf, inMask, OwnWait}
 use Rattle.promises.specs.Paper.Run.{Moment, isAccepted, howMany, anyOf, TurnOf}
-use Rattle.promises.specs.Paper.Causes.{causeFor, messageBy, Why, whyOf, notYet, numbered, LastWaking}
-use Rattle.promises.specs.Code.Steps.{ran, moments, freshMoments, freshRan}
+use Rattle.promises.specs.Paper.Causes.{causeFor, messageBy, Why, whyOf, notYet, numbered, LastWaking, FallsAt, placeOf}
+use Rattle.promises.specs.Paper.World.{found, kept, First}
+use Rattle.promises.specs.Paper.Together.{WaitFits}
+use Rattle.promises.specs.Paper.History.{callBy}
+use Rattle.promises.specs.Code.Steps.{ran, moments, freshMoments, freshRan, calledBy, momentOf}
 use Rattle.promises.specs.Meant.Fresh.{made-legal}
-use Rattle.promises.specs.Runs.Moments.{turn-woken, sleeper-woken}
+use Rattle.promises.specs.Runs.Moments.{turn-woken, sleeper-woken, host}
 use Rattle.promises.specs.Runs.LastWakings.{last-wakings, steps-numbered, numbered-count, numbered-stays, unwoken-same, fresh-why}
+use Rattle.promises.specs.Runs.OneStep.{caller-first}
 use Rattle.promises.specs.Top.Demands.{fresh-going, run-going}
 
 module _ (t : Tables) (c : Clock) (g : Going t c) (ss : List Step) (hs : HostSteps ss) where
@@ -52,6 +58,57 @@ module _ (t : Tables) (c : Clock) (g : Going t c) (s : Step) (h : HostStep s) (a
       → (rowOf (stepped t c s .tables) i .cause ≡ causeFor s (rowOf t i))
       × (rowOf (stepped t c s .tables) i .message ≡ messageBy s (rowOf (stepped t c s .tables) i .cause))
   sleeper-told = sleeper-woken t c g s h accepted
+
+-- ---- where a thread waited that a step has woken, as `./listing --why` prints it
+
+-- the call of i in a moment, whatever its kind: the step's own, if it is the caller, else the one that its record had kept
+pub call-told : (m : Moment) (i : ℕ) → calledBy m i ≡ callBy m i
+call-told m i = refl
+
+module _ (t : Tables) (c : Clock) (g : Going t c) (s : Step) (h : HostStep s) (accepted : stepped t c s .outcome .code ≡ 0) (i : ℕ) (l : i < t .sizes .threads) where
+  abbrev m : Moment
+  m = momentOf t c s
+
+  -- the caller runs
+  runs : s .caller ≡ i → First (found t) i
+  runs e =
+      subst (First (found t)) e (caller-first t c s (host t c g s h) accepted (λ z. omega (arith, z, e, l, g .together .sizes .threads .1)))
+
+  -- who slept before the step waited in that call
+  pub slept-at : rowOf t i .state ≢ 0 → rowOf t i .place ≡ placeOf (callBy m i)
+  slept-at asleep = rw (ne-eqb (s .caller) i (λ e. asleep (runs e .is-ready))) (place (rowOf t i) asleep (g .together .threads i l .wait))
+    where
+      place : (a : Thread) → a .state ≢ 0 → WaitFits a → a .place ≡ placeOf (a .call)
+      place a n (WaitFits.ready e p) = absurd (n e)
+      place a n (WaitFits.sleeps (inl k) e p) = rw k p
+      place a n (WaitFits.sleeps (inr k) e p) = rw k p
+      place a n (WaitFits.reference k e p) = rw k p
+      place a n (WaitFits.semaphore k e p) = rw k p
+      place a n (WaitFits.pool k e p) = rw k p
+      place a n (WaitFits.queue k e p) = rw k p
+      place a n (WaitFits.writer (inl k) e p) = rw k p
+      place a n (WaitFits.writer (inr k) e p) = rw k p
+      place a n (WaitFits.reader k e p) = rw k p
+      place a n (WaitFits.events k e p) = rw k p
+
+  -- and so did who fell asleep in it
+  pub fell-at : {state place : ℕ} → FallsAt t s i state place → place ≡ placeOf (callBy m i)
+  fell-at (FallsAt.own e w) = rw (eq-eqb (s .caller) i e) (own w)
+    where
+      own : {state place : ℕ} → OwnWait s state place → place ≡ placeOf (kept (s .kind) (s .object) (s .a) (s .timeout))
+      own (OwnWait.semaphore k x) = rw k
+      own (OwnWait.queue k x) = rw k
+      own (OwnWait.reference k x) = rw k
+      own (OwnWait.sleeps (inl k)) = rw k
+      own (OwnWait.sleeps (inr k)) = rw k
+      own (OwnWait.events k x) = rw k
+      own (OwnWait.writer (inl k) x) = rw k
+      own (OwnWait.writer (inr k) x) = rw k
+      own (OwnWait.reader k x) = rw k
+      own (OwnWait.pool k x) = rw k
+  fell-at (FallsAt.writer (inl k)) = rw (ne-eqb (s .caller) i (λ e. omega (arith, k, g .together .running i (runs e))), k)
+  fell-at (FallsAt.writer (inr k)) = rw (ne-eqb (s .caller) i (λ e. omega (arith, k, g .together .running i (runs e))), k)
+  fell-at (FallsAt.reader k) = rw (ne-eqb (s .caller) i (λ e. omega (arith, k, g .together .running i (runs e))), k)
 
 -- ---- from fresh tables
 
