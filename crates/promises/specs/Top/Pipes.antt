@@ -1,6 +1,6 @@
 -- PIPES, OF DOCUMENT 02: each call is what `Paper.Pipes` tells and nothing else, for any table, any buffer and any lengths; and over any calls
 -- every byte that was read is one that was written, in order and once. What they cite of the code is what each function is proved to give.
-use Prim.Native.Nat.{ℕ, _-_, _≤_}
+use Prim.Native.Nat.{ℕ, _≤_}
 use native.Mathlib.Nat.{zero-mod}
 use native.Mathlib.Omega.{arith}
 use mathlib.Core.Path.{_≡_, refl, sym, ap, _∙_}
