@@ -6,6 +6,7 @@ pub mod Said
 pub mod Reader
 pub mod Writer
 pub mod Encoding
+pub mod Traces
 pub mod Pipes
 pub mod Boundary
 pub mod Rules

@@ -11,6 +11,7 @@ pub mod Fresh
 pub mod Answers
 pub mod Reader
 pub mod Writer
+pub mod Traces
 pub mod Pipes
 pub mod Boundary
 pub mod Broken

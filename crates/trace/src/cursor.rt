@@ -11,13 +11,6 @@ pub struct Reader<'a> {
     pub at: usize,
 }
 
-// A reader at the trace's start.
-pub fn new<'a>(trace: &'a [u8]) -> Reader<'a>
-    ensures { λ r. ⌜ (r .trace ≡ trace .entry) × (r .at ≡ 0) ⌝ }
-{
-    Reader { trace, at: 0 }
-}
-
 // The next record. The reader is moved on only by a record that was read.
 pub fn next<'s, 'a>(r: &'s mut Reader<'a>) -> Read
     ensures { λ x. ⌜ (x ≡ nextRead (now (now (r .entry) .trace)) (now (r .entry) .at)) × (now (r .exit) ≡ moved (now (r .entry))) ⌝ }

@@ -2,28 +2,22 @@
 -- those sizes, whatever stands in them for mailboxes that are not there.
 use Prim.Native.Nat.{ℕ, zero, suc, _+_, _*_, _/_, _%_, _≤_, _<_}
 use native.Mathlib.Omega.{arith}
-use mathlib.Core.Path.{_≡_, refl, sym, ap, _∙_}
+use mathlib.Core.Path.{_≡_, refl, ap, _∙_}
 use mathlib.Core.Bool.{cond}
-use mathlib.Core.List.{List, [], _∷_, _++_}
+use mathlib.Core.List.{List, [], _∷_}
 use lib.Dec.{ltb}
-use lib.ListN.{length, getD, take}
-use lib.Seq.{ext-getD, getD-take, length-take-le, take-append-seam}
-use borrow.Author.Tests.{lt-ltb, le-ltb}
-use Rattle.kernel.proofs.Cases.{in-or-out}
+use lib.ListN.{length, getD}
+use borrow.Author.Tests.{lt-ltb, ltb-true}
+use Rattle.kernel.proofs.Cases.{split}
 use Rattle.library.specs.declared.calls.Step.{Step}
 use Rattle.library.specs.declared.sizes.Sizes.{Sizes}
-use Rattle.trace.specs.declared.decoding.Found.the-variants.{Ended}
 use Rattle.trace.specs.declared.decoding.Read.{Read}
-use Rattle.trace.specs.TraceBytes.{framed, sizesBody, headOf, recordsOf, traceOf}
-use Rattle.trace.specs.Traces.{readAll, writtenAll, AllEncode}
-use Rattle.trace.proofs.ReadingLaws.{all-read}
-use Rattle.trace.proofs.WritingLaws.{all-written}
 use Rattle.promises.specs.Paper.Together.{SizesFit}
 use Rattle.promises.specs.Paper.Fresh.{nothing}
 use Rattle.promises.specs.Paper.Answers.{foundSaid}
 use Rattle.promises.specs.Paper.Reader.{byte, two, four, sizesIn, HeadBroken, RecordBroken, Gives, HeadRead, LaterRead, ReadOf}
-use Rattle.promises.specs.Paper.Writer.{HeadIn, FourIn, RecordIn, AnyStep, Present}
-use Rattle.promises.specs.Meant.Sizes.{limits-fit}
+use Rattle.promises.specs.Paper.Writer.{HeadIn, FourIn, RecordIn, AnyStep}
+use Rattle.promises.specs.Paper.Traces.{sizesHeld}
 
 -- ---- steps
 
@@ -63,46 +57,32 @@ module _ (x : Step) (at : ℕ) (l k : List ℕ) (any : AnyStep x) (behind : 0 < 
 
 -- ---- sizes
 
-slot-in : (k : List ℕ) (m : ℕ) → m < 4 → getD (sizesIn k .slots) m 0 ≡ cond (ltb m (byte k 7)) (byte k (9 + m)) 0
-slot-in k zero h = refl
-slot-in k (suc zero) h = refl
-slot-in k (suc (suc zero)) h = refl
-slot-in k (suc (suc (suc zero))) h = refl
-slot-in k (suc (suc (suc (suc m)))) h = absurd (omega arith)
-
-slot-past : (k : List ℕ) (m : ℕ) → 4 ≤ m → getD (sizesIn k .slots) m 0 ≡ 0
-slot-past k zero h = absurd (omega arith)
-slot-past k (suc zero) h = absurd (omega arith)
-slot-past k (suc (suc zero)) h = absurd (omega arith)
-slot-past k (suc (suc (suc zero))) h = absurd (omega arith)
-slot-past k (suc (suc (suc (suc m)))) h = refl
-
-slots-present : (z : Sizes) (l k : List ℕ) → SizesFit z → HeadIn z l k → Present z (sizesIn k)
-slots-present z l k limits w =
-    record {
-      threads = w .threads;
-      semaphores = w .semaphores;
-      queues = w .queues;
-      references = w .references;
-      mailboxes = w .mailboxes;
-      pools = w .pools;
-      slots = λ m h. slot-in k m (omega (arith, limits .mailboxes)) ∙ rw (w .mailboxes, lt-ltb m (z .mailboxes) h) (w .slots m h);
-      absent = absent;
-    }
+-- the sizes that stand in a head are those that it holds
+pub head-held : {z : Sizes} {l k : List ℕ} → HeadIn z l k → sizesIn k ≡ sizesHeld z
+head-held {z} {l} {k} w = rw (held 0, held 1, held 2, held 3, w .threads, w .semaphores, w .queues, w .references, w .mailboxes, w .pools)
   where
-    absent : (m : ℕ) → z .mailboxes ≤ m → getD (sizesIn k .slots) m 0 ≡ 0
-    absent m h = in-or-out m 4 (λ l. slot-in k m l ∙ rw (w .mailboxes, le-ltb m (z .mailboxes) h)) (λ l. slot-past k m l)
+    held : (m : ℕ) → cond (ltb m (byte k 7)) (byte k (9 + m)) 0 ≡ cond (ltb m (z .mailboxes)) (getD (z .slots) m 0) 0
+    held m = rw (w .mailboxes) (split (ltb m (z .mailboxes)) (λ e. rw e (w .slots m (ltb-true m (z .mailboxes) e))) (λ e. rw e))
 
-present-limits : (z y : Sizes) → Present z y → SizesFit z → SizesFit y
-present-limits z y p g =
+-- a mailbox that is there has its slots
+slot-held : (z : Sizes) (m : ℕ) → m < z .mailboxes → m < 4 → getD (sizesHeld z .slots) m 0 ≡ getD (z .slots) m 0
+slot-held z zero h g = rw (lt-ltb 0 (z .mailboxes) h)
+slot-held z (suc zero) h g = rw (lt-ltb 1 (z .mailboxes) h)
+slot-held z (suc (suc zero)) h g = rw (lt-ltb 2 (z .mailboxes) h)
+slot-held z (suc (suc (suc zero))) h g = rw (lt-ltb 3 (z .mailboxes) h)
+slot-held z (suc (suc (suc (suc m)))) h g = absurd (omega arith)
+
+-- so they are in their limits with the sizes that were given
+held-limits : (z : Sizes) → SizesFit z → SizesFit (sizesHeld z)
+held-limits z g =
     record {
-      threads = rw (p .threads) (g .threads);
-      semaphores = rw (p .semaphores) (g .semaphores);
-      queues = rw (p .queues) (g .queues);
-      references = rw (p .references) (g .references);
-      mailboxes = rw (p .mailboxes) (g .mailboxes);
-      pools = rw (p .pools) (g .pools);
-      slots = λ m h. rw (p .slots m (rw (p .mailboxes) at h)) (g .slots m (rw (p .mailboxes) at h));
+      threads = g .threads;
+      semaphores = g .semaphores;
+      queues = g .queues;
+      references = g .references;
+      mailboxes = g .mailboxes;
+      pools = g .pools;
+      slots = λ m h. rw (slot-held z m h (omega (arith, g .mailboxes))) (g .slots m h);
     }
 
 module _ (z : Sizes) (l k : List ℕ) (limits : SizesFit z) (room : 9 + z .mailboxes ≤ length k) (short : length k ≤ 60000) (written : HeadIn z l k) where
@@ -116,43 +96,12 @@ module _ (z : Sizes) (l k : List ℕ) (limits : SizesFit z) (room : 9 + z .mailb
   head-whole n (HeadBroken.in-length h) = omega arith
   head-whole n (HeadBroken.in-body h) = omega (arith, head-right, written .mailboxes)
   head-whole n (HeadBroken.wrong-length h) = h head-right
-  head-whole n (HeadBroken.size h) = h (present-limits z (sizesIn k) (slots-present z l k limits written) limits)
+  head-whole n (HeadBroken.size h) = h (rw (head-held written) (held-limits z limits))
 
   -- sizes, written at the beginning, are read as those sizes, with 0 for the mailboxes that are not there, whatever stood there
   pub sizes-read-back : (r : Read) → ReadOf k 0 r
-      → (foundSaid (r .found) ≡ record { code = 0; gives = 1; values = [] }) × (Present z (r .sizes) × (r .next ≡ 9 + z .mailboxes))
+      → (foundSaid (r .found) ≡ record { code = 0; gives = 1; values = [] }) × ((r .sizes ≡ sizesHeld z) × (r .next ≡ 9 + z .mailboxes))
   sizes-read-back r (ReadOf.head a (HeadRead.refused n f g)) = absurd (head-whole n (f .broken))
   sizes-read-back r (ReadOf.head a (HeadRead.opened f g)) =
-      (g .found, (rw (g .sized) (slots-present z l k limits written), g .place ∙ ap (λ (m : ℕ). 9 + m) (written .mailboxes)))
+      (g .found, (g .sized ∙ head-held written, g .place ∙ ap (λ (m : ℕ). 9 + m) (written .mailboxes)))
   sizes-read-back r (ReadOf.later a b) = absurd (a refl)
-
--- ---- a whole trace
-
--- the bytes of record 0 do not show the mailboxes that are not there
-body-present : (z y : Sizes) → SizesFit z → length (z .slots) ≡ 4 → length (y .slots) ≡ 4 → Present z y → sizesBody z ≡ sizesBody y
-body-present z y g fz fy p =
-    let n : z .mailboxes ≤ 4 = g .mailboxes in
-    let tz : length (take (z .mailboxes) (z .slots)) ≡ z .mailboxes = length-take-le (z .mailboxes) (z .slots) (omega arith) in
-    let ty : length (take (z .mailboxes) (y .slots)) ≡ z .mailboxes = length-take-le (z .mailboxes) (y .slots) (omega arith) in
-    let slots : take (z .mailboxes) (z .slots) ≡ take (z .mailboxes) (y .slots) =
-    ext-getD 0 (take (z .mailboxes) (z .slots)) (take (z .mailboxes) (y .slots)) (tz ∙ sym ty)
-    (λ i h.
-    let l : i < z .mailboxes = omega arith in
-    getD-take (z .mailboxes) (z .slots) i 0 l ∙ sym (p .slots i l) ∙ sym (getD-take (z .mailboxes) (y .slots) i 0 l)) in
-    rw (p .threads, p .semaphores, p .queues, p .references, p .mailboxes, p .pools, slots)
-
-trace-present : (z y : Sizes) (xs : List Step) → sizesBody z ≡ sizesBody y → traceOf z xs ≡ traceOf y xs
-unfolding traceOf headOf
-trace-present z y xs e = ap (λ (b : List ℕ). (1 ∷ framed b) ++ recordsOf xs) e
-
--- "a trace of steps is written and read back as the same steps", whatever stands for mailboxes that are not there: they are read as 0
-pub round-trip-any : (z y : Sizes) (xs : List Step) (l : List ℕ) → SizesFit z → length (z .slots) ≡ 4 → Present z y → length (y .slots) ≡ 4
-    → AllEncode xs → length (traceOf z xs) ≤ 60000 → length (traceOf z xs) ≤ length l
-    → readAll (take (length (traceOf z xs)) (writtenAll z xs l .buffer)) ≡ record { sizes = y; steps = xs; stop = Ended }
-round-trip-any z y xs l g fz p fy es short room =
-    let same : traceOf z xs ≡ traceOf y xs = trace-present z y xs (body-present z y g fz fy p) in
-    let fit = limits-fit y (present-limits z y p g) in
-    let absent : (i : ℕ) → y .mailboxes ≤ i → getD (y .slots) i 0 ≡ 0 = λ i h. p .absent i (rw (p .mailboxes) at h) in
-    let less : length (traceOf y xs) ≤ 60000 = rw same at short in
-    rw (all-written z xs l (limits-fit z g) fz short room, take-append-seam, same)
-    (all-read y xs fit (record { four = fy; absent = absent }) es less)

@@ -177,22 +177,83 @@ pub record PipeMoment : Type 0 where
   pub buffer : List ℕ
   pub target : List ℕ
 
--- a buffer for each pipe
-abbrev pub bufferTo : (ℕ → List ℕ) → ℕ → List ℕ → ℕ → List ℕ
-bufferTo bs i b j = cond (eqb j i) b (bs j)
+-- what the functions of any pipe code give: by the lengths of buffer and bytes, the answer to a write and to a read; by the bytes, the buffer
+-- that a write leaves and the target that a read leaves; by the buffer's length, the answer to a reset and to a resume. No other call writes
+-- to a buffer
+pub record PipeCode : Type 0 where
+  pub write : Pipes → ℕ → ℕ → ℕ → Moved
+  pub buffer : Pipes → ℕ → List ℕ → List ℕ → List ℕ
+  pub read : Pipes → ℕ → ℕ → ℕ → Moved
+  pub target : Pipes → ℕ → List ℕ → List ℕ → List ℕ
+  pub reset : Pipes → ℕ → ℕ → Opened
+  pub resume : Pipes → ℕ → ℕ → Opened
 
--- the buffers after some calls
-abbrev pub buffersAfter : (ℕ → List ℕ) → List PipeMoment → ℕ → List ℕ
-buffersAfter bs [] = bs
-buffersAfter bs (m ∷ ms) = buffersAfter (cond (eqb (m .code) 0) (bufferTo bs (pipeNamed (m .call)) (m .buffer)) bs) ms
+-- a call on the table t, with what this code answers and leaves
+abbrev pub pipeMomentBy : PipeCode → Pipes → PipeCall → PipeMoment
+pipeMomentBy f t (PipeCall.write i b l) =
+    record {
+      call = PipeCall.write i b l;
+      code = f .write t i (length b) (length l) .code;
+      moved = f .write t i (length b) (length l) .moved;
+      after = f .write t i (length b) (length l) .pipes;
+      buffer = f .buffer t i b l;
+      target = [];
+    }
+pipeMomentBy f t (PipeCall.read i b g) =
+    record {
+      call = PipeCall.read i b g;
+      code = f .read t i (length b) (length g) .code;
+      moved = f .read t i (length b) (length g) .moved;
+      after = f .read t i (length b) (length g) .pipes;
+      buffer = b;
+      target = f .target t i b g;
+    }
+pipeMomentBy f t (PipeCall.reset i b) =
+    record {
+      call = PipeCall.reset i b;
+      code = f .reset t i (length b) .code;
+      moved = pos 0;
+      after = f .reset t i (length b) .pipes;
+      buffer = b;
+      target = [];
+    }
+pipeMomentBy f t (PipeCall.resume i b) =
+    record {
+      call = PipeCall.resume i b;
+      code = f .resume t i (length b) .code;
+      moved = pos 0;
+      after = f .resume t i (length b) .pipes;
+      buffer = b;
+      target = [];
+    }
 
--- what a host promises: each call that is accepted was lent its pipe's own buffer, as the last one left it. What is lent to a refused call
--- is anything
-pub data Lending : (ℕ → List ℕ) → List PipeMoment → Type 0 where
-  none : {bs : ℕ → List ℕ} → Lending bs []
-  refused : {bs : ℕ → List ℕ} {m : PipeMoment} {ms : List PipeMoment} → m .code ≢ 0 → Lending bs ms → Lending bs (m ∷ ms)
-  accepted : {bs : ℕ → List ℕ} {m : PipeMoment} {ms : List PipeMoment} → m .code ≡ 0 → bufferLent (m .call) ≡ bs (pipeNamed (m .call))
-      → Lending (bufferTo bs (pipeNamed (m .call)) (m .buffer)) ms → Lending bs (m ∷ ms)
+-- the moments of some calls, each on the table that the last one left, and the table after them
+abbrev pub pipeMomentsBy : PipeCode → Pipes → List PipeCall → List PipeMoment
+pipeMomentsBy f t [] = []
+pipeMomentsBy f t (c ∷ cs) = pipeMomentBy f t c ∷ pipeMomentsBy f (pipeMomentBy f t c .after) cs
+
+abbrev pub pipesRanBy : PipeCode → Pipes → List PipeCall → Pipes
+pipesRanBy f t [] = t
+pipesRanBy f t (c ∷ cs) = pipesRanBy f (pipeMomentBy f t c .after) cs
+
+-- an accepted call on pipe i
+abbrev pub onPipe : ℕ → PipeMoment → Bool
+onPipe i m = eqb (m .code) 0 && eqb i (pipeNamed (m .call))
+
+-- pipe i's own buffer, which was b, after some calls: no other call writes to it
+abbrev pub bufferAfter : ℕ → List ℕ → List PipeMoment → List ℕ
+bufferAfter i b [] = b
+bufferAfter i b (m ∷ ms) = bufferAfter i (cond (onPipe i m) (m .buffer) b) ms
+
+-- a call on pipe i, if it is accepted, was lent the buffer b
+abbrev pub OwnLent : ℕ → List ℕ → PipeMoment → Type 0
+OwnLent i b m = i ≡ pipeNamed (m .call) → m .code ≡ 0 → bufferLent (m .call) ≡ b
+
+-- what a host promises of pipe i, whose own buffer is b: each accepted call on it was lent this buffer, as the last one left it. What is lent
+-- to a refused call, or to one on another pipe, is anything
+pub data Lending (i : ℕ) : List ℕ → List PipeMoment → Type 0 where
+  none : {b : List ℕ} → Lending i b []
+  more : {b : List ℕ} {m : PipeMoment} {ms : List PipeMoment} → OwnLent i b m → Lending i (cond (onPipe i m) (m .buffer) b) ms → Lending i b (m ∷ ms)
 
 -- as many bytes as an answer says; none for -2
 abbrev pub asManyAs : ℤ → List ℕ → List ℕ

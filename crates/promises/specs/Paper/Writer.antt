@@ -104,14 +104,3 @@ pub record AnyStep (x : Step) : Type 0 where
   pub object : x .object < 256
   pub a : x .a < 4294967296
   pub timeout : x .timeout < 4294967296
-
--- y is z with 0 for the slots of mailboxes that are not there
-pub record Present (z y : Sizes) : Type 0 where
-  pub threads : y .threads ≡ z .threads
-  pub semaphores : y .semaphores ≡ z .semaphores
-  pub queues : y .queues ≡ z .queues
-  pub references : y .references ≡ z .references
-  pub mailboxes : y .mailboxes ≡ z .mailboxes
-  pub pools : y .pools ≡ z .pools
-  pub slots : (m : ℕ) → m < z .mailboxes → getD (y .slots) m 0 ≡ getD (z .slots) m 0
-  pub absent : (m : ℕ) → z .mailboxes ≤ m → getD (y .slots) m 0 ≡ 0

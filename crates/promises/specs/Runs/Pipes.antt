@@ -8,7 +8,6 @@ use mathlib.Core.Logic.{_≢_}
 use mathlib.Core.Bool.{Bool, true, false, cond, _&&_}
 use mathlib.Core.List.{List, [], _∷_, _++_, append-assoc, append-nil}
 use lib.Dec.{eqb}
-use lib.IntN.{pos}
 use lib.ListN.{length, getD, take, length-append}
 use lib.Seq.{take-suc}
 use borrow.Author.Tests.{eq-eqb, ne-eqb}
@@ -38,11 +37,10 @@ use Rattle.promises.specs.Paper.Pipes.{
   PipeResetOf,
   PipeResumeOf,
   PipeCall,
-  pipeNamed,
-  bufferLent,
   PipeMoment,
-  bufferTo,
-  buffersAfter,
+  onPipe,
+  bufferAfter,
+  OwnLent,
   Lending,
   asManyAs,
   Story,
@@ -52,55 +50,8 @@ use Rattle.promises.specs.Paper.Pipes.{
   inPipe,
   Told,
 }
+use Rattle.promises.specs.Code.Pipes.{pipeMoment, pipeMoments, pipesRan}
 use Rattle.promises.specs.Meant.Pipes.{unfit-number, pipe-write-is, pipe-read-is, pipe-reset-is, pipe-resume-is}
-
--- a call on the table t, with what it answers and leaves
-abbrev pub pipeMoment : Pipes → PipeCall → PipeMoment
-pipeMoment t (PipeCall.write i b l) =
-    record {
-      call = PipeCall.write i b l;
-      code = writeAnswer t i (length b) (length l) .code;
-      moved = writeAnswer t i (length b) (length l) .moved;
-      after = writeAnswer t i (length b) (length l) .pipes;
-      buffer = bufferWritten t i b l;
-      target = [];
-    }
-pipeMoment t (PipeCall.read i b g) =
-    record {
-      call = PipeCall.read i b g;
-      code = readAnswer t i (length b) (length g) .code;
-      moved = readAnswer t i (length b) (length g) .moved;
-      after = readAnswer t i (length b) (length g) .pipes;
-      buffer = b;
-      target = targetRead t i b g;
-    }
-pipeMoment t (PipeCall.reset i b) =
-    record {
-      call = PipeCall.reset i b;
-      code = pipeReset t i (length b) .code;
-      moved = pos 0;
-      after = pipeReset t i (length b) .pipes;
-      buffer = b;
-      target = [];
-    }
-pipeMoment t (PipeCall.resume i b) =
-    record {
-      call = PipeCall.resume i b;
-      code = pipeResumed t i (length b) .code;
-      moved = pos 0;
-      after = pipeResumed t i (length b) .pipes;
-      buffer = b;
-      target = [];
-    }
-
--- the moments of some calls, and the table after them
-unfoldable pub pipeMoments : Pipes → List PipeCall → List PipeMoment
-pipeMoments t [] = []
-pipeMoments t (c ∷ cs) = pipeMoment t c ∷ pipeMoments (pipeMoment t c .after) cs
-
-unfoldable pub pipesRan : Pipes → List PipeCall → Pipes
-pipesRan t [] = t
-pipesRan t (c ∷ cs) = pipesRan (pipeMoment t c .after) cs
 
 -- ---- lists of values
 
@@ -312,31 +263,30 @@ module _ {t : Pipes} {j n : ℕ} {p : Pipe} {o : Opened} (h : HostPipes t) where
   other-set i d (RecordSet.refused c f a) = rw a
   other-set i d (RecordSet.done f u q) = q .others i d
 
--- one call: what is known of pipe i, whose own buffer is bs i, is known of it afterwards
-module _ (t : Pipes) (bs : ℕ → List ℕ) (i : ℕ) (s : Story) (g : Going t i (bs i) s) where
+-- one call: what is known of pipe i, whose own buffer is c, is known of it afterwards
+module _ (t : Pipes) (i : ℕ) (c : List ℕ) (s : Story) (g : Going t i c s) where
   abbrev Next : PipeMoment → Type 0
-  Next m = Going (m .after) i (cond (eqb (m .code) 0) (bufferTo bs (pipeNamed (m .call)) (m .buffer)) bs i) (storyOn i s m)
+  Next m = Going (m .after) i (cond (onPipe i m) (m .buffer) c) (storyOn i s m)
 
-  -- a call on another pipe
-  elsewhere : (x : Bool) (j : ℕ) (e : List ℕ) (u : Pipes) → i ≢ j → HostPipes u → pipeOf u i ≡ pipeOf t i
-      → Going u i (cond x (bufferTo bs j e) bs i) (longer s [] [])
-  elsewhere true j e u d h same = rw (ne-eqb i j d) (same-story g h (ap (λ (p : Pipe). p .positions) same))
-  elsewhere false j e u d h same = same-story g h (ap (λ (p : Pipe). p .positions) same)
+  -- a call on another pipe: whatever buffer it was lent, this pipe's record and its own buffer stay
+  elsewhere : (x : Bool) (e : List ℕ) (u : Pipes) → HostPipes u → pipeOf u i ≡ pipeOf t i
+      → Going u i (cond (x && false) e c) (longer s [] [])
+  elsewhere true e u h same = same-story g h (ap (λ (p : Pipe). p .positions) same)
+  elsewhere false e u h same = same-story g h (ap (λ (p : Pipe). p .positions) same)
 
   -- one on this pipe: its buffer
-  here : {u : Pipes} {q : Story} (x : Bool) (e : List ℕ) → Going u i (cond x e (bs i)) q → Going u i (cond x (bufferTo bs i e) bs i) q
+  here : {u : Pipes} {q : Story} (x : Bool) (e : List ℕ) → Going u i (cond x e c) q → Going u i (cond (x && eqb i i) e c) q
   here true e z = rw (eq-eqb i i refl) z
   here false e z = z
 
-  -- a call that is lent its pipe's own buffer, if it is accepted
   abbrev Own : PipeCall → Type 0
-  Own c = pipeMoment t c .code ≡ 0 → bufferLent c ≡ bs (pipeNamed c)
+  Own k = OwnLent i c (pipeMoment t k)
 
   write-here : (b l : List ℕ) → Own (PipeCall.write i b l) → Next (pipeMoment t (PipeCall.write i b l))
   write-here b l own =
       let m = writeAnswer t i (length b) (length l) in
-      rw (eq-eqb i i refl)
-      (here (eqb (m .code) 0) (bufferWritten t i b l) (write-on t i b (bs i) s g m own l (bufferWritten t i b l) (pipe-write-is t (g .host) i b l)))
+      let on = write-on t i b c s g m (own refl) l (bufferWritten t i b l) (pipe-write-is t (g .host) i b l) in
+      here (eqb (m .code) 0) (bufferWritten t i b l) (rw (eq-eqb i i refl) on)
 
   write-next : (j : ℕ) (b l : List ℕ) → Own (PipeCall.write j b l) → Next (pipeMoment t (PipeCall.write j b l))
   write-next j b l own =
@@ -344,13 +294,13 @@ module _ (t : Pipes) (bs : ℕ → List ℕ) (i : ℕ) (s : Story) (g : Going t 
       let w = pipe-write-is t (g .host) j b l in
       same-or i j
       (λ e. subst (λ (x : ℕ). Own (PipeCall.write x b l) → Next (pipeMoment t (PipeCall.write x b l))) e (write-here b l) own)
-      (λ d. rw (ne-eqb i j d) (elsewhere (eqb (m .code) 0) j (bufferWritten t j b l) (m .pipes) d (host-after (g .host) w) (other-after (g .host) i d w)))
+      (λ d. rw (ne-eqb i j d) (elsewhere (eqb (m .code) 0) (bufferWritten t j b l) (m .pipes) (host-after (g .host) w) (other-after (g .host) i d w)))
 
   read-here : (b d : List ℕ) → Own (PipeCall.read i b d) → Next (pipeMoment t (PipeCall.read i b d))
   read-here b d own =
       let m = readAnswer t i (length b) (length d) in
-      rw (eq-eqb i i refl)
-      (here (eqb (m .code) 0) b (read-on t i b (bs i) s g m own d (targetRead t i b d) (pipe-read-is t (g .host) i b d)))
+      let on = read-on t i b c s g m (own refl) d (targetRead t i b d) (pipe-read-is t (g .host) i b d) in
+      here (eqb (m .code) 0) b (rw (eq-eqb i i refl) on)
 
   read-next : (j : ℕ) (b d : List ℕ) → Own (PipeCall.read j b d) → Next (pipeMoment t (PipeCall.read j b d))
   read-next j b d own =
@@ -358,13 +308,13 @@ module _ (t : Pipes) (bs : ℕ → List ℕ) (i : ℕ) (s : Story) (g : Going t 
       let w = pipe-read-is t (g .host) j b d in
       same-or i j
       (λ e. subst (λ (x : ℕ). Own (PipeCall.read x b d) → Next (pipeMoment t (PipeCall.read x b d))) e (read-here b d) own)
-      (λ n. rw (ne-eqb i j n) (elsewhere (eqb (m .code) 0) j b (m .pipes) n (host-after (g .host) w) (other-after (g .host) i n w)))
+      (λ n. rw (ne-eqb i j n) (elsewhere (eqb (m .code) 0) b (m .pipes) (host-after (g .host) w) (other-after (g .host) i n w)))
 
   reset-here : (b : List ℕ) → Own (PipeCall.reset i b) → Next (pipeMoment t (PipeCall.reset i b))
-  reset-here b own = by (pipeReset t i (length b)) own (pipe-reset-is t (g .host) i (length b))
+  reset-here b own = by (pipeReset t i (length b)) (own refl) (pipe-reset-is t (g .host) i (length b))
     where
-      by : (o : Opened) → (o .code ≡ 0 → b ≡ bs i) → PipeResetOf t i (length b) o
-          → Going (o .pipes) i (cond (eqb (o .code) 0) (bufferTo bs i b) bs i)
+      by : (o : Opened) → (o .code ≡ 0 → b ≡ c) → PipeResetOf t i (length b) o
+          → Going (o .pipes) i (cond (eqb (o .code) 0 && eqb i i) b c)
           (cond (eqb i i && eqb (o .code) 0) (record { written = []; read = [] }) (longer s [] []))
       by o own (RecordSet.refused n f a) =
           let code = numbered f in
@@ -373,20 +323,18 @@ module _ (t : Pipes) (bs : ℕ → List ℕ) (i : ℕ) (s : Story) (g : Going t 
       by o own (RecordSet.done f u q) =
           let now = ap (λ (x : Pipe). x .positions) (q .record-of) in
           let some : 0 < length b = rw (own u) (omega (arith, g .fits .read)) in
-          rw (eq-eqb i i refl)
-          (here (eqb (o .code) 0) b
-          (rw (eq-eqb (o .code) 0 u)
+          rw (eq-eqb i i refl, eq-eqb (o .code) 0 u)
           (record {
             host = q .table;
             fits = rw now (record { count = omega arith; read = some; write = some; follows = sym (zero-mod (length b)) });
             told = rw now (record { in-order = refl; counted = refl });
-          })))
+          })
 
   resume-here : (b : List ℕ) → Own (PipeCall.resume i b) → Next (pipeMoment t (PipeCall.resume i b))
-  resume-here b own = by (pipeResumed t i (length b)) own (pipe-resume-is t (g .host) i (length b))
+  resume-here b own = by (pipeResumed t i (length b)) (own refl) (pipe-resume-is t (g .host) i (length b))
     where
-      by : (o : Opened) → (o .code ≡ 0 → b ≡ bs i) → PipeResumeOf t i (length b) o
-          → Going (o .pipes) i (cond (eqb (o .code) 0) (bufferTo bs i b) bs i) (longer s [] [])
+      by : (o : Opened) → (o .code ≡ 0 → b ≡ c) → PipeResumeOf t i (length b) o
+          → Going (o .pipes) i (cond (eqb (o .code) 0 && eqb i i) b c) (longer s [] [])
       by o own (RecordSet.refused n f a) =
           let code = numbered f in
           let no : o .code ≢ 0 = λ z. code (sym (ap (λ (x : Opened). x .code) a) ∙ z) in
@@ -395,11 +343,11 @@ module _ (t : Pipes) (bs : ℕ → List ℕ) (i : ℕ) (s : Story) (g : Going t 
           rw (eq-eqb (o .code) 0 u, eq-eqb i i refl, own u) (same-story g (q .table) (ap (λ (x : Pipe). x .positions) (q .record-of)))
 
   set-elsewhere : (j : ℕ) (b : List ℕ) {p : Pipe} (o : Opened) → i ≢ j → RecordSet t j (length b) p o
-      → Going (o .pipes) i (cond (eqb (o .code) 0) (bufferTo bs j b) bs i) (longer s [] [])
-  set-elsewhere j b o d r = elsewhere (eqb (o .code) 0) j b (o .pipes) d (host-set (g .host) r) (other-set (g .host) i d r)
+      → Going (o .pipes) i (cond (eqb (o .code) 0 && false) b c) (longer s [] [])
+  set-elsewhere j b o d r = elsewhere (eqb (o .code) 0) b (o .pipes) (host-set (g .host) r) (other-set (g .host) i d r)
 
   -- every call
-  pub call-next : (c : PipeCall) → Own c → Next (pipeMoment t c)
+  pub call-next : (k : PipeCall) → Own k → Next (pipeMoment t k)
   call-next (PipeCall.write j b l) own = write-next j b l own
   call-next (PipeCall.read j b d) own = read-next j b d own
   call-next (PipeCall.reset j b) own =
@@ -407,31 +355,13 @@ module _ (t : Pipes) (bs : ℕ → List ℕ) (i : ℕ) (s : Story) (g : Going t 
       (λ d. rw (ne-eqb i j d) (set-elsewhere j b (pipeReset t j (length b)) d (pipe-reset-is t (g .host) j (length b))))
   call-next (PipeCall.resume j b) own =
       same-or i j (λ e. subst (λ (x : ℕ). Own (PipeCall.resume x b) → Next (pipeMoment t (PipeCall.resume x b))) e (resume-here b) own)
-      (λ d. set-elsewhere j b (pipeResumed t j (length b)) d (pipe-resume-is t (g .host) j (length b)))
+      (λ d. rw (ne-eqb i j d) (set-elsewhere j b (pipeResumed t j (length b)) d (pipe-resume-is t (g .host) j (length b))))
 
 -- ---- any calls
 
--- the buffers after one call, by its code
-lent-on : {bs : ℕ → List ℕ} {m : PipeMoment} {ms : List PipeMoment} → Lending bs (m ∷ ms)
-    → (m .code ≡ 0 → bufferLent (m .call) ≡ bs (pipeNamed (m .call)))
-    × Lending (cond (eqb (m .code) 0) (bufferTo bs (pipeNamed (m .call)) (m .buffer)) bs) ms
-lent-on {m = m} (Lending.refused d l) = (λ z. absurd (d z), rw (ne-eqb (m .code) 0 d) l)
-lent-on {m = m} (Lending.accepted z e l) = (λ y. e, rw (eq-eqb (m .code) 0 z) l)
-
-pub pipe-going : (cs : List PipeCall) (t : Pipes) (bs : ℕ → List ℕ) (i : ℕ) (s : Story) → Going t i (bs i) s → Lending bs (pipeMoments t cs)
-    → Going (pipesRan t cs) i (buffersAfter bs (pipeMoments t cs) i) (story i s (pipeMoments t cs))
-unfolding pipeMoments pipesRan
-pipe-going [] t bs i s g l = g
-pipe-going (c ∷ cs) t bs i s g l =
-    let next = lent-on l in
+pub pipe-going : (cs : List PipeCall) (t : Pipes) (i : ℕ) (b : List ℕ) (s : Story) → Going t i b s → Lending i b (pipeMoments t cs)
+    → Going (pipesRan t cs) i (bufferAfter i b (pipeMoments t cs)) (story i s (pipeMoments t cs))
+pipe-going [] t i b s g l = g
+pipe-going (c ∷ cs) t i b s g (Lending.more own l) =
     let m = pipeMoment t c in
-    pipe-going cs (m .after) (cond (eqb (m .code) 0) (bufferTo bs (pipeNamed (m .call)) (m .buffer)) bs) i (storyOn i s m)
-    (call-next t bs i s g c (own c (next .0))) (next .1)
-  where
-    -- a moment names its call
-    own : (c : PipeCall) → (pipeMoment t c .code ≡ 0 → bufferLent (pipeMoment t c .call) ≡ bs (pipeNamed (pipeMoment t c .call)))
-        → pipeMoment t c .code ≡ 0 → bufferLent c ≡ bs (pipeNamed c)
-    own (PipeCall.write j b x) h = h
-    own (PipeCall.read j b x) h = h
-    own (PipeCall.reset j b) h = h
-    own (PipeCall.resume j b) h = h
+    pipe-going cs (m .after) i (cond (onPipe i m) (m .buffer) b) (storyOn i s m) (call-next t i b s g c own) l

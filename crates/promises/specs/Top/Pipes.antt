@@ -22,13 +22,14 @@ use Rattle.promises.specs.Paper.Pipes.{
   PipeResumeOf,
   PipesFreshOf,
   PipeCall,
-  buffersAfter,
+  bufferAfter,
   Lending,
   Story,
   story,
   inPipe,
   Told,
 }
+use Rattle.promises.specs.Code.Pipes.{freshPipes, pipeMoments, pipesRan}
 use Rattle.promises.specs.Meant.Pipes.{
   pipe-write-is,
   pipe-read-is,
@@ -39,7 +40,7 @@ use Rattle.promises.specs.Meant.Pipes.{
   pipes-fresh-is,
   pipes-fresh-one,
 }
-use Rattle.promises.specs.Runs.Pipes.{pipeMoments, pipesRan, Going, counts, pipe-going}
+use Rattle.promises.specs.Runs.Pipes.{Going, counts, pipe-going}
 
 -- ---- ONE CALL
 
@@ -67,62 +68,58 @@ pipe-fresh t number = (pipes-fresh-is t number, λ o w. pipes-fresh-one w (pipes
 -- ---- ANY CALLS
 
 -- from any table, refused calls included: of a pipe that fits its own buffer, with what is in it counted as written
-module _ (t : Pipes) (h : HostPipes t) (bs : ℕ → List ℕ) (i : ℕ) (f : PositionsFit (pipeOf t i .positions) (length (bs i)))
-    (cs : List PipeCall) (lent : Lending bs (pipeMoments t cs)) where
+module _ (t : Pipes) (h : HostPipes t) (i : ℕ) (b : List ℕ) (f : PositionsFit (pipeOf t i .positions) (length b))
+    (cs : List PipeCall) (lent : Lending i b (pipeMoments t cs)) where
   abbrev pub then : Story
-  then = story i (record { written = inPipe (pipeOf t i .positions) (bs i); read = [] }) (pipeMoments t cs)
+  then = story i (record { written = inPipe (pipeOf t i .positions) b; read = [] }) (pipeMoments t cs)
 
-  going : Going (pipesRan t cs) i (buffersAfter bs (pipeMoments t cs) i) then
+  going : Going (pipesRan t cs) i (bufferAfter i b (pipeMoments t cs)) then
   going =
-      let s : Story = record { written = inPipe (pipeOf t i .positions) (bs i); read = [] } in
-      pipe-going cs t bs i s (record { host = h; fits = f; told = counts s (pipeOf t i .positions) (bs i) refl }) lent
+      let s : Story = record { written = inPipe (pipeOf t i .positions) b; read = [] } in
+      pipe-going cs t i b s (record { host = h; fits = f; told = counts s (pipeOf t i .positions) b refl }) lent
 
   -- "what was read is what was written, in order, each byte once, since the last reset; what is still in the pipe is the rest"
-  pub bytes-told : Told then (pipeOf (pipesRan t cs) i .positions) (buffersAfter bs (pipeMoments t cs) i)
+  pub bytes-told : Told then (pipeOf (pipesRan t cs) i .positions) (bufferAfter i b (pipeMoments t cs))
   bytes-told = going .told
 
   -- the same, from the front: what was read is the front of what was written, and what is in the pipe the rest
   pub bytes-read : then .read ≡ take (length (then .read)) (then .written)
   bytes-read =
       let now = pipeOf (pipesRan t cs) i .positions in
-      sym (ap (take (length (then .read))) (sym (bytes-told .in-order)) ∙ take-append-seam (then .read) (inPipe now (buffersAfter bs (pipeMoments t cs) i)))
+      sym (ap (take (length (then .read))) (sym (bytes-told .in-order)) ∙ take-append-seam (then .read) (inPipe now (bufferAfter i b (pipeMoments t cs))))
 
-  pub bytes-left : inPipe (pipeOf (pipesRan t cs) i .positions) (buffersAfter bs (pipeMoments t cs) i) ≡ drop (length (then .read)) (then .written)
+  pub bytes-left : inPipe (pipeOf (pipesRan t cs) i .positions) (bufferAfter i b (pipeMoments t cs)) ≡ drop (length (then .read)) (then .written)
   bytes-left =
       let now = pipeOf (pipesRan t cs) i .positions in
-      sym (ap (drop (length (then .read))) (sym (bytes-told .in-order)) ∙ drop-append-seam (then .read) (inPipe now (buffersAfter bs (pipeMoments t cs) i)))
+      sym (ap (drop (length (then .read))) (sym (bytes-told .in-order)) ∙ drop-append-seam (then .read) (inPipe now (bufferAfter i b (pipeMoments t cs))))
 
   -- and the record fits its buffer still: refusal 6 comes from outside alone
-  pub fits-on : PositionsFit (pipeOf (pipesRan t cs) i .positions) (length (buffersAfter bs (pipeMoments t cs) i))
+  pub fits-on : PositionsFit (pipeOf (pipesRan t cs) i .positions) (length (bufferAfter i b (pipeMoments t cs)))
   fits-on = going .fits
 
--- so many fresh pipes, whatever stood there
-abbrev pub freshPipes : Pipes → ℕ → Pipes
-freshPipes u number = pipesFresh u number .pipes
-
 -- "from fresh pipes": nothing was there
-module _ (u : Pipes) (number : ℕ) (few : number ≤ 4) (bs : ℕ → List ℕ) (i : ℕ) (some : 1 ≤ length (bs i))
-    (cs : List PipeCall) (lent : Lending bs (pipeMoments (freshPipes u number) cs)) where
+module _ (u : Pipes) (number : ℕ) (few : number ≤ 4) (i : ℕ) (b : List ℕ) (some : 1 ≤ length b)
+    (cs : List PipeCall) (lent : Lending i b (pipeMoments (freshPipes u number) cs)) where
   abbrev pub since : Story
   since = story i (record { written = []; read = [] }) (pipeMoments (freshPipes u number) cs)
 
-  fresh-going : Going (freshPipes u number) i (bs i) (record { written = []; read = [] })
+  fresh-going : Going (freshPipes u number) i b (record { written = []; read = [] })
   fresh-going = by (pipes-fresh-is u number)
     where
-      by : PipesFreshOf u number (pipesFresh u number) → Going (freshPipes u number) i (bs i) (record { written = []; read = [] })
+      by : PipesFreshOf u number (pipesFresh u number) → Going (freshPipes u number) i b (record { written = []; read = [] })
       by (PipesFreshOf.refused l e) = absurd (omega (arith, l, few))
       by (PipesFreshOf.made l c n h e) =
           record {
             host = h;
-            fits = rw (e i) (record { count = omega arith; read = some; write = some; follows = sym (zero-mod (length (bs i))) });
+            fits = rw (e i) (record { count = omega arith; read = some; write = some; follows = sym (zero-mod (length b)) });
             told = rw (e i) (record { in-order = refl; counted = refl });
           }
 
-  on : Going (pipesRan (freshPipes u number) cs) i (buffersAfter bs (pipeMoments (freshPipes u number) cs) i) since
-  on = pipe-going cs (freshPipes u number) bs i (record { written = []; read = [] }) fresh-going lent
+  on : Going (pipesRan (freshPipes u number) cs) i (bufferAfter i b (pipeMoments (freshPipes u number) cs)) since
+  on = pipe-going cs (freshPipes u number) i b (record { written = []; read = [] }) fresh-going lent
 
-  pub bytes-always : Told since (pipeOf (pipesRan (freshPipes u number) cs) i .positions) (buffersAfter bs (pipeMoments (freshPipes u number) cs) i)
+  pub bytes-always : Told since (pipeOf (pipesRan (freshPipes u number) cs) i .positions) (bufferAfter i b (pipeMoments (freshPipes u number) cs))
   bytes-always = on .told
 
-  pub fits-always : PositionsFit (pipeOf (pipesRan (freshPipes u number) cs) i .positions) (length (buffersAfter bs (pipeMoments (freshPipes u number) cs) i))
+  pub fits-always : PositionsFit (pipeOf (pipesRan (freshPipes u number) cs) i .positions) (length (bufferAfter i b (pipeMoments (freshPipes u number) cs)))
   fits-always = on .fits

@@ -1,12 +1,10 @@
 -- A label printer's pipe over a buffer of 5 bytes, by computation: pieces across the buffer's end, a full pipe, a refused call that is lent
--- another buffer, a reset with the answer -2, and on. So the hypotheses of `bytes-always` are met, and its lists are not empty.
+-- another buffer, a reset with the answer -2, and on. So the hypotheses of `bytes-always` are met, and its lists are not empty. And one beside
+-- a pipe that is lent another buffer at each call: what is promised of the one holds, whatever is done to the other.
 use Prim.Native.Nat.{ℕ}
 use native.Mathlib.Omega.{arith}
 use mathlib.Core.Path.{_≡_, refl}
-use mathlib.Core.Logic.{_≢_}
-use mathlib.Core.Bool.{cond}
 use mathlib.Core.List.{List, [], _∷_, _++_}
-use lib.Dec.{eqb}
 use lib.IntN.{ℤ, pos, negsuc}
 use lib.ListN.{replicate}
 use Rattle.library.specs.Ring.{positionsFit}
@@ -15,17 +13,17 @@ use Rattle.pipes.specs.Carrying.{carried}
 use Rattle.pipes.specs.Judging.{pipeRefusal}
 use Rattle.pipes.specs.Opening.{pipesFresh, pipeReset, pipeResumed}
 use Rattle.pipes.specs.Transfer.{goesAhead, stopped, goneOn, writeAnswer, bufferWritten, readAnswer, targetRead}
-use Rattle.promises.specs.Paper.Pipes.{noPipe, pipeOf, PipeCall, PipeMoment, buffersAfter, Lending, inPipe, Told}
-use Rattle.promises.specs.Runs.Pipes.{pipeMoments, pipesRan}
-use Rattle.promises.specs.Top.Pipes.{freshPipes, since, bytes-always}
+use Rattle.promises.specs.Paper.Pipes.{noPipe, pipeOf, PipeCall, PipeMoment, bufferAfter, Lending, inPipe, Told}
+use Rattle.promises.specs.Code.Pipes.{freshPipes, pipeMoments, pipesRan}
+use Rattle.promises.specs.Top.Pipes.{since, bytes-always}
 
 -- no table yet, and two pipes are asked for
 abbrev before : Pipes
 before = record { pipes = replicate 4 noPipe; number = 0 }
 
--- pipe 1's buffer; the others are not lent
-abbrev buffers : ℕ → List ℕ
-buffers i = cond (eqb i 1) (0 ∷ 0 ∷ 0 ∷ 0 ∷ 0 ∷ []) []
+-- pipe 1's own buffer
+abbrev own : List ℕ
+own = 0 ∷ 0 ∷ 0 ∷ 0 ∷ 0 ∷ []
 
 -- the calls: after the first the buffer is the one that the last left
 abbrev calls : List PipeCall
@@ -67,34 +65,82 @@ pub calls-seen : seen (pipeMoments (freshPipes before 2) (calls ++ later))
     ∷ record { code = 0; moved = pos 0; target = [] }
     ∷ record { code = 0; moved = pos 1; target = [] }
     ∷ []
-unfolding positionsFit carried pipeRefusal pipesFresh pipeReset pipeResumed goesAhead stopped goneOn writeAnswer bufferWritten readAnswer targetRead pipeMoments pipesRan
+unfolding positionsFit carried pipeRefusal pipesFresh pipeReset pipeResumed goesAhead stopped goneOn writeAnswer bufferWritten readAnswer targetRead
 calls-seen = refl
 
-refusal : {n : ℕ} → n ≡ 5 → n ≢ 0
-refusal e z = omega arith
+-- code 5 is a refusal, and pipe 0 is not pipe 2
+refusal : {A : Type 0} → _≡_ {A = ℕ} 5 0 → A
+refusal e = absurd (omega arith)
+
+apart : {A : Type 0} → _≡_ {A = ℕ} 0 2 → A
+apart e = absurd (omega arith)
 
 -- each accepted call was lent the buffer that the last one left
-pub lending-shown : Lending buffers (pipeMoments (freshPipes before 2) calls)
-unfolding positionsFit carried pipeRefusal pipesFresh pipeReset pipeResumed goesAhead stopped goneOn writeAnswer bufferWritten readAnswer targetRead pipeMoments pipesRan
+pub lending-shown : Lending 1 own (pipeMoments (freshPipes before 2) calls)
+unfolding positionsFit carried pipeRefusal pipesFresh pipeReset pipeResumed goesAhead stopped goneOn writeAnswer bufferWritten readAnswer targetRead
 lending-shown =
-    Lending.accepted refl refl
-    (Lending.accepted refl refl
-    (Lending.accepted refl refl (Lending.refused (refusal refl) (Lending.accepted refl refl Lending.none))))
+    Lending.more (λ e z. refl)
+    (Lending.more (λ e z. refl) (Lending.more (λ e z. refl) (Lending.more (λ e z. refusal z) (Lending.more (λ e z. refl) Lending.none))))
 
 -- what was written, and what was read of it
-pub story-shown : since before 2 (omega arith) buffers 1 (omega arith) calls lending-shown
+pub story-shown : since before 2 (omega arith) 1 own (omega arith) calls lending-shown
     ≡ record { written = 11 ∷ 12 ∷ 13 ∷ 14 ∷ 15 ∷ 16 ∷ 17 ∷ []; read = 11 ∷ 12 ∷ 13 ∷ 14 ∷ 15 ∷ 16 ∷ [] }
-unfolding positionsFit carried pipeRefusal pipesFresh pipeReset pipeResumed goesAhead stopped goneOn writeAnswer bufferWritten readAnswer targetRead pipeMoments pipesRan
+unfolding positionsFit carried pipeRefusal pipesFresh pipeReset pipeResumed goesAhead stopped goneOn writeAnswer bufferWritten readAnswer targetRead
 story-shown = refl
 
 -- the one that is left is in the pipe
-pub left-shown : inPipe (pipeOf (pipesRan (freshPipes before 2) calls) 1 .positions) (buffersAfter buffers (pipeMoments (freshPipes before 2) calls) 1) ≡ 17 ∷ []
-unfolding positionsFit carried pipeRefusal pipesFresh pipeReset pipeResumed goesAhead stopped goneOn writeAnswer bufferWritten readAnswer targetRead pipeMoments pipesRan
+pub left-shown : inPipe (pipeOf (pipesRan (freshPipes before 2) calls) 1 .positions) (bufferAfter 1 own (pipeMoments (freshPipes before 2) calls)) ≡ 17 ∷ []
+unfolding positionsFit carried pipeRefusal pipesFresh pipeReset pipeResumed goesAhead stopped goneOn writeAnswer bufferWritten readAnswer targetRead
 left-shown = refl
 
-pub bytes-shown : Told (since before 2 (omega arith) buffers 1 (omega arith) calls lending-shown)
-    (pipeOf (pipesRan (freshPipes before 2) calls) 1 .positions) (buffersAfter buffers (pipeMoments (freshPipes before 2) calls) 1)
-bytes-shown = bytes-always before 2 (omega arith) buffers 1 (omega arith) calls lending-shown
+pub bytes-shown : Told (since before 2 (omega arith) 1 own (omega arith) calls lending-shown)
+    (pipeOf (pipesRan (freshPipes before 2) calls) 1 .positions) (bufferAfter 1 own (pipeMoments (freshPipes before 2) calls))
+bytes-shown = bytes-always before 2 (omega arith) 1 own (omega arith) calls lending-shown
+
+-- ---- two pipes, of which one is lent another buffer each time
+
+-- pipe 2 gets a buffer of three bytes, then one of five, then one of four; pipe 0 its own four bytes
+abbrev beside : List PipeCall
+beside =
+    PipeCall.write 2 (0 ∷ 0 ∷ 0 ∷ []) (51 ∷ 52 ∷ [])
+    ∷ PipeCall.write 0 (0 ∷ 0 ∷ 0 ∷ 0 ∷ []) (1 ∷ 2 ∷ 3 ∷ [])
+    ∷ PipeCall.read 2 (77 ∷ 78 ∷ 79 ∷ 80 ∷ 81 ∷ []) (0 ∷ [])
+    ∷ PipeCall.read 0 (1 ∷ 2 ∷ 3 ∷ 0 ∷ []) (0 ∷ 0 ∷ [])
+    ∷ PipeCall.write 2 (9 ∷ 9 ∷ 9 ∷ 9 ∷ []) (53 ∷ [])
+    ∷ PipeCall.write 0 (1 ∷ 2 ∷ 3 ∷ 0 ∷ []) (4 ∷ 5 ∷ [])
+    ∷ []
+
+-- all are accepted, and pipe 2 gives a byte that nobody wrote to it
+pub beside-seen : seen (pipeMoments (freshPipes before 3) beside)
+    ≡ record { code = 0; moved = pos 2; target = [] }
+    ∷ record { code = 0; moved = pos 3; target = [] }
+    ∷ record { code = 0; moved = pos 1; target = 77 ∷ [] }
+    ∷ record { code = 0; moved = pos 2; target = 1 ∷ 2 ∷ [] }
+    ∷ record { code = 0; moved = pos 1; target = [] }
+    ∷ record { code = 0; moved = pos 2; target = [] }
+    ∷ []
+unfolding positionsFit carried pipeRefusal pipesFresh pipeReset pipeResumed goesAhead stopped goneOn writeAnswer bufferWritten readAnswer targetRead
+beside-seen = refl
+
+-- pipe 0 was lent its own buffer, as the last call on it left it
+pub beside-lent : Lending 0 (0 ∷ 0 ∷ 0 ∷ 0 ∷ []) (pipeMoments (freshPipes before 3) beside)
+unfolding positionsFit carried pipeRefusal pipesFresh pipeReset pipeResumed goesAhead stopped goneOn writeAnswer bufferWritten readAnswer targetRead
+beside-lent =
+    Lending.more (λ e z. apart e)
+    (Lending.more (λ e z. refl)
+    (Lending.more (λ e z. apart e) (Lending.more (λ e z. refl) (Lending.more (λ e z. apart e) (Lending.more (λ e z. refl) Lending.none)))))
+
+-- so its bytes are told
+pub beside-told : Told (since before 3 (omega arith) 0 (0 ∷ 0 ∷ 0 ∷ 0 ∷ []) (omega arith) beside beside-lent)
+    (pipeOf (pipesRan (freshPipes before 3) beside) 0 .positions)
+    (bufferAfter 0 (0 ∷ 0 ∷ 0 ∷ 0 ∷ []) (pipeMoments (freshPipes before 3) beside))
+beside-told = bytes-always before 3 (omega arith) 0 (0 ∷ 0 ∷ 0 ∷ 0 ∷ []) (omega arith) beside beside-lent
+
+-- which are these
+pub beside-story : since before 3 (omega arith) 0 (0 ∷ 0 ∷ 0 ∷ 0 ∷ []) (omega arith) beside beside-lent
+    ≡ record { written = 1 ∷ 2 ∷ 3 ∷ 4 ∷ 5 ∷ []; read = 1 ∷ 2 ∷ [] }
+unfolding positionsFit carried pipeRefusal pipesFresh pipeReset pipeResumed goesAhead stopped goneOn writeAnswer bufferWritten readAnswer targetRead
+beside-story = refl
 
 -- each refusal: no such pipe, a table of five, no buffer, one of 257 bytes, a write place that does not follow; and five fresh pipes
 abbrev unfit : Pipes

@@ -1,10 +1,10 @@
 -- Time, fresh tables, traces and the boundary, by computation: a case for each arm of each relation, and for the hypotheses of the theorems
 -- that have some, so that they speak of something.
-use Prim.Native.Nat.{ℕ, zero, suc, _≤_, _<_}
+use Prim.Native.Nat.{ℕ, zero, suc, _<_}
 use native.Mathlib.Omega.{arith}
 use mathlib.Core.Path.{_≡_, refl}
 use mathlib.Core.List.{List, [], _∷_, _++_}
-use lib.ListN.{length, getD, take, drop, replicate}
+use lib.ListN.{length, getD, drop, replicate}
 use Rattle.kernel.specs.declared.time.SystemTime.{SystemTime}
 use Rattle.kernel.specs.declared.time.Interval.{Interval}
 use Rattle.kernel.specs.declared.clock.Clock.{Clock}
@@ -20,14 +20,12 @@ use Rattle.library.specs.declared.sizes.Sizes.{Sizes}
 use Rattle.library.specs.Sizes.{sizesFit}
 use Rattle.library.specs.Tables.{blankMailbox}
 use Rattle.library.specs.Fresh.{made}
-use Rattle.trace.specs.declared.decoding.Found.the-variants.{Ended}
 use Rattle.trace.specs.declared.decoding.Read.{Read}
 use Rattle.trace.specs.declared.writer.Written.{Written}
 use Rattle.trace.specs.Ordered.{getN}
-use Rattle.trace.specs.TraceBytes.{headOf, recordOf, traceOf}
+use Rattle.trace.specs.TraceBytes.{headOf, recordOf}
 use Rattle.trace.specs.Decoding.{endsInside, lengthRefusal, stepRefusal, decodedSizes, decodedStep, openedRead, steppedRead, nextRead}
 use Rattle.trace.specs.Writer.{sizesAnswer, sizesWritten, stepAnswer, stepWritten}
-use Rattle.trace.specs.Traces.{readAll, writtenAll, none, more}
 use Rattle.host.specs.declared.request.Request.{Request}
 use Rattle.host.specs.declared.reads.ReadResult.{ReadResult}
 use Rattle.host.specs.Setup.{prepared, clockSet}
@@ -39,12 +37,13 @@ use Rattle.promises.specs.Paper.Together.{SizesFit}
 use Rattle.promises.specs.Paper.Fresh.{nothing}
 use Rattle.promises.specs.Paper.Answers.{foundSaid, writtenSaid}
 use Rattle.promises.specs.Paper.Reader.{Gives, Reached, NumberOf}
-use Rattle.promises.specs.Paper.Writer.{AnyStep, Present}
+use Rattle.promises.specs.Paper.Writer.{AnyStep}
+use Rattle.promises.specs.Paper.Traces.{sizesHeld}
 use Rattle.promises.specs.Meant.Sizes.{fit-limits}
 use Rattle.promises.specs.Meant.Reader.{read-is, reached-number}
 use Rattle.promises.specs.Meant.Writer.{step-write-is, sizes-write-is, record-stands, head-stands}
 use Rattle.promises.specs.Paper.Host.{Host}
-use Rattle.promises.specs.Meant.Encoding.{step-read-back, sizes-read-back, round-trip-any}
+use Rattle.promises.specs.Meant.Encoding.{step-read-back, sizes-read-back}
 
 -- ---- time
 
@@ -242,44 +241,12 @@ step-back-shown =
 abbrev opening : List ℕ
 opening = sizesWritten two (replicate 12 7)
 
-pub sizes-back-shown : Present two (nextRead opening 0 .sizes)
+pub sizes-back-shown : nextRead opening 0 .sizes ≡ sizesHeld two
 unfolding allFrom sizesFit sizesAnswer sizesWritten headOf
 sizes-back-shown =
     sizes-read-back two (replicate 12 7) opening two-limits (omega arith) (omega arith)
     (head-stands (sizes-write-is two (replicate 12 7)) refl)
     (nextRead opening 0) (read-is opening 0) .1 .0
-
-two-present : Present two two-read
-two-present =
-    record {
-      threads = refl;
-      semaphores = refl;
-      queues = refl;
-      references = refl;
-      mailboxes = refl;
-      pools = refl;
-      slots = slot;
-      absent = absent;
-    }
-  where
-    slot : (m : ℕ) → m < 1 → getD (two-read .slots) m 0 ≡ getD (two .slots) m 0
-    slot zero h = refl
-    slot (suc m) h = absurd (omega arith)
-
-    absent : (m : ℕ) → 1 ≤ m → getD (two-read .slots) m 0 ≡ 0
-    absent zero h = absurd (omega arith)
-    absent (suc zero) h = refl
-    absent (suc (suc zero)) h = refl
-    absent (suc (suc (suc zero))) h = refl
-    absent (suc (suc (suc (suc m)))) h = refl
-
-pub round-trip-shown : readAll (take 23 (writtenAll two (wait ∷ []) (replicate 30 7) .buffer))
-    ≡ record { sizes = two-read; steps = wait ∷ []; stop = Ended }
-unfolding traceOf headOf recordOf
-round-trip-shown =
-    round-trip-any two two-read (wait ∷ []) (replicate 30 7) two-limits refl two-present refl
-    (more (record { kind = omega arith; caller = omega arith; object = omega arith; a = omega arith; timeout = omega arith }) none)
-    (omega arith) (omega arith)
 
 -- ---- the boundary
 
