@@ -42,12 +42,13 @@ use Rattle.host.specs.Setup.{madeFor, prepared, tablesSet, clockSet}
 use Rattle.host.specs.Reads.{requestIn, foundNumber, readAt}
 use Rattle.host.specs.Times.{addedTime, differedTime, inRangeNumber, ticksCode, ticksIn, unitsCode, unitsOf}
 use Rattle.host.specs.Writes.{placeWritten}
-use Rattle.promises.specs.Paper.Answers.{Said, foundSaid, writtenSaid}
+use Rattle.promises.specs.Paper.Answers.{Said, foundSaid}
 use Rattle.promises.specs.Paper.Boundary.{asked, StepCall, FreshCall, StepGiven, ReadCall, PlaceKept, SizesCall, RecordCall, AddCall, DifferenceCall, RangeCall, TicksCall, UnitsCall}
 use Rattle.promises.specs.Paper.Boundary.{PipeFreshCall, PipeResetCall, PipeResumeCall, PipeWriteCall, PipeReadCall}
 use Rattle.promises.specs.Paper.Pipes.{HostPipes}
 use Rattle.promises.specs.Meant.Step.{demand-two}
 use Rattle.promises.specs.Paper.Host.{Host}
+use Rattle.promises.specs.Paper.Writer.{writtenSaid}
 use Rattle.promises.specs.Meant.Only.{step-only}
 use Rattle.promises.specs.Meant.Time.{
   sum-is,

@@ -8,7 +8,8 @@ use Rattle.trace.specs.declared.decoding.Found.{Found}
 use Rattle.trace.specs.declared.decoding.Found.the-variants as found
 use Rattle.trace.specs.declared.writer.Written.{Written}
 use Rattle.trace.specs.declared.writer.Written.the-variants as written
-use Rattle.promises.specs.Paper.Answers.{Said, foundSaid, writtenSaid}
+use Rattle.promises.specs.Paper.Answers.{Said, foundSaid}
+use Rattle.promises.specs.Paper.Writer.{writtenSaid}
 
 -- what is given tells the cases apart
 other : (a b : Said) {C : Type 0} → a ≡ b → (a .gives ≡ b .gives → ⊥) → C

@@ -17,9 +17,9 @@ use Rattle.trace.specs.declared.writer.Written.{Written}
 use Rattle.trace.specs.declared.writer.Written.the-variants as written
 use Rattle.promises.specs.Paper.Together.{SizesFit}
 use Rattle.promises.specs.Paper.Fresh.{nothing}
-use Rattle.promises.specs.Paper.Answers.{Said, foundSaid, writtenSaid}
+use Rattle.promises.specs.Paper.Answers.{Said, foundSaid}
 use Rattle.promises.specs.Paper.Reader.{byte, two, four, sizesIn, HeadBroken, RecordBroken, Gives, HeadRead, LaterRead, ReadOf}
-use Rattle.promises.specs.Paper.Writer.{HeadIn, FourIn, RecordIn, SizesUnfit, StepUnfit, WriteOfSizes, WriteOfStep}
+use Rattle.promises.specs.Paper.Writer.{HeadIn, FourIn, RecordIn, SizesUnfit, StepUnfit, WriteOfSizes, WriteOfStep, writtenSaid}
 use Rattle.promises.specs.Paper.Traces.{
   TraceCode,
   TraceCodeOf,

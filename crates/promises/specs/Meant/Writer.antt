@@ -19,9 +19,9 @@ use Rattle.trace.specs.Ordered.{bytesN, putN}
 use Rattle.trace.specs.TraceBytes.{sizesBody, headOf, recordOf}
 use Rattle.trace.specs.Writer.{roomRefusal, sizesRefusal, sizesAnswer, sizesWritten, stepAnswer, stepWritten}
 use Rattle.promises.specs.Paper.Together.{SizesFit}
-use Rattle.promises.specs.Paper.Answers.{Said, writtenSaid}
+use Rattle.promises.specs.Paper.Answers.{Said}
 use Rattle.promises.specs.Paper.Reader.{byte}
-use Rattle.promises.specs.Paper.Writer.{HeadIn, TwoIn, FourIn, NumberWritten, RecordIn, SizesUnfit, StepUnfit, LeastOf, WriteOfSizes, WriteOfStep}
+use Rattle.promises.specs.Paper.Writer.{HeadIn, TwoIn, FourIn, NumberWritten, RecordIn, SizesUnfit, StepUnfit, LeastOf, WriteOfSizes, WriteOfStep, writtenSaid}
 use Rattle.promises.specs.Meant.Sizes.{fit-limits, out-of-limits}
 use Rattle.promises.specs.Meant.Said.{written-one}
 

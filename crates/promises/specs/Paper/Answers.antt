@@ -1,11 +1,9 @@
 -- ANSWERS THAT ARE ENUMS: "Where an answer is an enum, a definition gives this paper's number and values for each of its cases, and the
--- promises use that definition." The definition is here, for both.
+-- promises use that definition." The record is here, with the reader's; the writer's is `writtenSaid` (Paper.Writer).
 use Prim.Native.Nat.{ℕ}
 use mathlib.Core.List.{List, [], _∷_}
 use Rattle.trace.specs.declared.decoding.Found.{Found}
-use Rattle.trace.specs.declared.decoding.Found.the-variants as found
-use Rattle.trace.specs.declared.writer.Written.{Written}
-use Rattle.trace.specs.declared.writer.Written.the-variants as written
+use Rattle.trace.specs.declared.decoding.Found.the-variants.{Opened, Stepped, Ended, Refused}
 
 -- an answer in numbers: the refusal's number, 0 where nothing is refused; what is given; and its values, in the paper's order
 pub record Said : Type 0 where
@@ -16,13 +14,8 @@ pub record Said : Type 0 where
 
 -- what a read found. "A refused read gives the number, the record's number and no step"; a step is "kind, caller, object .. a, timeout"
 abbrev pub foundSaid : Found → Said
-foundSaid found.Opened = record { code = 0; gives = 1; values = [] }
-foundSaid (found.Stepped x) =
+foundSaid Opened = record { code = 0; gives = 1; values = [] }
+foundSaid (Stepped x) =
     record { code = 0; gives = 2; values = x .kind ∷ x .caller ∷ x .object ∷ x .a ∷ x .timeout ∷ [] }
-foundSaid found.Ended = record { code = 0; gives = 0; values = [] }
-foundSaid (found.Refused code number) = record { code = code; gives = 0; values = number ∷ [] }
-
--- what a writer answers: the place after the record, or "The writer refuses, .. with 14 .., 15 .., 16"
-abbrev pub writtenSaid : Written → Said
-writtenSaid (written.Upto next) = record { code = 0; gives = 3; values = next ∷ [] }
-writtenSaid (written.Refused code) = record { code = code; gives = 0; values = [] }
+foundSaid Ended = record { code = 0; gives = 0; values = [] }
+foundSaid (Refused code number) = record { code = code; gives = 0; values = number ∷ [] }

@@ -27,9 +27,9 @@ use Rattle.promises.specs.Paper.Waking.{inMask}
 use Rattle.promises.specs.Paper.Step.{StepOf}
 use Rattle.promises.specs.Paper.Time.{SumOf, DifferenceOf, RangeOf, TicksOf, UnitsOf}
 use Rattle.promises.specs.Paper.Fresh.{MadeOf}
-use Rattle.promises.specs.Paper.Answers.{Said, foundSaid, writtenSaid}
+use Rattle.promises.specs.Paper.Answers.{Said, foundSaid}
 use Rattle.promises.specs.Paper.Reader.{NumberOf, ReadOf}
-use Rattle.promises.specs.Paper.Writer.{WriteOfSizes, WriteOfStep}
+use Rattle.promises.specs.Paper.Writer.{WriteOfSizes, WriteOfStep, writtenSaid}
 use Rattle.promises.specs.Paper.Pipes.{PipeWriteOf, PipeReadOf, PipeResetOf, PipeResumeOf, PipesFreshOf}
 
 -- "A step has kind, caller, object, operand a and timeout": the step that a request asks for; its byte `unused` is ignored

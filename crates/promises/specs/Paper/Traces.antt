@@ -11,9 +11,9 @@ use Rattle.library.specs.declared.sizes.Sizes.{Sizes}
 use Rattle.trace.specs.declared.decoding.Read.{Read}
 use Rattle.trace.specs.declared.writer.Written.{Written}
 use Rattle.promises.specs.Paper.Together.{SizesFit}
-use Rattle.promises.specs.Paper.Answers.{foundSaid, writtenSaid}
+use Rattle.promises.specs.Paper.Answers.{foundSaid}
 use Rattle.promises.specs.Paper.Reader.{byte, ReadOf}
-use Rattle.promises.specs.Paper.Writer.{WriteOfSizes, WriteOfStep, AnyStep}
+use Rattle.promises.specs.Paper.Writer.{WriteOfSizes, WriteOfStep, AnyStep, writtenSaid}
 
 -- what the functions of any code give: to sizes, and to a step at a place, the answer and the buffer then; and what a read at a place of a
 -- trace gives

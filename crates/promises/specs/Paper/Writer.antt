@@ -6,9 +6,15 @@ use lib.ListN.{length, getD}
 use Rattle.library.specs.declared.calls.Step.{Step}
 use Rattle.library.specs.declared.sizes.Sizes.{Sizes}
 use Rattle.trace.specs.declared.writer.Written.{Written}
+use Rattle.trace.specs.declared.writer.Written.the-variants.{Upto, Refused}
 use Rattle.promises.specs.Paper.Together.{SizesFit}
-use Rattle.promises.specs.Paper.Answers.{writtenSaid}
+use Rattle.promises.specs.Paper.Answers.{Said}
 use Rattle.promises.specs.Paper.Reader.{byte}
+
+-- what a writer answers: the place after the record, or "The writer refuses, .. with 14 .., 15 .., 16"
+abbrev pub writtenSaid : Written → Said
+writtenSaid (Upto next) = record { code = 0; gives = 3; values = next ∷ [] }
+writtenSaid (Refused code) = record { code = code; gives = 0; values = [] }
 
 -- ---- what is written, byte by byte: the buffer is l before and k after
 

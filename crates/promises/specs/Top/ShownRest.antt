@@ -35,9 +35,9 @@ use Rattle.host.specs.Request.{stepOf}
 use Rattle.host.specs.Writes.{placeWritten}
 use Rattle.promises.specs.Paper.Together.{SizesFit}
 use Rattle.promises.specs.Paper.Fresh.{nothing}
-use Rattle.promises.specs.Paper.Answers.{foundSaid, writtenSaid}
+use Rattle.promises.specs.Paper.Answers.{foundSaid}
 use Rattle.promises.specs.Paper.Reader.{Gives, Reached, NumberOf}
-use Rattle.promises.specs.Paper.Writer.{AnyStep}
+use Rattle.promises.specs.Paper.Writer.{AnyStep, writtenSaid}
 use Rattle.promises.specs.Paper.Traces.{sizesHeld}
 use Rattle.promises.specs.Meant.Sizes.{fit-limits}
 use Rattle.promises.specs.Meant.Reader.{read-is, reached-number}
