@@ -21,7 +21,8 @@ use Rattle.promises.specs.Paper.Rows.{Waits, SemaphoreWait, EventWait, P
 use Rattle.promises.specs.Paper.Waking.{rowOf, spanOf, FellAsleep}
 use Rattle.promises.specs.Runs.Keeping.{put-same, KeepsOn}
 use Rattle.promises.specs.Runs.OneRow.{ended-own, Stands, Steady, row-on}
-use Rattle.promises.specs.Runs.OneStep.{act, few, rows-after}
+use Rattle.promises.specs.Runs.Accepted.{act, few}
+use Rattle.promises.specs.Runs.OneStep.{rows-after}
 
 module _ (t : Tables) (now : SystemTime) (s : Step) (i : ℕ) (someone : i ≢ 255) where
   -- a record whose call is unfinished has it from the step, and its ticks if it sleeps
@@ -53,7 +54,7 @@ module _ (t : Tables) (now : SystemTime) (s : Step) (i : ℕ) (someone : i ≢ 2
         wakes = λ m b n c o k. let b = o k in record { kind = b .kind; timeout = b .timeout; ticks = λ x. absurd (x refl) };
         ends-on = λ m d z n e o k. absurd (k refl);
         takes-on = λ z k m o n. absurd (n refl);
-        sleeps-on = λ q z g m e o k. let b = o k in record { kind = b .kind; timeout = b .timeout; ticks = λ x. rw (b .timeout) };
+        sleeps-on = λ q z g m e u o k. let b = o k in record { kind = b .kind; timeout = b .timeout; ticks = λ x. rw (b .timeout) };
       })
 
   -- ---- the rows
