@@ -16,3 +16,4 @@ pub mod ShownLedgers
 pub mod ShownSignals
 pub mod ShownCauses
 pub mod ShownBroken
+pub mod Hosts
