@@ -20,3 +20,4 @@ pub mod ShownAgain
 pub mod ShownSignals
 pub mod ShownCauses
 pub mod ShownBroken
+pub mod Hosts
