@@ -20,4 +20,3 @@ pub mod ShownAgain
 pub mod ShownSignals
 pub mod ShownCauses
 pub mod ShownBroken
-pub mod Hosts
