@@ -380,7 +380,9 @@ uint16_t nil_waiting(const nil_tables *tables, uint32_t place);
 
 /* Reads the record at a place of a trace of `length` bytes: the sizes at place
    0, a step elsewhere. The next read goes to `next`. Any place gets an answer:
-   where no record begins, it is what the bytes there happen to say. */
+   where no record begins, it is what the bytes there happen to say. The
+   trace's length and version are judged at place 0 alone: NIL_TOO_LONG and
+   NIL_BAD_VERSION come there and nowhere else, whatever `length` is. */
 void nil_read(const uint8_t *trace, size_t length, size_t at,
               nil_read_result *result);
 

@@ -638,7 +638,8 @@ pub fn pipe_resume(pipes: &mut Pipes, pipe: u32, length: usize) -> Result<(), u8
     accepted(code, ())
 }
 
-/// Reads the record at a place of a trace: the sizes at place 0, a step or the end elsewhere.
+/// Reads the record at a place of a trace: the sizes at place 0, a step or the end elsewhere. The trace's length and version are judged at
+/// place 0 alone: [`code::TOO_LONG`] and [`code::BAD_VERSION`] come there and nowhere else.
 pub fn read(trace: &[u8], at: usize) -> Read {
     let mut raw = RawRead::default();
     // SAFETY: a slice's pointer is never null and leads to its length of bytes; the result is a local of its own.

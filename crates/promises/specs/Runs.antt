@@ -11,8 +11,12 @@ pub mod Wakers
 pub mod Ready
 pub mod Flags
 pub mod Causes
-pub mod OneStep
+pub mod Accepted
 pub mod Places
+pub mod OnlyDue
+pub mod Turns
+pub mod FirstTurn
+pub mod OneStep
 pub mod GoingOn
 pub mod Waiters
 pub mod Due

@@ -45,6 +45,12 @@ placed n = record { code = 0; gives = 3; values = n ∷ [] }
 abbrev stepRead : Step → Said
 stepRead x = record { code = 0; gives = 2; values = x .kind ∷ x .caller ∷ x .object ∷ x .a ∷ x .timeout ∷ [] }
 
+abbrev sizesRead : Said
+sizesRead = record { code = 0; gives = 1; values = [] }
+
+abbrev endRead : Said
+endRead = record { code = 0; gives = 0; values = [] }
+
 -- what is given tells answers apart
 apart : (a b : Said) {C : Type 0} → a ≡ b → (a .gives ≡ b .gives → ⊥) → C
 apart a b e n = absurd (n (ap (λ (s : Said). s .gives) e))
@@ -79,6 +85,7 @@ step-done {at = at} {l = l} (WriteOfStep.written u e r) d =
       stands = r;
     }
 
+-- and accepted sizes
 record SizesDone (z : Sizes) (at : ℕ) (l k : List ℕ) : Type 0 where
   place : at ≡ 9 + z .mailboxes
   limits : SizesFit z
@@ -106,6 +113,7 @@ sizes-fit g h n (SizesUnfit.size a) = a g
 sizes-fit g h n (SizesUnfit.long a) = omega (arith, g .mailboxes)
 sizes-fit g h n (SizesUnfit.short a) = omega arith
 
+-- and the record stands
 step-taken : {x : Step} {at : ℕ} {l k : List ℕ} {w : Written} → WriteOfStep x at l w k → at + 13 ≤ 60000 → at + 13 ≤ length l
     → (writtenSaid w ≡ placed (at + 13)) × RecordIn x at l k
 step-taken (WriteOfStep.refused n u e c) h g = absurd (step-fits h g n (u .unfit))
@@ -190,7 +198,7 @@ module _ (f : TraceCode) (told : TraceCodeOf f) where
       → length s ≡ end → ((i : ℕ) → i < end → byte s i ≡ byte k i) → StepsRead f s at xs
   read-on {at = at} s StepsWritten.none a h n same = StepsRead.ended (over (told .reads s at))
     where
-      over : ReadOf s at (f .read s at) → foundSaid (f .read s at .found) ≡ record { code = 0; gives = 0; values = [] }
+      over : ReadOf s at (f .read s at) → foundSaid (f .read s at .found) ≡ endRead
       over (ReadOf.head z b) = absurd (omega arith)
       over (ReadOf.later z (LaterRead.ended e g)) = g .found
       over (ReadOf.later z (LaterRead.refused e m b c d g)) = absurd (e (sym n))
@@ -259,9 +267,9 @@ module _ {f : TraceCode} where
   steps-read-one : {s : List ℕ} {at : ℕ} {xs ys : List Step} → StepsRead f s at xs → StepsRead f s at ys → xs ≡ ys
   steps-read-one (StepsRead.ended e) (StepsRead.ended d) = refl
   steps-read-one (StepsRead.ended e) (StepsRead.more {x = y} d b) =
-      apart (record { code = 0; gives = 0; values = [] }) (stepRead y) (sym e ∙ d) (λ z. omega arith)
+      apart endRead (stepRead y) (sym e ∙ d) (λ z. omega arith)
   steps-read-one (StepsRead.more {x = x} e c) (StepsRead.ended d) =
-      apart (stepRead x) (record { code = 0; gives = 0; values = [] }) (sym e ∙ d) (λ z. omega arith)
+      apart (stepRead x) endRead (sym e ∙ d) (λ z. omega arith)
   steps-read-one (StepsRead.more {x = x} {xs = xs} e c) (StepsRead.more {x = y} {xs = ys} d b) =
       let first : x ≡ y = same-step (sym e ∙ d) in
       let rest : xs ≡ ys = steps-read-one c b in
@@ -272,17 +280,21 @@ module _ {f : TraceCode} where
 
 -- ---- what is read stands in the bytes
 
+-- the step whose record stands at a place
+abbrev stepAt : List ℕ → ℕ → Step
+stepAt s at = record { kind = byte s (at + 2); caller = byte s (at + 3); object = byte s (at + 4); a = four s (at + 5); timeout = four s (at + 9) }
+
 -- a step, read behind record 0
 record Stood (s : List ℕ) (at : ℕ) (x : Step) (next : ℕ) : Type 0 where
   place : next ≡ at + 13
   right : two s at ≡ 11
   within : at + 13 ≤ length s
-  is : record { kind = byte s (at + 2); caller = byte s (at + 3); object = byte s (at + 4); a = four s (at + 5); timeout = four s (at + 9) } ≡ x
+  is : stepAt s at ≡ x
 
 stood : {s : List ℕ} {at : ℕ} {r : Read} {x : Step} → ReadOf s at r → 0 < at → foundSaid (r .found) ≡ stepRead x → Stood s at x (r .next)
 stood (ReadOf.head z b) h e = absurd (omega arith)
 stood {x = x} (ReadOf.later z (LaterRead.ended n g)) h e =
-    apart (record { code = 0; gives = 0; values = [] }) (stepRead x) (sym (g .found) ∙ e) (λ q. omega arith)
+    apart endRead (stepRead x) (sym (g .found) ∙ e) (λ q. omega arith)
 stood {x = x} (ReadOf.later z (LaterRead.refused n m c d b g)) h e =
     apart (record { code = m; gives = 0; values = c ∷ [] }) (stepRead x) (sym (g .found) ∙ e) (λ q. omega arith)
 stood {s} {at} {r} {x} (ReadOf.later z (LaterRead.stepped n b g)) h e =
@@ -297,14 +309,14 @@ stood {s} {at} {r} {x} (ReadOf.later z (LaterRead.stepped n b g)) h e =
     }
 
 -- the end, read behind record 0
-stood-end : {s : List ℕ} {at : ℕ} {r : Read} → ReadOf s at r → 0 < at → foundSaid (r .found) ≡ record { code = 0; gives = 0; values = [] }
+stood-end : {s : List ℕ} {at : ℕ} {r : Read} → ReadOf s at r → 0 < at → foundSaid (r .found) ≡ endRead
     → at ≡ length s
 stood-end (ReadOf.head z b) h e = absurd (omega arith)
 stood-end (ReadOf.later z (LaterRead.ended n g)) h e = n
 stood-end (ReadOf.later z (LaterRead.refused n m c d b g)) h e = absurd (omega (arith, ap (λ (q : Said). length (q .values)) (sym (g .found) ∙ e)))
 stood-end {s} {at} (ReadOf.later z (LaterRead.stepped n b g)) h e =
-    apart (stepRead (record { kind = byte s (at + 2); caller = byte s (at + 3); object = byte s (at + 4); a = four s (at + 5); timeout = four s (at + 9) }))
-    (record { code = 0; gives = 0; values = [] }) (sym (g .found) ∙ e) (λ q. omega arith)
+    apart (stepRead (stepAt s at))
+    endRead (sym (g .found) ∙ e) (λ q. omega arith)
 
 -- record 0
 record Begun (s : List ℕ) (z : Sizes) (next : ℕ) : Type 0 where
@@ -316,10 +328,10 @@ record Begun (s : List ℕ) (z : Sizes) (next : ℕ) : Type 0 where
   within : 9 + byte s 7 ≤ length s
   short : length s ≤ 60000
 
-begun : {s : List ℕ} {r : Read} → ReadOf s 0 r → foundSaid (r .found) ≡ record { code = 0; gives = 1; values = [] } → Begun s (r .sizes) (r .next)
+begun : {s : List ℕ} {r : Read} → ReadOf s 0 r → foundSaid (r .found) ≡ sizesRead → Begun s (r .sizes) (r .next)
 begun (ReadOf.later z b) e = absurd (z refl)
 begun (ReadOf.head z (HeadRead.refused n b g)) e =
-    apart (record { code = n; gives = 0; values = 0 ∷ [] }) (record { code = 0; gives = 1; values = [] }) (sym (g .found) ∙ e) (λ q. omega arith)
+    apart (record { code = n; gives = 0; values = 0 ∷ [] }) sizesRead (sym (g .found) ∙ e) (λ q. omega arith)
 begun {s} (ReadOf.head z (HeadRead.opened b g)) e =
     let right : two s 1 ≡ 6 + byte s 7 = same-or (two s 1) (6 + byte s 7) (λ q. q) (λ q. absurd (b 13 (HeadBroken.wrong-length q))) in
     let whole : 3 + two s 1 ≤ length s = in-or-out (length s) (3 + two s 1) (λ q. absurd (b 12 (HeadBroken.in-body q))) (λ q. q) in

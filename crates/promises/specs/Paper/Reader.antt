@@ -84,7 +84,9 @@ pub data HeadBroken (s : List ℕ) : ℕ → Type 0 where
   -- "14 a size out of its limits"
   size : (SizesFit (sizesIn s) → ⊥) → HeadBroken s 14
 
--- and a later record at a place
+-- and a later record at a place. 15 and 11 are of the trace as a whole, and record 0's alone: a listing stops with "its number (0 for 15 and
+-- 11)". A reader that they refuse stands at place 0 still, so none that begins there meets them later; a host may name any place, and is
+-- answered there by 12 and 13 alone, in a trace above 60,000 bytes too
 pub data RecordBroken (s : List ℕ) (at : ℕ) : ℕ → Type 0 where
   in-length : length s < at + 2 → RecordBroken s at 12
   in-body : length s < at + 2 + two s at → RecordBroken s at 12

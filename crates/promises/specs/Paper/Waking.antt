@@ -139,9 +139,9 @@ pub data SideOf (c : Call) : ℕ → Type 0 where
   writers : IsPost (c .kind) → SideOf c (28 + c .object)
   readers : c .kind ≡ 17 → SideOf c (32 + c .object)
 
--- a record whose mailbox call, woken with 0 by the cause c in the step n, was tried again and sleeps again at the place p, "with its FULL timeout"
-abbrev pub againRow : Step → ℕ → Thread → ℕ → ℕ → ℕ → Thread
-againRow s i a p c n =
+-- a record whose mailbox call, woken with 0, was tried again and sleeps again at the place p, "with its FULL timeout"
+abbrev pub againRow : Step → ℕ → Thread → ℕ → Thread
+againRow s i a p =
     record {
       state = 3;
       place = p;
@@ -151,8 +151,8 @@ againRow s i a p c n =
       message = pos 0;
       call = a .call;
       answer = noAnswer;
-      cause = c;
-      step = n;
+      cause = a .cause;
+      step = a .step;
     }
 
 -- what an accepted step s, on the tables t, has made of thread i that slept before it: b is its record then, beside whether it was woken
@@ -160,17 +160,13 @@ againRow s i a p c n =
 pub data SleeperAfter (t : Tables) (s : Step) (i : ℕ) (b : Thread) (woken finished : Bool) : Type 0 where
   -- it sleeps on
   on : (LastTick s (rowOf t i) → ⊥) → b ≡ sleptOn s i (rowOf t i) → woken ≡ false → finished ≡ false → SleeperAfter t s i b woken finished
-  -- it was made ready, and its call is not continued yet. Its last answer is 0 and 0 if the call was tried in between
-  ready : (m : ℤ) (c : ℕ) → WokenBy t s i (rowOf t i) m c → (l : Answer)
-      → (l ≡ rowOf t i .answer) ⊎ (IsMailing (rowOf t i .call .kind) × (l ≡ noAnswer)) → b ≡ wokenRow s i (rowOf t i) m c (found t .step) l
+  -- it was made ready, and its call is not continued yet
+  ready : (m : ℤ) (c : ℕ) → WokenBy t s i (rowOf t i) m c → b ≡ wokenRow s i (rowOf t i) m c (found t .step) (rowOf t i .answer)
       → woken ≡ true → finished ≡ false → SleeperAfter t s i b woken finished
   -- it was made ready, and its call finished with the answer that follows
   done : (m x : ℤ) (c d f : ℕ) → WokenBy t s i (rowOf t i) m c → AnswerOf (rowOf t i) (heard s i (rowOf t i)) m x d f
       → b ≡ doneRow m c (found t .step) x d f
       → woken ≡ true → finished ≡ true → SleeperAfter t s i b woken finished
-  -- it was made ready with 0, and its mailbox call, tried again, sleeps again at the same place
-  again : (c : ℕ) → IsMailing (rowOf t i .call .kind) → WokenBy t s i (rowOf t i) (pos 0) c
-      → b ≡ againRow s i (rowOf t i) (rowOf t i .place) c (found t .step) → woken ≡ true → finished ≡ false → SleeperAfter t s i b woken finished
 
 -- a ready record as it was, once flags of the step have come
 abbrev pub readyOn : Step → ℕ → Thread → Thread
@@ -196,8 +192,7 @@ pub data ReadyAfter (t : Tables) (s : Step) (i : ℕ) (b : Thread) (woken finish
   done : (x : ℤ) (d f : ℕ) → AnswerOf (rowOf t i) (heard s i (rowOf t i)) (rowOf t i .message) x d f
       → b ≡ doneRow (rowOf t i .message) (rowOf t i .cause) (rowOf t i .step) x d f → woken ≡ false → finished ≡ true → ReadyAfter t s i b woken finished
   -- its mailbox call was tried again, and sleeps again at its own side
-  again : (p : ℕ) → SideOf (rowOf t i .call) p → rowOf t i .message ≡ pos 0 → b ≡ againRow s i (rowOf t i) p (rowOf t i .cause) (rowOf t i .step)
-      → woken ≡ false → finished ≡ false → ReadyAfter t s i b woken finished
+  again : (p : ℕ) → SideOf (rowOf t i .call) p → rowOf t i .message ≡ pos 0 → b ≡ againRow s i (rowOf t i) p → woken ≡ false → finished ≡ false → ReadyAfter t s i b woken finished
   -- it slept there again, and was made ready once more, by a mailbox call that serves that side; it is not continued since
   ready-again : (p c : ℕ) → SideOf (rowOf t i .call) p → rowOf t i .message ≡ pos 0 → Served t s 3 p (pos 0) c
       → b ≡ wokenRow s i (rowOf t i) (pos 0) c (found t .step) noAnswer → woken ≡ true → finished ≡ false → ReadyAfter t s i b woken finished
@@ -205,9 +200,6 @@ pub data ReadyAfter (t : Tables) (s : Step) (i : ℕ) (b : Thread) (woken finish
   done-again : (p c : ℕ) (x : ℤ) (d : ℕ) → SideOf (rowOf t i .call) p → rowOf t i .message ≡ pos 0 → Served t s 3 p (pos 0) c
       → AnswerOf (rowOf t i) (heard s i (rowOf t i)) (pos 0) x d (heard s i (rowOf t i))
       → b ≡ doneRow (pos 0) c (found t .step) x d (heard s i (rowOf t i)) → woken ≡ true → finished ≡ true → ReadyAfter t s i b woken finished
-  -- or was tried once more then, and sleeps there again
-  slept-again : (p c : ℕ) → SideOf (rowOf t i .call) p → rowOf t i .message ≡ pos 0 → Served t s 3 p (pos 0) c
-      → b ≡ againRow s i (rowOf t i) p c (found t .step) → woken ≡ true → finished ≡ false → ReadyAfter t s i b woken finished
 
 -- where the step's own call waits, if it does: the state, and the place
 pub data OwnWait (s : Step) : ℕ → ℕ → Type 0 where

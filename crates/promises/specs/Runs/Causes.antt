@@ -25,9 +25,8 @@ use Rattle.promises.specs.Runs.Sleepers.{not-side}
 pub sleeper-why : {t : Tables} {s : Step} {i : ℕ} {b : Thread} {w f : Bool} → rowOf t i .state ≢ 0 → SleeperAfter t s i b w f
     → WhyAfter t s i (whyOf b) w
 sleeper-why n (SleeperAfter.on u e p q) = WhyAfter.same p (ap whyOf e)
-sleeper-why n (SleeperAfter.ready m c by l g e p q) = WhyAfter.woke p (Wakes.slept n by) (ap whyOf e)
+sleeper-why n (SleeperAfter.ready m c by e p q) = WhyAfter.woke p (Wakes.slept n by) (ap whyOf e)
 sleeper-why n (SleeperAfter.done m x c d f by h e p q) = WhyAfter.woke p (Wakes.slept n by) (ap whyOf e)
-sleeper-why n (SleeperAfter.again c g by e p q) = WhyAfter.woke p (Wakes.slept n by) (ap whyOf e)
 
 -- a call without a kind has no side
 no-side : {c : Call} {q : ℕ} → c .kind ≡ 0 → SideOf c q → ⊥
@@ -131,7 +130,7 @@ module _ (t : Tables) (s : Step) (i : ℕ) (someone : i ≢ 255) (was-ready : ro
         wakes = served;
         ends-on = λ {r} m d z n e h. ends m d (r .pending) h;
         takes-on = λ z k m h. ends (pos 0) _ _ h;
-        sleeps-on = λ q z g m side h. record { at = λ n. h .again q side; again = h .again; why = h .why };
+        sleeps-on = λ q z g m side u h. record { at = λ n. h .again q side; again = h .again; why = h .why };
       })
 
   pub why-act : KeepsAct t s (Steady t s i someone Acted)

@@ -61,15 +61,13 @@ module _ (t : Tables) (s : Step) (i : ℕ) (apart : s .caller ≢ i) where
   ready-flags z (ReadyAfter.ready-again pl c side m by e p q) = unfinished (ap (λ (u : Thread). u .pending) e) q
   ready-flags z {b} {w} {f} (ReadyAfter.done-again pl c x d side m by h e p q) =
       FlagsAfter.stays (no-wait (λ k. not-side k (λ y. omega arith) (λ y. omega arith) (λ y. omega arith) side) f) (ap (λ (u : Thread). u .pending) e)
-  ready-flags z (ReadyAfter.slept-again pl c side m by e p q) = unfinished (ap (λ (u : Thread). u .pending) e) q
 
   -- and of whom slept
   pub sleeper-flags : {b : Thread} {w f : Bool} → SleeperAfter t s i b w f → FlagsAfter t s i b f
   sleeper-flags (SleeperAfter.on u e p q) = unfinished (ap (λ (u : Thread). u .pending) e) q
-  sleeper-flags (SleeperAfter.ready m o by l g e p q) = unfinished (ap (λ (u : Thread). u .pending) e) q
+  sleeper-flags (SleeperAfter.ready m o by e p q) = unfinished (ap (λ (u : Thread). u .pending) e) q
   sleeper-flags {b} {w} {f} (SleeperAfter.done m x o d g by h e p q) =
       answered b f m q (λ k. GoesOn.wakes apart k by) h (ap (λ (u : Thread). u .pending) e) (ap (λ (u : Thread). u .answer) e)
-  sleeper-flags (SleeperAfter.again o g by e p q) = unfinished (ap (λ (u : Thread). u .pending) e) q
 
 -- ---- the caller
 
@@ -188,7 +186,7 @@ module _ (t : Tables) (s : Step) (someone : s .caller ≢ 255) (was-ready : rowO
         wakes = λ m o n c h. wakes m o (found t .step) (CalledOut.served c) h;
         ends-on = λ m d z n g h. ends-on m d z n h;
         takes-on = λ z k m h. absurd (no-takes z k h);
-        sleeps-on = λ q z g m side h. sleeps-on q g h;
+        sleeps-on = λ q z g m side u h. sleeps-on q g h;
       })
       (record {
         wakes = λ m o n c h. wakes m o (found t .step) c h;

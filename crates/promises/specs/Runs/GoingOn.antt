@@ -6,18 +6,17 @@ use mathlib.Core.Path.{_≡_, refl, sym, ap, _∙_, subst}
 use mathlib.Core.Logic.{_≢_, _⊎_, inl, inr}
 use mathlib.Core.List.{List}
 use mathlib.Core.Bool.{true, false}
-use lib.Dec.{eqb}
 use lib.IntN.{ℤ, pos, negsuc}
 use borrow.Author.Tests.{eqb-true, eq-eqb, ne-eqb}
 use Rattle.kernel.specs.declared.clock.Clock.{Clock}
 use Rattle.kernel.specs.declared.time.SystemTime.{SystemTime}
 use Rattle.kernel.specs.declared.records.Call.{Call}
 use Rattle.kernel.specs.declared.records.Thread.{Thread}
-use Rattle.kernel.proofs.Cases.{split, same-or, contrary}
+use Rattle.kernel.proofs.Cases.{same-or, contrary}
 use Rattle.library.specs.declared.calls.Step.{Step}
 use Rattle.library.specs.declared.tables.Tables.{Tables}
 use Rattle.steps.specs.Stepping.{stepped}
-use Rattle.promises.specs.Paper.World.{World, found, counterTo, boxTo, poolTo, threadTo, readyWith, madeReady, callEnded, ended, asleep, fallAsleep, kept, First, Running}
+use Rattle.promises.specs.Paper.World.{World, found, counterTo, boxTo, poolTo, threadTo, readyWith, madeReady, ended, asleep, fallAsleep, kept, First, Running}
 use Rattle.promises.specs.Paper.Host.{Host}
 use Rattle.promises.specs.Paper.Rows.{
   TickOf,
@@ -38,8 +37,9 @@ use Rattle.promises.specs.Paper.Step.{StepOf}
 use Rattle.promises.specs.Paper.Waking.{rowOf, inMask}
 use Rattle.promises.specs.Paper.Flags.{awaitsFlags}
 use Rattle.promises.specs.Runs.Keeping.{put-same, put-other, put-part, KeepsAct, act-keeps}
-use Rattle.promises.specs.Runs.OneRow.{ended-other, ended-unfinished, ended-own, took-other, took-unfinished}
-use Rattle.promises.specs.Runs.OneStep.{bit-in, unbroken, caller-first, held, someone}
+use Rattle.promises.specs.Runs.OneRow.{ended-other, ended-unfinished, ended-own, ended-state, took-other, took-unfinished}
+use Rattle.promises.specs.Runs.Accepted.{unbroken, caller-first, held, someone}
+use Rattle.promises.specs.Runs.OneStep.{bit-in}
 use Rattle.promises.specs.Meant.Only.{first-only, running-only}
 use Rattle.promises.specs.Meant.Step.{step-is}
 
@@ -53,10 +53,6 @@ settled-there {x} {w} i (Settles.goes j g n v c l) f z =
 pub first-stays : (w x : World) (i : ℕ) → x .sizes ≡ w .sizes → ((j : ℕ) → x .thread j .state ≡ w .thread j .state) → First w i → First x i
 first-stays w x i z h f =
     record { thread = rw z (f .thread); is-ready = h i ∙ f .is-ready; first = λ j l e. f .first j l (sym (h j) ∙ e) }
-
--- a call that ends leaves all states
-pub ended-state : (w : World) (i : ℕ) (m : ℤ) (d j : ℕ) → ended w i m d .thread j .state ≡ w .thread j .state
-ended-state w i m d j = split (eqb i 255) (λ e. rw e) (λ e. rw e (put-part (λ (v : Thread). v .state) (w .thread) i (callEnded (w .thread i) m d) refl j))
 
 module _ (i : ℕ) (someone : i ≢ 255) where
   -- who was first, and whose call ended, is first and has none

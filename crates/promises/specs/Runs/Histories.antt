@@ -49,7 +49,8 @@ use Rattle.promises.specs.Meant.Step.{settled-turns, settles-so, result-
 use Rattle.promises.specs.Runs.Answers.{step-done}
 use Rattle.promises.specs.Runs.Keeping.{put-same, put-other}
 use Rattle.promises.specs.Runs.Pipes.{length-listed}
-use Rattle.promises.specs.Runs.OneStep.{bit-in, accepted, unbroken, together, caller-first, pool-there, act}
+use Rattle.promises.specs.Runs.Accepted.{accepted, unbroken, together, caller-first, pool-there, act}
+use Rattle.promises.specs.Runs.OneStep.{bit-in}
 use Rattle.promises.specs.Runs.Moments.{host, going-on}
 use Rattle.promises.specs.Runs.Accounts.{not-zero}
 use Rattle.promises.specs.Runs.Dealing.{those-append, Dealt, dealt-still, dealt-none, dealt-as, dealt-both, dealt-reset, dealt-freed, dealt-added}

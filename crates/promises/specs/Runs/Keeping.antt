@@ -5,7 +5,7 @@ use Prim.Native.Nat.{ℕ, zero, suc, _+_, _-_, _%_, _<_}
 use native.Mathlib.Omega.{arith}
 use mathlib.Core.Path.{_≡_, refl, sym, ap, _∙_, subst}
 use mathlib.Core.Logic.{_≢_, _⊎_, inl, inr}
-use mathlib.Core.Bool.{Bool}
+use mathlib.Core.Bool.{Bool, false}
 use lib.Bits.{bitAnd}
 use lib.IntN.{ℤ, pos, negsuc}
 use borrow.Author.Tests.{eq-eqb, ne-eqb}
@@ -87,7 +87,8 @@ pub record Moves (t : Tables) (s : Step) (C : ℕ → ℕ → ℤ → ℕ → Ty
   pub wakes : (w : World) (j : ℕ) (m : ℤ) (c : ℕ) → w .thread j .state ≢ 0 → C (w .thread j .state) (w .thread j .place) m c → P w
       → P (madeReady w j m c)
 
--- and by each that a continued call makes, which wakes others only where it serves: thread r's call ends, takes flags or sleeps again
+-- and by each that a continued call makes, which wakes others only where it serves: thread r's call ends, takes flags or
+-- sleeps again, if it was not woken in this step
 pub record KeepsOn (t : Tables) (s : Step) (P : World → Type 0) : Type 0 where
   pub moves : Moves t s (Served t s) P
   pub ends-on : (w : World) (r : ℕ) (m : ℤ) (d : ℕ) → r < t .sizes .threads → w .thread r .state ≡ 0 → w .thread r .call .kind ≢ 0
@@ -95,7 +96,7 @@ pub record KeepsOn (t : Tables) (s : Step) (P : World → Type 0) : Type 0 where
   pub takes-on : (w : World) (r : ℕ) → r < t .sizes .threads → w .thread r .state ≡ 0 → w .thread r .call .kind ≡ 14
       → w .thread r .message ≡ pos 0 → P w → P (tookFlags w r (w .thread r .call .operand))
   pub sleeps-on : (w : World) (r q : ℕ) → r < t .sizes .threads → w .thread r .state ≡ 0 → IsMailing (w .thread r .call .kind)
-      → w .thread r .message ≡ pos 0 → SideOf (w .thread r .call) q → P w → P (fallAsleep w r 3 q (w .thread r .call))
+      → w .thread r .message ≡ pos 0 → SideOf (w .thread r .call) q → w .woken r ≡ false → P w → P (fallAsleep w r 3 q (w .thread r .call))
 
 -- the flags that the step's own event wait finds
 abbrev pub ownFlags : Tables → Step → ℕ
@@ -135,7 +136,7 @@ both-on t s P Q k l =
       };
       ends-on = λ w r m d g z n e h. (k .ends-on w r m d g z n e (h .0), l .ends-on w r m d g z n e (h .1));
       takes-on = λ w r g z e m h. (k .takes-on w r g z e m (h .0), l .takes-on w r g z e m (h .1));
-      sleeps-on = λ w r q g z b m e h. (k .sleeps-on w r q g z b m e (h .0), l .sleeps-on w r q g z b m e (h .1));
+      sleeps-on = λ w r q g z b m e u h. (k .sleeps-on w r q g z b m e u (h .0), l .sleeps-on w r q g z b m e u (h .1));
     }
 
 module _ (t : Tables) (s : Step) (P : World → Type 0) {C : ℕ → ℕ → ℤ → ℕ → Type 0} (k : Moves t s C P) where
@@ -178,42 +179,46 @@ module _ (t : Tables) (s : Step) (P : World → Type 0) (k : KeepsOn t s P) wher
     ends-at : (v : World) (m : ℤ) (d : ℕ) → v .thread r ≡ w .thread r → Ends (w .thread r) m d → P v → P (ended v r m d)
     ends-at v m d e h = k .ends-on v r m d thread (rw e is-ready) (rw e call) (rw e h)
 
-    sleeps-at : (q : ℕ) → IsMailing (c .kind) → w .thread r .message ≡ pos 0 → SideOf c q → {x : World} → Waits w r 3 q c x → P w → P x
-    sleeps-at q b m side (Waits.now a e) g = absurd (timed a)
-    sleeps-at q b m side (Waits.later a e) g = to t s P (k .moves) e (k .sleeps-on w r q thread is-ready b m side g)
+    -- it sleeps again: so it was not woken in this step
+    sleeps-at : (q : ℕ) → IsMailing (c .kind) → w .thread r .message ≡ pos 0 → SideOf c q → {x : World} → Waits w r 3 q c x
+        → (x .thread r .state ≢ 0 → w .woken r ≡ false) → P w → P x
+    sleeps-at q b m side (Waits.now a e) u g = absurd (timed a)
+    sleeps-at q b m side {x} (Waits.later a e) u g =
+        let sleeps : x .thread r .state ≡ 3 = ap (λ (y : World). y .thread r .state) e ∙ ap (λ (y : Thread). y .state) (put-same (w .thread) r _) in
+        to t s P (k .moves) e (k .sleeps-on w r q thread is-ready b m side (u (queued-asleep sleeps)) g)
 
-    on-post : {x : World} → IsPost (c .kind) → w .thread r .message ≡ pos 0 → Post w r c x → P w → P x
-    on-post p m (Post.in-reset a e) g = to t s P (k .moves) e (ends-at w (negsuc 1) 0 refl (Ends.in-reset (inl p) m) g)
-    on-post p m (Post.behind a l b v h e) g =
+    on-post : {x : World} → IsPost (c .kind) → w .thread r .message ≡ pos 0 → Post w r c x → (x .thread r .state ≢ 0 → w .woken r ≡ false) → P w → P x
+    on-post p m (Post.in-reset a e) u g = to t s P (k .moves) e (ends-at w (negsuc 1) 0 refl (Ends.in-reset (inl p) m) g)
+    on-post p m (Post.behind a l b v h e) u g =
         to t s P (k .moves) e
         (ends-at (boxTo v (c .object) _) (pos 0) 0 (released-row h) (Ends.posted p m)
         (k .moves .box v (c .object) _
         (release-keeps t s P (k .moves) (32 + c .object) (pos 0) 5 h (λ st pl x y. Served.post (c .object) (λ z. shut z a) (posts t s P (k .moves) c tried (inl p) p) x y) g)))
-    on-post p m (Post.ahead a l b v h e) g =
+    on-post p m (Post.ahead a l b v h e) u g =
         to t s P (k .moves) e
         (ends-at (boxTo v (c .object) _) (pos 0) 0 (released-row h) (Ends.posted p m)
         (k .moves .box v (c .object) _
         (release-keeps t s P (k .moves) (32 + c .object) (pos 0) 5 h (λ st pl x y. Served.post (c .object) (λ z. shut z a) (posts t s P (k .moves) c tried (inl p) p) x y) g)))
-    on-post p m (Post.no-room a l h) g = sleeps-at (28 + c .object) (inl p) m (SideOf.writers p) h g
+    on-post p m (Post.no-room a l h) u g = sleeps-at (28 + c .object) (inl p) m (SideOf.writers p) h u g
 
-    on-fetch : {x : World} → c .kind ≡ 17 → w .thread r .message ≡ pos 0 → Fetch w r c x → P w → P x
-    on-fetch p m (Fetch.in-reset a e) g = to t s P (k .moves) e (ends-at w (negsuc 1) 0 refl (Ends.in-reset (inr p) m) g)
-    on-fetch p m (Fetch.message a l v h e) g =
+    on-fetch : {x : World} → c .kind ≡ 17 → w .thread r .message ≡ pos 0 → Fetch w r c x → (x .thread r .state ≢ 0 → w .woken r ≡ false) → P w → P x
+    on-fetch p m (Fetch.in-reset a e) u g = to t s P (k .moves) e (ends-at w (negsuc 1) 0 refl (Ends.in-reset (inr p) m) g)
+    on-fetch p m (Fetch.message a l v h e) u g =
         to t s P (k .moves) e
         (ends-at (boxTo v (c .object) _) (pos 0) _ (released-row h) (Ends.fetched p m _)
         (k .moves .box v (c .object) _
         (release-keeps t s P (k .moves) (28 + c .object) (pos 0) 6 h
         (λ st pl x y. Served.fetch (c .object) (λ z. shut z a) (subst (λ (n : ℕ). Tried t s n (c .object)) p (tried (inr p))) x y) g)))
-    on-fetch p m (Fetch.no-message a l h) g = sleeps-at (32 + c .object) (inr p) m (SideOf.readers p) h g
+    on-fetch p m (Fetch.no-message a l h) u g = sleeps-at (32 + c .object) (inr p) m (SideOf.readers p) h u g
 
     -- EACH CONTINUED CALL KEEPS IT
-    pub continue-keeps : {x : World} → Continued w r x → P w → P x
-    continue-keeps (Continued.flags p m e) g = to t s P (k .moves) e (k .takes-on w r thread is-ready p m g)
-    continue-keeps (Continued.posts p m h) g = on-post p m h g
-    continue-keeps (Continued.fetches p m h) g = on-fetch p m h g
-    continue-keeps (Continued.takes p m e) g =
+    pub continue-keeps : {x : World} → Continued w r x → (x .thread r .state ≢ 0 → w .woken r ≡ false) → P w → P x
+    continue-keeps (Continued.flags p m e) u g = to t s P (k .moves) e (k .takes-on w r thread is-ready p m g)
+    continue-keeps (Continued.posts p m h) u g = on-post p m h u g
+    continue-keeps (Continued.fetches p m h) u g = on-fetch p m h u g
+    continue-keeps (Continued.takes p m e) u g =
         to t s P (k .moves) e (ends-at (poolTo w (c .object) _) (pos 0) _ refl (Ends.object p m _ (top p m)) (k .moves .pool w (c .object) _ g))
-    continue-keeps (Continued.answers h e) g = to t s P (k .moves) e (ends-at w (w .thread r .message) 0 refl (Ends.message h) g)
+    continue-keeps (Continued.answers h e) u g = to t s P (k .moves) e (ends-at w (w .thread r .message) 0 refl (Ends.message h) g)
 
 module _ (t : Tables) (s : Step) (P : World → Type 0) (k : KeepsAct t s P) where
   release-all-keeps : {w : World} (p : ℕ) (m : ℤ) (c n : ℕ) {x : World} → ReleaseAll w p m c n x

@@ -81,16 +81,14 @@ timed-left (TicksFit.some x y l u) n m = l
 waking : {t : Tables} {s : Step} {i : ℕ} {b : Thread} {w f : Bool} → SleeperAfter t s i b w f → w ≡ true
     → WokenBy t s i (rowOf t i) (b .message) (b .cause)
 waking (SleeperAfter.on u e x y) z = contrary z x
-waking {t} {s} {i} (SleeperAfter.ready m o b l g e x y) z = rw e b
+waking {t} {s} {i} (SleeperAfter.ready m o b e x y) z = rw e b
 waking {t} {s} {i} (SleeperAfter.done m u o d f b g e x y) z = rw e b
-waking {t} {s} {i} (SleeperAfter.again o g b e x y) z = rw e b
 
 -- and what goes on of one that is not
 sleeping : {t : Tables} {s : Step} {i : ℕ} {b : Thread} {w f : Bool} → SleeperAfter t s i b w f → w ≡ false → b ≡ sleptOn s i (rowOf t i)
 sleeping (SleeperAfter.on u e x y) z = e
-sleeping (SleeperAfter.ready m o b l g e x y) z = contrary x z
+sleeping (SleeperAfter.ready m o b e x y) z = contrary x z
 sleeping (SleeperAfter.done m u o d f b g e x y) z = contrary x z
-sleeping (SleeperAfter.again o g b e x y) z = contrary x z
 
 module _ (t : Tables) (c : Clock) (g : Going t c) (s : Step) (h : HostStep s) where
   -- after an accepted step that does not wake it, a timed sleeper has as many ticks left as before, less this one

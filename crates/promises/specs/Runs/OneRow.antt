@@ -14,10 +14,10 @@ use Rattle.kernel.specs.declared.records.Thread.{Thread}
 use Rattle.kernel.proofs.Cases.{split, same-or}
 use Rattle.library.specs.declared.calls.Step.{Step}
 use Rattle.library.specs.declared.tables.Tables.{Tables}
-use Rattle.promises.specs.Paper.World.{World, found, threadTo, readyWith, madeReady, callEnded, ended, asleep, fallAsleep}
+use Rattle.promises.specs.Paper.World.{World, found, put, threadTo, readyWith, madeReady, callEnded, ended, asleep, fallAsleep}
 use Rattle.promises.specs.Paper.Rows.{TickOf, Ticks, pendingTo, tookFlags, EventSignal}
 use Rattle.promises.specs.Paper.Waking.{rowOf, IsMailing, Served, CalledOut, OwnWait, SideOf}
-use Rattle.promises.specs.Runs.Keeping.{put-same, put-other, Ends, ownFlags, OwnEnd, Moves, KeepsOn, KeepsAct, Keeps}
+use Rattle.promises.specs.Runs.Keeping.{put-same, put-other, put-part, Ends, ownFlags, OwnEnd, Moves, KeepsOn, KeepsAct, Keeps}
 
 -- a call that ends touches no record but its own
 module _ (w : World) (j : ℕ) (m : ℤ) (d : ℕ) where
@@ -32,6 +32,18 @@ module _ (w : World) (j : ℕ) (m : ℤ) (d : ℕ) where
 
   pub ended-finished : j ≢ 255 → ended w j m d .finished j ≡ true
   ended-finished n = rw (ne-eqb j 255 n, eq-eqb j j refl)
+
+  -- nor a state
+  pub ended-state : (i : ℕ) → ended w j m d .thread i .state ≡ w .thread i .state
+  ended-state i = split (eqb j 255) (λ e. rw e) (λ e. rw e (put-part (λ (v : Thread). v .state) (w .thread) j (callEnded (w .thread j) m d) refl i))
+
+  -- whatever holds of its own record then, and held of this one, holds of it
+  pub ended-row : (P : Thread → Type 0) (i : ℕ) → P (callEnded (w .thread j) m d) → P (w .thread i) → P (ended w j m d .thread i)
+  ended-row P i own was =
+      split (eqb j 255) (λ e. rw e was)
+      (λ e. rw e
+      (same-or i j (λ z. subst (λ (k : ℕ). P (put (w .thread) j (callEnded (w .thread j) m d) k)) (sym z) (subst P (sym (put-same (w .thread) j _)) own))
+      (λ n. subst P (sym (put-other (w .thread) j i _ n)) was)))
 
 -- a record whose pending flags in a mask were taken
 abbrev pub flagsTaken : Thread → ℕ → Thread
@@ -117,7 +129,7 @@ module _ (t : Tables) (s : Step) (i : ℕ) (someone : i ≢ 255) (P : Thread →
     pub takes-on : {r : Thread} {w f : Bool} → r .state ≡ 0 → r .call .kind ≡ 14 → r .message ≡ pos 0 → P r w f
         → P (flagsTaken r (r .call .operand)) w true
     pub sleeps-on : {r : Thread} {w f : Bool} (q : ℕ) → r .state ≡ 0 → IsMailing (r .call .kind) → r .message ≡ pos 0 → SideOf (r .call) q
-        → P r w f → P (asleep r 3 q (r .call)) w f
+        → w ≡ false → P r w f → P (asleep r 3 q (r .call)) w f
 
   -- and of the step's own act; three of them if it is the caller
   pub record RowAct : Type 0 where
@@ -185,13 +197,13 @@ module _ (t : Tables) (s : Step) (i : ℕ) (someone : i ≢ 255) (P : Thread →
               (own-took w (w .thread i .call .operand) (k .takes-on (rw e z) (rw e g) (rw e m) (h .1))))
               (λ x. took-stays w r x (w .thread r .call .operand) (h .1)),
         );
-        sleeps-on = λ w r q l z g m side h. (
+        sleeps-on = λ w r q l z g m side u h. (
           h .0,
           same-or i r
               (λ e. subst (λ (j : ℕ). Stands (fallAsleep w j 3 q (w .thread j .call))) e
               (own-asleep w 3 q (w .thread i .call)
               (k .sleeps-on q (rw e z) (subst (λ (j : ℕ). IsMailing (w .thread j .call .kind)) (sym e) g) (rw e m)
-              (subst (λ (j : ℕ). SideOf (w .thread j .call) q) (sym e) side) (h .1))))
+              (subst (λ (j : ℕ). SideOf (w .thread j .call) q) (sym e) side) (rw e u) (h .1))))
               (λ d. sleep-stays w r d 3 q (w .thread r .call) (h .1)),
         );
       }
@@ -245,7 +257,7 @@ step-kept t s =
         moves = moves _;
         ends-on = λ w r m d l z n g h. h;
         takes-on = λ w r l z g m h. h;
-        sleeps-on = λ w r q l z g m side h. h;
+        sleeps-on = λ w r q l z g m side u h. h;
       };
     }
   where

@@ -1,37 +1,35 @@
 -- One accepted step, of any thread: what it makes of one that slept before it, of one that was ready, and of the flags of each.
-use Prim.Native.Nat.{ℕ, _-_, _/_, _%_, _^_, _≤_, _<_}
+use Prim.Native.Nat.{ℕ, _-_, _/_, _%_, _^_, _<_}
 use native.Mathlib.Omega.{arith}
-use mathlib.Core.Path.{_≡_, refl, sym, _∙_, subst}
-use mathlib.Core.Logic.{_≢_, inl, inr}
+use mathlib.Core.Path.{_≡_, refl, sym, subst}
+use mathlib.Core.Logic.{_≢_}
 use mathlib.Core.Bool.{Bool, true, false, cond}
 use lib.IntN.{pos}
 use borrow.Author.Tests.{eq-eqb, ne-eqb}
 use Rattle.kernel.specs.declared.clock.Clock.{Clock}
 use Rattle.kernel.specs.declared.records.Thread.{Thread}
 use Rattle.kernel.specs.Tables.{threadAt}
-use Rattle.kernel.proofs.Cases.{same-or, in-or-out}
+use Rattle.kernel.proofs.Cases.{same-or}
 use Rattle.library.specs.declared.calls.Step.{Step}
 use Rattle.library.specs.declared.tables.Plant.{Plant}
 use Rattle.library.specs.declared.tables.Tables.{Tables}
 use Rattle.library.specs.Acting.{acted}
-use Rattle.library.specs.Tables.{opened}
 use Rattle.steps.specs.declared.stepping.Stepped.{Stepped}
-use Rattle.steps.specs.Refusal.{refusalOf}
 use Rattle.steps.specs.Stepping.{budgetOf, outcomeOf, doneWith, started, stepped}
-use Rattle.steps.proofs.StepLaws.{step-code}
 use Rattle.promises.specs.Paper.World.{World, risen, found, First}
 use Rattle.promises.specs.Paper.Host.{Host}
 use Rattle.promises.specs.Paper.Rows.{topIn, Act}
 use Rattle.promises.specs.Paper.Settling.{Continued}
-use Rattle.promises.specs.Paper.Together.{WaitFits, TicksFit, ThreadFits, HangTogether}
-use Rattle.promises.specs.Paper.Refusals.{Broken}
+use Rattle.promises.specs.Paper.Together.{WaitFits, TicksFit, ThreadFits}
 use Rattle.promises.specs.Paper.Waking.{rowOf, inMask, SleeperAfter, ReadyAfter, WakerAfter}
 use Rattle.promises.specs.Paper.Flags.{FlagsAfter}
 use Rattle.promises.specs.Paper.Causes.{whyOf, WhyAfter}
-use Rattle.promises.specs.Kept.Accepting.{refusal-none}
 use Rattle.promises.specs.Kept.Whole.{Whole}
 use Rattle.promises.specs.Runs.Answers.{step-done}
-use Rattle.promises.specs.Runs.Keeping.{KeepsOn, KeepsAct, Keeps, both-on, act-keeps, continue-keeps}
+use Rattle.promises.specs.Runs.Accepted.{accepted, together, caller-first, x₀, act, acts, someone, fits, apart}
+use Rattle.promises.specs.Runs.Turns.{Fair, fair-on}
+use Rattle.promises.specs.Runs.FirstTurn.{mails-good, act-fair}
+use Rattle.promises.specs.Runs.Keeping.{KeepsOn, KeepsAct, Keeps, both-on, continue-keeps}
 use Rattle.promises.specs.Runs.Tried.{Kept, kept-keeps}
 use Rattle.promises.specs.Runs.Closed.{Closed, closed-act, closed-on}
 use Rattle.promises.specs.Runs.OneRow.{Steady, RowOn, row-on, step-kept}
@@ -40,14 +38,10 @@ use Rattle.promises.specs.Runs.Wakers.{calm-keeps, calm-after}
 use Rattle.promises.specs.Runs.Ready.{ready-act, acted-after, ready-on}
 use Rattle.promises.specs.Runs.Causes.{sleeper-why, why-on, why-act}
 use Rattle.promises.specs.Runs.Flags.{ready-flags, sleeper-flags, flags-keep, caller-flags}
-use Rattle.promises.specs.Meant.Together.{rules-together}
-use Rattle.promises.specs.Meant.Callers.{caller-runs}
 use Rattle.promises.specs.Meant.Pools.{promise-stocked}
-use Rattle.promises.specs.Meant.Refusals.{first-broken}
 use Rattle.promises.specs.Meant.Moves.{worldOf}
 use Rattle.promises.specs.Meant.Calls.{good}
-use Rattle.promises.specs.Meant.Rows.{act-is}
-use Rattle.promises.specs.Meant.Step.{settled-keeps, result-is, h, hangs, begun-whole, acted-whole, settled-whole, own}
+use Rattle.promises.specs.Meant.Step.{settled-keeps, result-is, h, acted-whole, settled-whole, own}
 
 -- a bit of a mask is its test
 pub bit-in : (mask : ℕ) (i : ℕ) (b : Bool) → mask / 2 ^ i % 2 ≡ cond b 1 0 → inMask i mask ≡ b
@@ -70,96 +64,55 @@ module _ (p : Plant) (w : Whole (p .sizes) p) (r : ℕ) (f : First (worldOf p) r
 
 -- WHAT EACH MOVE KEEPS, AN ACCEPTED STEP KEEPS
 module _ (t : Tables) (c : Clock) (s : Step) (host : Host t c s) (e : stepped t c s .outcome .code ≡ 0) where
-  pub accepted : refusalOf (opened t) c s ≡ 0
-  accepted = sym (step-code t c s) ∙ e
-
-  pub unbroken : (m : ℕ) → Broken t c s m → ⊥
-  unbroken = first-broken t c s (host .tables .threads) (host .step .object) .none accepted
-
-  -- its tables hang together
-  pub together : HangTogether (found t) (t .kernel .words) c
-  together = rules-together t c (hangs t c s host accepted .together)
-
-  -- a calling thread is the one that runs
-  pub caller-first : s .caller ≢ 255 → First (found t) (s .caller)
-  caller-first z =
-      elim (caller-runs (opened t) c s (refusal-none (opened t) c s accepted)) [
-        | inl x ↦ absurd (z x)
-        | inr f ↦ record { thread = f .thread; is-ready = f .is-ready; first = f .first }
-      ]
-
-  -- the object that it names is there
-  pub semaphore-there : 2 ≤ s .kind → s .kind ≤ 5 → s .object < t .sizes .semaphores
-  semaphore-there a b = in-or-out (s .object) (t .sizes .semaphores) (λ l. l) (λ l. absurd (unbroken 5 (Broken.semaphore a b l)))
-
-  pub queue-there : 6 ≤ s .kind → s .kind ≤ 8 → s .object < t .sizes .queues
-  queue-there a b = in-or-out (s .object) (t .sizes .queues) (λ l. l) (λ l. absurd (unbroken 5 (Broken.queue a b l)))
-
-  pub mailbox-there : 15 ≤ s .kind → s .kind ≤ 19 → s .object < t .sizes .mailboxes
-  mailbox-there a b = in-or-out (s .object) (t .sizes .mailboxes) (λ l. l) (λ l. absurd (unbroken 5 (Broken.mailbox a b l)))
-
-  pub pool-there : 20 ≤ s .kind → s .kind ≤ 22 → s .object < t .sizes .pools
-  pool-there a b = in-or-out (s .object) (t .sizes .pools) (λ l. l) (λ l. absurd (unbroken 5 (Broken.pool a b l)))
-
-  -- whom a reference holds is suspended on it
-  pub held : (i : ℕ) → s .kind ≡ 10 → found t .holder (s .object) ≡ i → i ≢ 255
-      → (found t .thread i .state ≡ 2) × (found t .thread i .place ≡ s .object)
-  held i k x d =
-      let there : s .object < t .sizes .references = in-use in
-      elim (together .holder (s .object) there) [
-        | inl a ↦ absurd (d (sym x ∙ a))
-        | inr a ↦ together .holds (s .object) there i (rw x at a) .0 x
-      ]
-    where
-      in-use : s .object < t .sizes .references
-      in-use =
-          in-or-out (s .object) (t .sizes .references) (λ l. l)
-          (λ l. absurd (unbroken 5 (Broken.reference (omega (arith, k)) (omega (arith, k)) l)))
-
   -- the tables after the step's own act
-  abbrev pub x₀ : World
-  x₀ = worldOf (acted (started t s) (c .time) s)
+  abbrev begun : World
+  begun = x₀ t c s host e
 
-  pub act : Act t (c .time) s x₀ (s .kind)
-  act = act-is t c s (begun-whole t c s host accepted) (host .step .operand) accepted
+  kept-act : Kept t s begun
+  kept-act = acts t c s host e (Kept t s) (kept-keeps t s .act)
 
-  kept-act : Kept t s x₀
-  kept-act = act-keeps t s (Kept t s) (kept-keeps t s .act) (c .time) held refl act
-
-  -- what each continued call keeps, settling keeps
-  pub settle-keeps : (P : World → Type 0) → KeepsOn t s P → P x₀ → P (worldOf (h t c s host))
-  settle-keeps P k q =
-      settled-keeps Q continues (budgetOf (t .sizes .threads)) (acted (started t s) (c .time) s)
-      (own t c s host accepted (acted-whole t c s host accepted)) (closed, (kept-act, q)) .1 .1
+  -- what each continued call keeps, settling keeps; and whoever it has woken stays awake
+  settles : (P : World → Type 0) → KeepsOn t s P → P begun → Fair (t .sizes .threads) (worldOf (h t c s host)) × P (worldOf (h t c s host))
+  settles P k q = (all .0, all .2 .1)
     where
       R : World → Type 0
       R w = Kept t s w × P w
 
       Q : World → Type 0
-      Q w = Closed s w × R w
+      Q w = Fair (t .sizes .threads) w × Closed s w × R w
 
-      closed : Closed s x₀
-      closed k = closed-act (subst (Act t (c .time) s x₀) k act)
+      closed : Closed s begun
+      closed k = closed-act (subst (Act t (c .time) s begun) k (act t c s host e))
 
       continues : (p : Plant) → Whole (p .sizes) p → (i : ℕ) → First (worldOf p) i → threadAt (p .kernel) i .call .kind ≢ 0 → (x : World)
           → Continued (worldOf p) i x → Q (worldOf p) → Q x
       continues p w i f call x h q =
-          let within : i < t .sizes .threads = rw (q .1 .0 .sizes) at (f .thread) in (
-            λ k. closed-on (s .object) h (q .0 k),
+          let within : i < t .sizes .threads = rw (q .2 .0 .sizes) at (f .thread) in
+          let fair = fair-on (t .sizes .threads) (worldOf p) i within (mails-good p (good p w)) f call (q .0) h in (
+            fair .0,
+            λ k. closed-on (s .object) h (q .1 k),
             continue-keeps t s R (both-on t s (Kept t s) P (kept-keeps t s .on) k) (worldOf p) i within (f .is-ready) call (timed p w i f call)
-                (q .1 .0 .tried i within) (top-object p w i f call) (λ k a e. q .0 k (subst (λ (o : ℕ). worldOf p .box o .reset ≡ 0) e a)) h (q .1),
+                (q .2 .0 .tried i within) (top-object p w i f call) (λ k a e. q .1 k (subst (λ (o : ℕ). worldOf p .box o .reset ≡ 0) e a)) h (fair .1) (q .2),
           )
+
+      all : Q (worldOf (h t c s host))
+      all =
+          settled-keeps Q continues (budgetOf (t .sizes .threads)) (acted (started t s) (c .time) s)
+          (own t c s host (accepted t c s host e) (acted-whole t c s host (accepted t c s host e))) (act-fair t c s host e, closed, (kept-act, q))
+
+  pub settle-keeps : (P : World → Type 0) → KeepsOn t s P → P begun → P (worldOf (h t c s host))
+  settle-keeps P k q = settles P k q .1
 
   -- what the act leaves, and settling keeps
   act-settles : (P Q : World → Type 0) → KeepsAct t s P → ((w : World) → P w → Q w) → KeepsOn t s Q → Q (worldOf (h t c s host))
-  act-settles P Q a f k = settle-keeps Q k (f x₀ (act-keeps t s P a (c .time) held refl act))
+  act-settles P Q a f k = settle-keeps Q k (f begun (acts t c s host e P a))
 
   step-keeps : (P : World → Type 0) → Keeps t s P → P (worldOf (h t c s host))
   step-keeps P k = act-settles P P (k .act) (λ w q. q) (k .on)
 
   -- the act leaves the step's number
-  pub act-step : x₀ .step ≡ found t .step
-  act-step = act-keeps t s (λ w. w .step ≡ found t .step) (step-kept t s .act) (c .time) held refl act
+  pub act-step : begun .step ≡ found t .step
+  act-step = acts t c s host e (λ w. w .step ≡ found t .step) (step-kept t s .act)
 
   -- "The step number .. rises by 1 at the start of each accepted step"
   pub steps-after : stepped t c s .tables .kernel .steps ≡ risen (t .kernel .steps)
@@ -175,17 +128,17 @@ module _ (t : Tables) (c : Clock) (s : Step) (host : Host t c s) (e : stepped t 
       subst (λ (q : Stepped). q .tables .sizes ≡ t .sizes) (sym (step-done t c s e)) (step-keeps (Kept t s) (kept-keeps t s) .sizes)
 
   -- what holds of a record after the step's own act, and is kept, holds of it in the tables after the step
-  pub rows-after : (i : ℕ) (P : Thread → Type 0) → KeepsOn t s (λ w. (w .step ≡ found t .step) × P (w .thread i)) → P (x₀ .thread i) → P (rowOf (stepped t c s .tables) i)
+  pub rows-after : (i : ℕ) (P : Thread → Type 0) → KeepsOn t s (λ w. (w .step ≡ found t .step) × P (w .thread i)) → P (begun .thread i) → P (rowOf (stepped t c s .tables) i)
   unfolding doneWith
   rows-after i P k q =
       subst (λ (r : Stepped). P (rowOf (r .tables) i)) (sym (step-done t c s e)) (settle-keeps (λ w. (w .step ≡ found t .step) × P (w .thread i)) k (act-step, q) .1)
 
   -- who was woken by the step's own act is in the mask
-  pub woken-seen : (j : ℕ) → x₀ .woken j ≡ true → inMask j (stepped t c s .outcome .woken) ≡ true
+  pub woken-seen : (j : ℕ) → begun .woken j ≡ true → inMask j (stepped t c s .outcome .woken) ≡ true
   unfolding doneWith outcomeOf
   woken-seen j a =
       let x : World = worldOf (h t c s host) in
-      let r = result-is (h t c s host) (settled-whole t c s host accepted) (s .caller) in
+      let r = result-is (h t c s host) (settled-whole t c s host (accepted t c s host e)) (s .caller) in
       subst (λ (q : Stepped). inMask j (q .outcome .woken) ≡ true) (sym (step-done t c s e))
       (rw (bit-in _ j (x .woken j) (r .woken j)) (settle-keeps (λ w. w .woken j ≡ true) stays a))
     where
@@ -200,7 +153,7 @@ module _ (t : Tables) (c : Clock) (s : Step) (host : Host t c s) (e : stepped t 
             };
             ends-on = λ w r m d l z n g q. q;
             takes-on = λ w r l z g m q. q;
-            sleeps-on = λ w r p l z b m g q. q;
+            sleeps-on = λ w r p l z b m g u q. q;
           }
 
   -- ---- of one thread
@@ -208,19 +161,12 @@ module _ (t : Tables) (c : Clock) (s : Step) (host : Host t c s) (e : stepped t 
   abbrev u : Tables
   u = stepped t c s .tables
 
-  pub few : t .sizes .threads ≤ 16
-  few = hangs t c s host accepted .together .good .sizes .threads .1
-
   module _ (i : ℕ) (within : i < t .sizes .threads) where
-    pub someone : i ≢ 255
-    someone z = omega (arith, z, within, few)
+    abbrev is-thread : i ≢ 255
+    is-thread = someone t c s host e i within
 
-    pub fits : ThreadFits (t .sizes) (rowOf t i)
-    fits = together .threads i within
-
-    -- a thread that sleeps is not the caller, for it does not run
-    apart : rowOf t i .state ≢ 0 → i ≢ s .caller
-    apart n z = n (rw z (caller-first (rw z at someone) .is-ready))
+    its-fit : ThreadFits (t .sizes) (rowOf t i)
+    its-fit = fits t c s host e i within
 
     -- what holds of it where settling has ended, holds of its record in the tables after the step, and of its bits in the result
     told : (P : Thread → Bool → Bool → Type 0) → let x = worldOf (h t c s host) in P (x .thread i) (x .woken i) (x .finished i)
@@ -228,7 +174,7 @@ module _ (t : Tables) (c : Clock) (s : Step) (host : Host t c s) (e : stepped t 
     unfolding doneWith outcomeOf
     told P q =
         let x : World = worldOf (h t c s host) in
-        let r = result-is (h t c s host) (settled-whole t c s host accepted) (s .caller) in
+        let r = result-is (h t c s host) (settled-whole t c s host (accepted t c s host e)) (s .caller) in
         subst (λ (q : Stepped). P (rowOf (q .tables) i) (inMask i (q .outcome .woken)) (inMask i (q .outcome .finished)))
         (sym (step-done t c s e)) (rw (bit-in _ i (x .woken i) (r .woken i), bit-in _ i (x .finished i) (r .finished i)) q)
 
@@ -237,24 +183,19 @@ module _ (t : Tables) (c : Clock) (s : Step) (host : Host t c s) (e : stepped t 
     woken-is = told (λ b w f. w ≡ worldOf (h t c s host) .woken i) refl
 
     -- what the act leaves of its record, and each move of a continued call keeps
-    pub row-told : (P : Thread → Bool → Bool → Type 0) → RowOn t s i someone P → P (x₀ .thread i) (x₀ .woken i) (x₀ .finished i)
+    pub row-told : (P : Thread → Bool → Bool → Type 0) → RowOn t s i is-thread P → P (begun .thread i) (begun .woken i) (begun .finished i)
         → P (rowOf u i) (inMask i (stepped t c s .outcome .woken)) (inMask i (stepped t c s .outcome .finished))
-    row-told P k q = told P (settle-keeps (Steady t s i someone P) (row-on t s i someone P k) (act-step, q) .1)
+    row-told P k q = told P (settle-keeps (Steady t s i is-thread P) (row-on t s i is-thread P k) (act-step, q) .1)
 
     -- a thread that slept
     pub sleeper-after : rowOf t i .state ≢ 0
         → SleeperAfter t s i (rowOf u i) (inMask i (stepped t c s .outcome .woken)) (inMask i (stepped t c s .outcome .finished))
     sleeper-after n =
         told (SleeperAfter t s i)
-        (step-keeps (Steady t s i someone (SleeperAfter t s i)) (life-keeps t s i someone within n (apart n) fits) .1)
-
-    -- and how it stands before settling
-    pub sleeper-acted : rowOf t i .state ≢ 0 → SleeperAfter t s i (x₀ .thread i) (x₀ .woken i) (x₀ .finished i)
-    sleeper-acted n =
-        act-keeps t s (Steady t s i someone (SleeperAfter t s i)) (life-keeps t s i someone within n (apart n) fits .act) (c .time) held refl act .1
+        (step-keeps (Steady t s i is-thread (SleeperAfter t s i)) (life-keeps t s i is-thread within n (apart t c s host e i within n)) .1)
 
     no-ticks : rowOf t i .state ≡ 0 → rowOf t i .remaining ≡ 0
-    no-ticks z = none (fits .ticks)
+    no-ticks z = none (its-fit .ticks)
       where
         none : TicksFit (rowOf t i) → rowOf t i .remaining ≡ 0
         none (TicksFit.none h r) = r
@@ -265,22 +206,22 @@ module _ (t : Tables) (c : Clock) (s : Step) (host : Host t c s) (e : stepped t 
     why-after =
         same-or (rowOf t i .state) 0
         (λ z. told (λ b w f. WhyAfter t s i (whyOf b) w)
-        (act-settles _ _ (why-act t s i someone z (no-ticks z)) (λ w q. (q .0, q .1 .stood)) (why-on t s i someone z (no-ticks z)) .1 .why))
+        (act-settles _ _ (why-act t s i is-thread z (no-ticks z)) (λ w q. (q .0, q .1 .stood)) (why-on t s i is-thread z (no-ticks z)) .1 .why))
         (λ n. sleeper-why n (sleeper-after n))
 
     -- a thread that was ready
     pub waker-after : rowOf t i .state ≡ 0 → WakerAfter t s i (rowOf u i) (inMask i (stepped t c s .outcome .woken))
     waker-after z =
         told (λ b w f. WakerAfter t s i b w)
-        (calm-after t s i someone z (no-ticks z)
-        (step-keeps _ (calm-keeps t s i someone z (no-ticks z)) .1))
+        (calm-after t s i is-thread z (no-ticks z)
+        (step-keeps _ (calm-keeps t s i is-thread z (no-ticks z)) .1))
 
     -- whoever calls has no call to be continued
     no-call : s .caller ≡ i → rowOf t i .call .kind ≡ 0
-    no-call z = together .running i (subst (First (found t)) z (caller-first (rw z someone)))
+    no-call z = together t c s host e .running i (subst (First (found t)) z (caller-first t c s host e (rw z is-thread)))
 
     no-place : rowOf t i .state ≡ 0 → rowOf t i .place ≡ 0
-    no-place z = nowhere (fits .wait)
+    no-place z = nowhere (its-fit .wait)
       where
         nowhere : WaitFits (rowOf t i) → rowOf t i .place ≡ 0
         nowhere (WaitFits.ready e p) = p
@@ -298,9 +239,9 @@ module _ (t : Tables) (c : Clock) (s : Step) (host : Host t c s) (e : stepped t 
         → ReadyAfter t s i (rowOf u i) (inMask i (stepped t c s .outcome .woken)) (inMask i (stepped t c s .outcome .finished))
     ready-after z n =
         told (ReadyAfter t s i)
-        (act-settles _ _ (ready-act t s i someone n z (no-ticks z) (no-place z) (fits .awaited))
-        (acted-after t s i someone n z (no-ticks z) (no-place z) (fits .awaited))
-        (ready-on t s i someone n z (no-ticks z) (no-place z) (fits .awaited)) .1)
+        (act-settles _ _ (ready-act t s i is-thread n z (no-ticks z) (no-place z) (its-fit .awaited))
+        (acted-after t s i is-thread n z (no-ticks z) (no-place z) (its-fit .awaited))
+        (ready-on t s i is-thread n z (no-ticks z) (no-place z) (its-fit .awaited)) .1)
 
     -- a thread that was woken before, and not continued yet
     pub woken-after : rowOf t i .state ≡ 0 → rowOf t i .call .kind ≢ 0
@@ -310,9 +251,9 @@ module _ (t : Tables) (c : Clock) (s : Step) (host : Host t c s) (e : stepped t 
     -- the caller
     own-flags : i ≡ s .caller → FlagsAfter t s i (rowOf u i) (inMask i (stepped t c s .outcome .finished))
     own-flags x =
-        let z = same-or (rowOf t i .state) 0 (λ y. y) (λ n. absurd (apart n x)) in
+        let z = same-or (rowOf t i .state) 0 (λ y. y) (λ n. absurd (apart t c s host e i within n x)) in
         let v : World = worldOf (h t c s host) in
-        let me : s .caller ≢ 255 = rw x at someone in
+        let me : s .caller ≢ 255 = rw x at is-thread in
         let is-ready : rowOf t (s .caller) .state ≡ 0 = rw x at z in
         let ticks : rowOf t (s .caller) .remaining ≡ 0 = rw x at (no-ticks z) in
         let call : rowOf t (s .caller) .call .kind ≡ 0 = rw x at (no-call (sym x)) in

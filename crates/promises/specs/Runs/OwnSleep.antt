@@ -24,7 +24,8 @@ use Rattle.promises.specs.Paper.Run.{begunWith}
 use Rattle.promises.specs.Paper.Together.{WaitFits}
 use Rattle.promises.specs.Runs.Keeping.{put-same, KeepsOn}
 use Rattle.promises.specs.Runs.OneRow.{ended-own, Stands, Steady, row-on, mail-other}
-use Rattle.promises.specs.Runs.OneStep.{act, few, rows-after, waker-after, woken-after}
+use Rattle.promises.specs.Runs.Accepted.{act, few}
+use Rattle.promises.specs.Runs.OneStep.{rows-after, waker-after, woken-after}
 
 module _ (t : Tables) (now : SystemTime) (s : Step) (i : ℕ) (someone : i ≢ 255) where
   -- a record whose call is unfinished has it from the step, and its ticks if it sleeps
@@ -56,7 +57,7 @@ module _ (t : Tables) (now : SystemTime) (s : Step) (i : ℕ) (someone : i ≢ 2
         wakes = λ m b n c o k. let b = o k in record { kind = b .kind; timeout = b .timeout; ticks = λ x. absurd (x refl) };
         ends-on = λ m d z n e o k. absurd (k refl);
         takes-on = λ z k m o n. absurd (n refl);
-        sleeps-on = λ q z g m e o k. let b = o k in record { kind = b .kind; timeout = b .timeout; ticks = λ x. rw (b .timeout) };
+        sleeps-on = λ q z g m e u o k. let b = o k in record { kind = b .kind; timeout = b .timeout; ticks = λ x. rw (b .timeout) };
       })
 
   -- ---- the rows
@@ -171,7 +172,6 @@ module _ (t : Tables) (c : Clock) (s : Step) (host : Host t c s) (e : stepped t 
       again (ReadyAfter.again pl side m x p q) k = ap (λ (u : Thread). u .call .timeout) x
       again (ReadyAfter.ready-again pl o side m by x p q) k = absurd (k (ap (λ (u : Thread). u .state) x))
       again (ReadyAfter.done-again pl o y d side m by a x p q) k = absurd (k (ap (λ (u : Thread). u .state) x))
-      again (ReadyAfter.slept-again pl o side m by x p q) k = ap (λ (u : Thread). u .call .timeout) x
 
       waked : {w : Bool} → WakerAfter t s i (rowOf (stepped t c s .tables) i) w → s .caller ≢ i
           → rowOf (stepped t c s .tables) i .call .timeout ≡ rowOf t i .call .timeout

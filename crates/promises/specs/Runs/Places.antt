@@ -19,7 +19,7 @@ use Rattle.promises.specs.Paper.Host.{Host}
 use Rattle.promises.specs.Paper.Together.{CallFits}
 use Rattle.promises.specs.Paper.Waking.{Tried, Served, CalledOut, WokenBy}
 use Rattle.promises.specs.Paper.Causes.{resetsAt, queueCause, causeFor, messageBy}
-use Rattle.promises.specs.Runs.OneStep.{together, semaphore-there, queue-there, mailbox-there, pool-there, fits}
+use Rattle.promises.specs.Runs.Accepted.{together, semaphore-there, queue-there, mailbox-there, pool-there, fits}
 
 -- the cause by state and place
 abbrev calledCause : Step → ℕ → ℕ → ℕ

@@ -3,14 +3,13 @@
 use Prim.Native.Nat.{ℕ}
 use native.Mathlib.Omega.{arith}
 use mathlib.Core.Path.{_≡_, refl, sym, ap, _∙_, subst}
-use mathlib.Core.Logic.{_≢_, inl, inr}
+use mathlib.Core.Logic.{_≢_}
 use mathlib.Core.Bool.{Bool, true, false, cond}
 use lib.Dec.{eqb}
 use lib.IntN.{ℤ, pos}
 use borrow.Author.Tests.{ne-eqb}
-use Rattle.kernel.specs.declared.records.Answer.{Answer}
-use Rattle.kernel.specs.declared.records.Call.{Call}
 use Rattle.kernel.specs.declared.records.Thread.{Thread}
+use Rattle.kernel.proofs.Cases.{contrary}
 use Rattle.library.specs.declared.calls.Step.{Step}
 use Rattle.library.specs.declared.tables.Tables.{Tables}
 use Rattle.promises.specs.Paper.World.{World, noCall, noAnswer, found, readyWith, callEnded, asleep}
@@ -21,15 +20,6 @@ use Rattle.promises.specs.Runs.Keeping.{queued-asleep, Ends, KeepsOn, Ke
 use Rattle.promises.specs.Runs.OneRow.{flagsTaken, mail-other, Steady, row-on, row-act}
 use Rattle.promises.specs.Runs.Passing.{Passed, found-passed, ticks-passed, events-passed}
 use Rattle.promises.specs.Runs.Sleepers.{no-event, ends-answer, not-side}
-
--- a mailbox call has one side
-side-only : {c : Call} {p q : ℕ} → SideOf c p → SideOf c q → p ≡ q
-side-only (SideOf.writers a) (SideOf.writers b) = refl
-side-only (SideOf.readers a) (SideOf.readers b) = refl
-side-only (SideOf.writers (inl a)) (SideOf.readers b) = absurd (omega (arith, a, b))
-side-only (SideOf.writers (inr a)) (SideOf.readers b) = absurd (omega (arith, a, b))
-side-only (SideOf.readers b) (SideOf.writers (inl a)) = absurd (omega (arith, a, b))
-side-only (SideOf.readers b) (SideOf.writers (inr a)) = absurd (omega (arith, a, b))
 
 -- who is served is woken with 0
 served-zero : {t : Tables} {s : Step} {st pl : ℕ} {m : ℤ} {c : ℕ} → Served t s st pl m c → m ≡ pos 0
@@ -76,19 +66,8 @@ module _ (t : Tables) (s : Step) (i : ℕ) (someone : i ≢ 255) (apart : i ≢ 
       by (AwaitedFit.none d h) = rw (ne-eqb (a .call .kind) 14 d) (sym h)
 
   -- its record, asleep again: its waking was with 0
-  again-row : (q c n : ℕ) (m : ℤ) (l : Answer) → m ≡ pos 0 → asleep (record {
-    state = 0;
-    place = 0;
-    remaining = 0;
-    pending = heard s i a;
-    awaited = a .awaited;
-    message = m;
-    call = a .call;
-    answer = l;
-    cause = c;
-    step = n;
-  }) 3 q (a .call) ≡ againRow s i a q c n
-  again-row q c n m l e =
+  again-row : (q : ℕ) → a .message ≡ pos 0 → asleep (readyOn s i a) 3 q (a .call) ≡ againRow s i a q
+  again-row q e =
       λ y. record {
         state = 3;
         place = q;
@@ -98,12 +77,12 @@ module _ (t : Tables) (s : Step) (i : ℕ) (someone : i ≢ 255) (apart : i ≢ 
         message = e y;
         call = a .call;
         answer = noAnswer;
-        cause = c;
-        step = n;
+        cause = a .cause;
+        step = a .step;
       }
 
   -- one that sleeps is not ready
-  not-asleep : {r : Thread} {p c n : ℕ} → r ≡ againRow s i a p c n → r .state ≢ 0
+  not-asleep : {r : Thread} {p : ℕ} → r ≡ againRow s i a p → r .state ≢ 0
   not-asleep e = queued-asleep (ap (λ (u : Thread). u .state) e)
 
   -- a side has its own kinds
@@ -111,7 +90,7 @@ module _ (t : Tables) (s : Step) (i : ℕ) (someone : i ≢ 255) (apart : i ≢ 
   not-event side k = not-side k (λ y. omega arith) (λ y. omega arith) (λ y. omega arith) side
 
   -- it is served, if it fell asleep before
-  rouse : {r : Thread} {f : Bool} {pl c n : ℕ} (m : ℤ) (o : ℕ) → SideOf (a .call) pl → a .message ≡ pos 0 → r ≡ againRow s i a pl c n → Served t s (r .state) (r .place) m o
+  rouse : {r : Thread} {f : Bool} {pl : ℕ} (m : ℤ) (o : ℕ) → SideOf (a .call) pl → a .message ≡ pos 0 → r ≡ againRow s i a pl → Served t s (r .state) (r .place) m o
       → f ≡ false → ReadyAfter t s i (readyWith r m o num) true f
   rouse {r} {f} {pl} m o side x e by q =
       let zero = served-zero by in
@@ -131,7 +110,6 @@ module _ (t : Tables) (s : Step) (i : ℕ) (someone : i ≢ 255) (apart : i ≢ 
         (ends-answer a (wokenRow s i a (pos 0) c num noAnswer) refl (heard s i a) (subst (λ (u : Thread). Ends u x d) e h))
         (ap (λ (u : Thread). callEnded u x d) e) p refl
     ends-own x d z n h (ReadyAfter.done-again pl c y o side m by k e p q) = absurd (n (ap (λ (u : Thread). u .call .kind) e))
-    ends-own x d z n h (ReadyAfter.slept-again pl c side m by e p q) = absurd (not-asleep e z)
 
     takes-own : r .state ≡ 0 → r .call .kind ≡ 14 → r .message ≡ pos 0 → ReadyAfter t s i r w f
         → ReadyAfter t s i (flagsTaken r (r .call .operand)) w true
@@ -143,23 +121,17 @@ module _ (t : Tables) (s : Step) (i : ℕ) (someone : i ≢ 255) (apart : i ≢ 
     takes-own z k m (ReadyAfter.again pl side o e p q) = absurd (not-asleep e z)
     takes-own z k m (ReadyAfter.ready-again pl c side o by e p q) = absurd (not-event side (sym (ap (λ (u : Thread). u .call .kind) e) ∙ k))
     takes-own z k m (ReadyAfter.done-again pl c y o side g by h e p q) = absurd (no-event (ap (λ (u : Thread). u .call .kind) e) k)
-    takes-own z k m (ReadyAfter.slept-again pl c side o by e p q) = absurd (not-asleep e z)
 
-    -- a mailbox call, tried again, sleeps again
-    sleeps-own : (q : ℕ) → r .state ≡ 0 → IsMailing (r .call .kind) → r .message ≡ pos 0 → SideOf (r .call) q → ReadyAfter t s i r w f
+    -- a mailbox call, tried again, sleeps again, if it was not woken in this step
+    sleeps-own : (q : ℕ) → r .state ≡ 0 → IsMailing (r .call .kind) → r .message ≡ pos 0 → SideOf (r .call) q → w ≡ false → ReadyAfter t s i r w f
         → ReadyAfter t s i (asleep r 3 q (r .call)) w f
-    sleeps-own q z g m side (ReadyAfter.on e p o) =
+    sleeps-own q z g m side u (ReadyAfter.on e p o) =
         let m0 = sym (ap (λ (u : Thread). u .message) e) ∙ m in
-        ReadyAfter.again q (subst (λ (u : Thread). SideOf (u .call) q) e side) m0
-        (ap (λ (u : Thread). asleep u 3 q (u .call)) e ∙ again-row q (a .cause) (a .step) (a .message) (a .answer) m0) p o
-    sleeps-own q z g m side (ReadyAfter.done y c f k e p o) = absurd (mail-other g .1 (ap (λ (u : Thread). u .call .kind) e))
-    sleeps-own q z g m side (ReadyAfter.again pl k x e p o) = absurd (not-asleep e z)
-    sleeps-own q z g m side (ReadyAfter.ready-again pl c k x by e p o) =
-        let here : SideOf (a .call) q = subst (λ (u : Thread). SideOf (u .call) q) e side in
-        ReadyAfter.slept-again q c here x (subst (λ (y : ℕ). Served t s 3 y (pos 0) c) (side-only k here) by)
-        (ap (λ (u : Thread). asleep u 3 q (u .call)) e ∙ again-row q c num (pos 0) noAnswer refl) p o
-    sleeps-own q z g m side (ReadyAfter.done-again pl c y d k x by h e p o) = absurd (mail-other g .1 (ap (λ (u : Thread). u .call .kind) e))
-    sleeps-own q z g m side (ReadyAfter.slept-again pl c k x by e p o) = absurd (not-asleep e z)
+        ReadyAfter.again q (subst (λ (u : Thread). SideOf (u .call) q) e side) m0 (ap (λ (u : Thread). asleep u 3 q (u .call)) e ∙ again-row q m0) p o
+    sleeps-own q z g m side u (ReadyAfter.done y c f k e p o) = absurd (mail-other g .1 (ap (λ (u : Thread). u .call .kind) e))
+    sleeps-own q z g m side u (ReadyAfter.again pl k x e p o) = absurd (not-asleep e z)
+    sleeps-own q z g m side u (ReadyAfter.ready-again pl c k x by e p o) = contrary p u
+    sleeps-own q z g m side u (ReadyAfter.done-again pl c y d k x by h e p o) = contrary p u
 
     woken-own : (m : ℤ) (o : ℕ) → r .state ≢ 0 → Served t s (r .state) (r .place) m o → ReadyAfter t s i r w f → ReadyAfter t s i (readyWith r m o num) true f
     woken-own m o n by (ReadyAfter.on e p z) = absurd (n (ap (λ (u : Thread). u .state) e ∙ was-ready))
@@ -167,7 +139,6 @@ module _ (t : Tables) (s : Step) (i : ℕ) (someone : i ≢ 255) (apart : i ≢ 
     woken-own m o n by (ReadyAfter.again pl side x e p z) = rouse m o side x e by z
     woken-own m o n by (ReadyAfter.ready-again pl c side x b e p z) = absurd (n (ap (λ (u : Thread). u .state) e))
     woken-own m o n by (ReadyAfter.done-again pl c y d side x b h e p z) = absurd (n (ap (λ (u : Thread). u .state) e))
-    woken-own m o n by (ReadyAfter.slept-again pl c side x b e p z) = rouse m o side x e by z
 
   -- the step's own act leaves it
   pub ready-act : KeepsAct t s (Steady t s i someone Acted)

@@ -45,9 +45,10 @@ use Rattle.promises.specs.Meant.Calls.{sized}
 use Rattle.promises.specs.Meant.Step.{settled-keeps, result-is, running-is, h, hangs, acted-whole, settled-whole, own}
 use Rattle.promises.specs.Runs.Answers.{step-done}
 use Rattle.promises.specs.Runs.Keeping.{put-same, put-other, KeepsOn}
-use Rattle.promises.specs.Runs.OneRow.{ended-own, ended-finished, mail-other, Stands, Steady, RowOn, row-on}
-use Rattle.promises.specs.Runs.OneStep.{bit-in, accepted, together, caller-first, semaphore-there, someone, x₀, act, act-step, settle-keeps}
-use Rattle.promises.specs.Runs.GoingOn.{first-stays, ended-state}
+use Rattle.promises.specs.Runs.OneRow.{ended-own, ended-finished, ended-state, mail-other, Stands, Steady, RowOn, row-on}
+use Rattle.promises.specs.Runs.Accepted.{accepted, together, caller-first, semaphore-there, someone, x₀, act}
+use Rattle.promises.specs.Runs.OneStep.{bit-in, act-step, settle-keeps}
+use Rattle.promises.specs.Runs.GoingOn.{first-stays}
 
 -- ---- what a continued call leaves of the counters of semaphores and pools
 
@@ -156,7 +157,7 @@ module _ (t : Tables) (c : Clock) (s : Step) (host : Host t c s) (e : stepped t 
           wakes = λ m o n b d. absurd (n (d .is-ready));
           ends-on = λ m b r n g d. absurd (n (d .no-call));
           takes-on = λ r k m d. absurd (omega (arith, k, d .no-call));
-          sleeps-on = λ q r b m g d. absurd (mail-other b .1 (d .no-call));
+          sleeps-on = λ q r b m g u d. absurd (mail-other b .1 (d .no-call));
         }
 
     -- an interrupt's answer stays too
@@ -166,7 +167,7 @@ module _ (t : Tables) (c : Clock) (s : Step) (host : Host t c s) (e : stepped t 
           moves = record { counter = λ w p b d. d; box = λ w b x d. d; pool = λ w q x d. d; wakes = λ w i m o n b d. d };
           ends-on = λ w r m b l z n g d. rw (ne-eqb r 255 (someone t c s host e r l)) d;
           takes-on = λ w r l z k m d. rw (ne-eqb r 255 (someone t c s host e r l)) d;
-          sleeps-on = λ w r q l z b m g d. d;
+          sleeps-on = λ w r q l z b m g u d. d;
         }
 
   -- WHAT A CALL THAT FINISHES AT ONCE ANSWERS

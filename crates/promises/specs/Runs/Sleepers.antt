@@ -6,17 +6,16 @@ use mathlib.Core.Logic.{_≢_, _⊎_, inl, inr}
 use mathlib.Core.Bool.{Bool, true, false, cond}
 use lib.Dec.{eqb}
 use lib.Bits.{bitOr}
-use lib.IntN.{ℤ, pos, negsuc, pos-ne-negsuc}
+use lib.IntN.{ℤ, pos, negsuc}
 use borrow.Author.Tests.{eq-eqb, ne-eqb}
 use Rattle.kernel.specs.declared.records.Call.{Call}
 use Rattle.kernel.specs.declared.records.Thread.{Thread}
-use Rattle.kernel.proofs.Cases.{same-or}
+use Rattle.kernel.proofs.Cases.{same-or, contrary}
 use Rattle.library.specs.declared.calls.Step.{Step}
 use Rattle.library.specs.declared.tables.Tables.{Tables}
-use Rattle.promises.specs.Paper.World.{World, noAnswer, found, readyWith, callEnded, asleep}
+use Rattle.promises.specs.Paper.World.{World, found, readyWith, callEnded}
 use Rattle.promises.specs.Paper.Rows.{TickOf, Ticks, flagged, EventSignal}
 use Rattle.promises.specs.Paper.Settling.{IsOther}
-use Rattle.promises.specs.Paper.Together.{WaitFits, AwaitedFit, ThreadFits}
 use Rattle.promises.specs.Paper.Waking.{
   rowOf,
   IsPost,
@@ -29,12 +28,11 @@ use Rattle.promises.specs.Paper.Waking.{
   sleptOn,
   AnswerOf,
   wokenRow,
-  againRow,
   SleeperAfter,
   SideOf,
 }
-use Rattle.promises.specs.Runs.Keeping.{put-same, put-other, queued-asleep, Ends, Keeps}
-use Rattle.promises.specs.Runs.OneRow.{flagsTaken, mail-other, Stands, Steady, row-stays, ready-stays, RowOn, row-keeps}
+use Rattle.promises.specs.Runs.Keeping.{put-same, put-other, Ends, Keeps}
+use Rattle.promises.specs.Runs.OneRow.{flagsTaken, Stands, Steady, row-stays, ready-stays, RowOn, row-keeps}
 
 -- a thread without a call has no event wait
 pub no-event : {n : ℕ} → n ≡ 0 → n ≢ 14
@@ -72,31 +70,7 @@ not-side e x y z (SideOf.writers (inl h)) = x (sym e ∙ h)
 not-side e x y z (SideOf.writers (inr h)) = y (sym e ∙ h)
 not-side e x y z (SideOf.readers h) = z (sym e ∙ h)
 
--- what a wait that fits says of a mailbox call
-module _ (a : Thread) (n : a .state ≢ 0) where
-  -- it is queued at its side
-  mail-waits : WaitFits a → {q : ℕ} → SideOf (a .call) q → (a .state ≡ 3) × (a .place ≡ q)
-  mail-waits (WaitFits.ready e p) h = absurd (n e)
-  mail-waits (WaitFits.writer e b p) (SideOf.writers h) = (b, p)
-  mail-waits (WaitFits.writer (inl e) b p) (SideOf.readers h) = absurd (omega (arith, e, h))
-  mail-waits (WaitFits.writer (inr e) b p) (SideOf.readers h) = absurd (omega (arith, e, h))
-  mail-waits (WaitFits.reader e b p) (SideOf.readers h) = (b, p)
-  mail-waits (WaitFits.reader e b p) (SideOf.writers (inl h)) = absurd (omega (arith, e, h))
-  mail-waits (WaitFits.reader e b p) (SideOf.writers (inr h)) = absurd (omega (arith, e, h))
-  mail-waits (WaitFits.sleeps (inl e) b p) h = absurd (not-side e (λ x. omega arith) (λ x. omega arith) (λ x. omega arith) h)
-  mail-waits (WaitFits.sleeps (inr e) b p) h = absurd (not-side e (λ x. omega arith) (λ x. omega arith) (λ x. omega arith) h)
-  mail-waits (WaitFits.reference e b p) h = absurd (not-side e (λ x. omega arith) (λ x. omega arith) (λ x. omega arith) h)
-  mail-waits (WaitFits.semaphore e b p) h = absurd (not-side e (λ x. omega arith) (λ x. omega arith) (λ x. omega arith) h)
-  mail-waits (WaitFits.pool e b p) h = absurd (not-side e (λ x. omega arith) (λ x. omega arith) (λ x. omega arith) h)
-  mail-waits (WaitFits.queue e b p) h = absurd (not-side e (λ x. omega arith) (λ x. omega arith) (λ x. omega arith) h)
-  mail-waits (WaitFits.events e b p) h = absurd (not-side e (λ x. omega arith) (λ x. omega arith) (λ x. omega arith) h)
-
-  awaited-is : AwaitedFit a → a .awaited ≡ cond (eqb (a .call .kind) 14) (a .call .operand) 0
-  awaited-is (AwaitedFit.mask e h) = rw e h
-  awaited-is (AwaitedFit.none d h) = rw (ne-eqb (a .call .kind) 14 d) h
-
-module _ (t : Tables) (s : Step) (i : ℕ) (someone : i ≢ 255) (within : i < t .sizes .threads) (before : rowOf t i .state ≢ 0) (apart : i ≢ s .caller)
-    (fits : ThreadFits (t .sizes) (rowOf t i)) where
+module _ (t : Tables) (s : Step) (i : ℕ) (someone : i ≢ 255) (within : i < t .sizes .threads) (before : rowOf t i .state ≢ 0) (apart : i ≢ s .caller) where
   abbrev a : Thread
   a = rowOf t i
 
@@ -108,96 +82,53 @@ module _ (t : Tables) (s : Step) (i : ℕ) (someone : i ≢ 255) (within : i < t
   abbrev num : ℕ
   num = found t .step
 
-  -- a mailbox call's record slept at its side
-  mail-state : IsMailing (a .call .kind) → a .state ≡ 3
-  mail-state (inl e) = mail-waits a before (fits .wait) (SideOf.writers e) .0
-  mail-state (inr e) = mail-waits a before (fits .wait) (SideOf.readers e) .0
-
   -- a record that is ready is one that was woken
   not-on : {r : Thread} → r ≡ sleptOn s i a → r .state ≢ 0
   not-on e z = before (sym (ap (λ (u : Thread). u .state) e) ∙ z)
 
-  not-again : {r : Thread} {c : ℕ} → r ≡ againRow s i a (a .place) c num → r .state ≢ 0
-  not-again e = queued-asleep (ap (λ (u : Thread). u .state) e)
-
   module _ {r : Thread} {w f : Bool} where
-    -- ---- it is woken
-
-    rouse : (m : ℤ) (o : ℕ) → SleeperAfter t s i r w f → r .state ≢ 0 → WokenBy t s i a m o → SleeperAfter t s i (readyWith r m o num) true f
-    rouse m o (SleeperAfter.on u e p q) n b = SleeperAfter.ready m o b (a .answer) (inl refl) (ap (λ (u : Thread). readyWith u m o num) e) refl q
-    rouse m o (SleeperAfter.ready x y c l g e p q) n b = absurd (n (ap (λ (u : Thread). u .state) e))
-    rouse m o (SleeperAfter.done x y v d f c g e p q) n b = absurd (n (ap (λ (u : Thread). u .state) e))
-    rouse m o (SleeperAfter.again x g c e p q) n b =
-        SleeperAfter.ready m o b noAnswer (inr (g, refl)) (ap (λ (u : Thread). readyWith u m o num) e) refl q
-
-    -- as long as it can be called out, its last tick has not come
-    not-last : SleeperAfter t s i r w f → r .state ≢ 0 → LastTick s a → ⊥
-    not-last (SleeperAfter.on u e p q) n v = u v
-    not-last (SleeperAfter.ready x y b l g e p q) n v = absurd (n (ap (λ (u : Thread). u .state) e))
-    not-last (SleeperAfter.done x y o d f b g e p q) n v = absurd (n (ap (λ (u : Thread). u .state) e))
-    not-last (SleeperAfter.again x g b e p q) n v = pos-ne-negsuc 0 0 (last-by v b .0)
-
-    -- who calls it out now would have called it out before
-    called : (m : ℤ) (o : ℕ) → SleeperAfter t s i r w f → r .state ≢ 0 → CalledOut t s (r .state) (r .place) m o → CalledOut t s (a .state) (a .place) m o
-    called m o (SleeperAfter.on u e p q) n c = subst (λ (u : Thread). CalledOut t s (u .state) (u .place) m o) e c
-    called m o (SleeperAfter.ready x y b l g e p q) n c = absurd (n (ap (λ (u : Thread). u .state) e))
-    called m o (SleeperAfter.done x y v d f b g e p q) n c = absurd (n (ap (λ (u : Thread). u .state) e))
-    called m o (SleeperAfter.again x g b e p q) n c = rw (mail-state g) (subst (λ (u : Thread). CalledOut t s (u .state) (u .place) m o) e c)
+    -- it is called out, where it has slept until now: so its last tick has not come
+    rouse : (m : ℤ) (o : ℕ) → r .state ≢ 0 → CalledOut t s (r .state) (r .place) m o → SleeperAfter t s i r w f → SleeperAfter t s i (readyWith r m o num) true f
+    rouse m o n c (SleeperAfter.on u e p q) =
+        SleeperAfter.ready m o (WokenBy.call u (subst (λ (v : Thread). CalledOut t s (v .state) (v .place) m o) e c))
+        (ap (λ (v : Thread). readyWith v m o num) e) refl q
+    rouse m o n c (SleeperAfter.ready x y b e p q) = absurd (n (ap (λ (u : Thread). u .state) e))
+    rouse m o n c (SleeperAfter.done x y v d f b g e p q) = absurd (n (ap (λ (u : Thread). u .state) e))
 
     -- ---- its call is continued
 
     ends-own : (x : ℤ) (d : ℕ) → r .state ≡ 0 → r .call .kind ≢ 0 → Ends r x d → SleeperAfter t s i r w f
         → SleeperAfter t s i (callEnded r x d) w true
     ends-own x d z n h (SleeperAfter.on u e p q) = absurd (not-on e z)
-    ends-own x d z n h (SleeperAfter.ready m o b l g e p q) =
-        SleeperAfter.done m x o d (heard s i a) b (ends-answer a (wokenRow s i a m o num l) refl (heard s i a) (subst (λ (u : Thread). Ends u x d) e h))
+    ends-own x d z n h (SleeperAfter.ready m o b e p q) =
+        SleeperAfter.done m x o d (heard s i a) b
+        (ends-answer a (wokenRow s i a m o num (a .answer)) refl (heard s i a) (subst (λ (u : Thread). Ends u x d) e h))
         (ap (λ (u : Thread). callEnded u x d) e) p refl
     ends-own x d z n h (SleeperAfter.done m y o c f b g e p q) = absurd (n (ap (λ (u : Thread). u .call .kind) e))
-    ends-own x d z n h (SleeperAfter.again o g b e p q) = absurd (not-again e z)
 
     -- its event wait "clears and answers all pending flags in its mask"
     takes-own : r .state ≡ 0 → r .call .kind ≡ 14 → r .message ≡ pos 0 → SleeperAfter t s i r w f
         → SleeperAfter t s i (flagsTaken r (r .call .operand)) w true
     takes-own z k h (SleeperAfter.on u e p q) = absurd (not-on e z)
-    takes-own z k h (SleeperAfter.ready m o b l g e p q) =
+    takes-own z k h (SleeperAfter.ready m o b e p q) =
         SleeperAfter.done m (pos 0) o _ _ b
         (AnswerOf.events (sym (ap (λ (u : Thread). u .call .kind) e) ∙ k) (sym (ap (λ (u : Thread). u .message) e) ∙ h))
         (ap (λ (u : Thread). flagsTaken u (u .call .operand)) e) p refl
     takes-own z k h (SleeperAfter.done m y o c f b g e p q) = absurd (no-event (ap (λ (u : Thread). u .call .kind) e) k)
-    takes-own z k h (SleeperAfter.again o g b e p q) = absurd (not-again e z)
 
-    -- its mailbox call sleeps again
-    sleeps-own : (q : ℕ) → r .state ≡ 0 → IsMailing (r .call .kind) → r .message ≡ pos 0 → SideOf (r .call) q → SleeperAfter t s i r w f
-        → SleeperAfter t s i (asleep r 3 q (r .call)) w f
-    sleeps-own q z g h side (SleeperAfter.on u e p o) = absurd (not-on e z)
-    sleeps-own q z g h side (SleeperAfter.ready m k b l c e p o) =
-        let m0 : m ≡ pos 0 = sym (ap (λ (u : Thread). u .message) e) ∙ h in
-        let mail = subst (λ (u : Thread). IsMailing (u .call .kind)) e g in
-        let at = mail-waits a before (fits .wait) (subst (λ (u : Thread). SideOf (u .call) q) e side) .1 in
-        SleeperAfter.again k mail (subst (λ (x : ℤ). WokenBy t s i a x k) m0 b)
-        (ap (λ (u : Thread). asleep u 3 q (u .call)) e ∙ (λ x. record {
-          state = 3;
-          place = sym at x;
-          remaining = cond (eqb (a .call .timeout) 4294967295) 0 (a .call .timeout);
-          pending = heard s i a;
-          awaited = sym (awaited-is a before (fits .awaited)) x;
-          message = m0 x;
-          call = a .call;
-          answer = noAnswer;
-          cause = k;
-          step = num;
-        }))
-        p o
-    sleeps-own q z g h side (SleeperAfter.done m y k c f b x e p o) = absurd (mail-other g .1 (ap (λ (u : Thread). u .call .kind) e))
-    sleeps-own q z g h side (SleeperAfter.again k x b e p o) = absurd (not-again e z)
+    -- it is not tried again, for it was woken in this step
+    not-tried : r .state ≡ 0 → w ≡ false → SleeperAfter t s i r w f → ⊥
+    not-tried z u (SleeperAfter.on l e p o) = not-on e z
+    not-tried z u (SleeperAfter.ready m k b e p o) = contrary p u
+    not-tried z u (SleeperAfter.done m y k c f b x e p o) = contrary p u
 
   life-on : RowOn t s i someone (SleeperAfter t s i)
   life-on =
       record {
-        wakes = λ m o n c l. rouse m o l n (WokenBy.call (not-last l n) (called m o l n (CalledOut.served c)));
+        wakes = λ m o n c l. rouse m o n (CalledOut.served c) l;
         ends-on = ends-own;
         takes-on = takes-own;
-        sleeps-on = sleeps-own;
+        sleeps-on = λ q z g m side u l. absurd (not-tried z u l);
       }
 
   -- ---- a tick, and flags that come
@@ -284,7 +215,7 @@ module _ (t : Tables) (s : Step) (i : ℕ) (someone : i ≢ 255) (within : i < t
     tick-own w x u (TickOf.last z e) =
         let last : a .remaining ≡ 1 = sym (ap (λ (v : Thread). v .remaining) (u .row)) ∙ z in
         rw e
-        (SleeperAfter.ready (negsuc 0) 8 (WokenBy.last-tick kind last) (a .answer) (inl refl)
+        (SleeperAfter.ready (negsuc 0) 8 (WokenBy.last-tick kind last)
         (put-same (w .thread) i _ ∙ (λ y. record {
           state = 0;
           place = 0;
@@ -336,7 +267,7 @@ module _ (t : Tables) (s : Step) (i : ℕ) (someone : i ≢ 255) (within : i < t
     event-own : (x : World) → s .object ≡ i → EventSignal (found t) i (s .a) x → Life x
     event-own x o (EventSignal.comes g h e) =
         subst Life (sym e)
-        (SleeperAfter.ready (pos 0) 4 (WokenBy.events kind o g h) (a .answer) (inl refl)
+        (SleeperAfter.ready (pos 0) 4 (WokenBy.events kind o g h)
         (put-same (flagged (found t) i (s .a) .thread) i _ ∙ ap (λ (u : Thread). readyWith u (pos 0) 4 num) (put-same (found t .thread) i _)
         ∙ (λ y. record {
           state = 0;
@@ -387,7 +318,7 @@ module _ (t : Tables) (s : Step) (i : ℕ) (someone : i ≢ 255) (within : i < t
   life-keeps =
       row-keeps t s i someone (SleeperAfter t s i) life-on
       (record {
-        wakes = λ m o n c l. rouse m o l n (WokenBy.call (not-last l n) (called m o l n c));
+        wakes = rouse;
         begins = begins;
         ticks = λ v e h. ticks-life e (t .sizes .threads) v h .1 within;
         events = λ v e h. events e v h;

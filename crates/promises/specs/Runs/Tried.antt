@@ -129,6 +129,6 @@ module _ (t : Tables) (s : Step) where
           moves = kept-moves _;
           ends-on = λ w r m d l a b e k. ended-kept w r m d k;
           takes-on = λ w r l a e m k. took-kept w r (w .thread r .call .operand) k;
-          sleeps-on = λ w r q l a b m side k. sleep-kept w r 3 q (w .thread r .call) (k .tried r l) k;
+          sleeps-on = λ w r q l a b m side u k. sleep-kept w r 3 q (w .thread r .call) (k .tried r l) k;
         };
       }

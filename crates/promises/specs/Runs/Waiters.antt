@@ -19,12 +19,13 @@ use Rattle.steps.specs.Stepping.{stepped}
 use Rattle.promises.specs.Paper.World.{World, found, madeReady, Highest}
 use Rattle.promises.specs.Paper.Host.{Host}
 use Rattle.promises.specs.Paper.Rows.{Signal, BinarySignal, Act}
-use Rattle.promises.specs.Paper.Together.{WaitFits, number, isQueued, SemaphoreFits}
-use Rattle.promises.specs.Paper.Waking.{rowOf, inMask, IsMailing, Served, CalledOut, WokenBy, SleeperAfter, OwnWait, WakerAfter}
+use Rattle.promises.specs.Paper.Together.{number, isQueued, SemaphoreFits}
+use Rattle.promises.specs.Paper.Waking.{rowOf, inMask, Served, CalledOut, WokenBy, SleeperAfter, OwnWait, WakerAfter}
 use Rattle.promises.specs.Paper.Run.{signalsAt, joinsAt, higher, TurnOf}
 use Rattle.promises.specs.Together.Tests.{either-means}
 use Rattle.promises.specs.Runs.Keeping.{put-same, queued-asleep}
-use Rattle.promises.specs.Runs.OneStep.{together, semaphore-there, pool-there, fits, x₀, act, woken-seen, sleeper-after, waker-after}
+use Rattle.promises.specs.Runs.Accepted.{together, semaphore-there, pool-there, x₀, act}
+use Rattle.promises.specs.Runs.OneStep.{woken-seen, sleeper-after, waker-after}
 
 -- ---- counting
 
@@ -57,12 +58,6 @@ module _ (f g : ℕ → Bool) where
 pub owes : {c : ℤ} {n : ℕ} → SemaphoreFits c n → 1 ≤ n → ltZ c (pos 0) ≡ true
 owes (SemaphoreFits.waiters e) l = rw e
 owes (SemaphoreFits.none e) l = absurd (omega arith)
-
--- a call of another kind is no mailbox's
-not-mail : {n k : ℕ} → n ≡ k → k ≢ 15 → k ≢ 16 → k ≢ 17 → IsMailing n → ⊥
-not-mail e x y z (inl (inl h)) = x (sym e ∙ h)
-not-mail e x y z (inl (inr h)) = y (sym e ∙ h)
-not-mail e x y z (inr h) = z (sym e ∙ h)
 
 module _ (t : Tables) (c : Clock) (s : Step) (host : Host t c s) (e : stepped t c s .outcome .code ≡ 0) where
   abbrev n : ℕ
@@ -163,19 +158,6 @@ module _ (t : Tables) (c : Clock) (s : Step) (host : Host t c s) (e : stepped t 
   abbrev u : Tables
   u = stepped t c s .tables
 
-  -- a mailbox call does not wait there
-  mail-far : {a : Thread} → WaitFits a → a .state ≢ 0 → IsMailing (a .call .kind) → a .place < 20 → ⊥
-  mail-far (WaitFits.ready x p) n g l = n x
-  mail-far (WaitFits.sleeps (inl x) a p) n g l = not-mail x (λ y. omega arith) (λ y. omega arith) (λ y. omega arith) g
-  mail-far (WaitFits.sleeps (inr x) a p) n g l = not-mail x (λ y. omega arith) (λ y. omega arith) (λ y. omega arith) g
-  mail-far (WaitFits.reference x a p) n g l = not-mail x (λ y. omega arith) (λ y. omega arith) (λ y. omega arith) g
-  mail-far (WaitFits.semaphore x a p) n g l = not-mail x (λ y. omega arith) (λ y. omega arith) (λ y. omega arith) g
-  mail-far (WaitFits.pool x a p) n g l = not-mail x (λ y. omega arith) (λ y. omega arith) (λ y. omega arith) g
-  mail-far (WaitFits.queue x a p) n g l = not-mail x (λ y. omega arith) (λ y. omega arith) (λ y. omega arith) g
-  mail-far (WaitFits.writer x a p) n g l = omega (arith, l, p)
-  mail-far (WaitFits.reader x a p) n g l = omega (arith, l, p)
-  mail-far (WaitFits.events x a p) n g l = not-mail x (λ y. omega arith) (λ y. omega arith) (λ y. omega arith) g
-
   module _ (p : ℕ) (near : p < 20) where
     -- thread j queued at p
     queued-at : (w : Tables) (j : ℕ) → isQueued (found w) p j ≡ true → (rowOf w j .state ≡ 3) × (rowOf w j .place ≡ p)
@@ -197,7 +179,7 @@ module _ (t : Tables) (c : Clock) (s : Step) (host : Host t c s) (e : stepped t 
       stayed j l g =
           let q = queued-at u j g in
           same-or (rowOf t j .state) 0 (λ z. absurd (ready-before q (waker-after t c s host e j (omega arith) z)))
-          (λ d. slept q d (sleeper-after t c s host e j (omega arith) d))
+          (λ d. slept q (sleeper-after t c s host e j (omega arith) d))
         where
           ready-before : (rowOf u j .state ≡ 3) × (rowOf u j .place ≡ p) → {b : Bool} → WakerAfter t s j (rowOf u j) b → ⊥
           ready-before q (WakerAfter.unwoken z w) = queued-asleep (q .0) z
@@ -205,17 +187,14 @@ module _ (t : Tables) (c : Clock) (s : Step) (host : Host t c s) (e : stepped t 
               contrary (joins i (omega (arith, a, l)) (h (q .0) (omega (arith, near, q .1))) (q .1)) none
           ready-before q (WakerAfter.tried-again a m h) = h (q .0) (omega (arith, near, q .1))
 
-          slept : (rowOf u j .state ≡ 3) × (rowOf u j .place ≡ p) → rowOf t j .state ≢ 0 → {a b : Bool} → SleeperAfter t s j (rowOf u j) a b
+          slept : (rowOf u j .state ≡ 3) × (rowOf u j .place ≡ p) → {a b : Bool} → SleeperAfter t s j (rowOf u j) a b
               → isQueued (found t) p j ≡ true
-          slept q d (SleeperAfter.on u x w f) =
+          slept q (SleeperAfter.on u x w f) =
               let st : rowOf t j .state ≡ 3 = sym (ap (λ (r : Thread). r .state) x) ∙ q .0 in
               let pl : rowOf t j .place ≡ p = sym (ap (λ (r : Thread). r .place) x) ∙ q .1 in
               rw (st, pl, eq-eqb p p refl)
-          slept q d (SleeperAfter.ready m o b r g x w f) = absurd (queued-asleep (q .0) (ap (λ (r : Thread). r .state) x))
-          slept q d (SleeperAfter.done m y o v f b g x w z) = absurd (queued-asleep (q .0) (ap (λ (r : Thread). r .state) x))
-          slept q d (SleeperAfter.again o g b x w f) =
-              let pl : rowOf t j .place ≡ p = sym (ap (λ (r : Thread). r .place) x) ∙ q .1 in
-              absurd (mail-far (fits t c s host e j (omega arith) .wait) d g (omega (arith, near, pl)))
+          slept q (SleeperAfter.ready m o b x w f) = absurd (queued-asleep (q .0) (ap (λ (r : Thread). r .state) x))
+          slept q (SleeperAfter.done m y o v f b g x w z) = absurd (queued-asleep (q .0) (ap (λ (r : Thread). r .state) x))
 
       -- with a signal there is one fewer
       module _ (queued : rowOf t i .state ≡ 3) (place : rowOf t i .place ≡ p) (unwoken : inMask i (stepped t c s .outcome .woken) ≡ false) where
@@ -223,16 +202,12 @@ module _ (t : Tables) (c : Clock) (s : Step) (host : Host t c s) (e : stepped t 
         gone w =
             let j = w .first in
             let q = queued-at t j (w .waited) in
-            let l : j < n = omega (arith, w .above) in
-            by q l (sleeper-after t c s host e j l (λ z. absurd (omega (arith, z, q .0)))) (w .woken)
+            by (sleeper-after t c s host e j (omega (arith, w .above)) (λ z. absurd (omega (arith, z, q .0)))) (w .woken)
           where
-            by : {j : ℕ} → (rowOf t j .state ≡ 3) × (rowOf t j .place ≡ p) → j < n → {a b : Bool} → SleeperAfter t s j (rowOf u j) a b
-                → a ≡ true → isQueued (found u) p j ≡ false
-            by q l (SleeperAfter.on u x v f) w = contrary w v
-            by q l (SleeperAfter.ready m o b r g x v f) w = rw (ap (λ (r : Thread). r .state) x)
-            by q l (SleeperAfter.done m y o d f b g x v z) w = rw (ap (λ (r : Thread). r .state) x)
-            by {j} q l (SleeperAfter.again o g b x v f) w =
-                absurd (mail-far (fits t c s host e j l .wait) (λ z. absurd (omega (arith, z, q .0))) g (omega (arith, near, q .1)))
+            by : {j : ℕ} {a b : Bool} → SleeperAfter t s j (rowOf u j) a b → a ≡ true → isQueued (found u) p j ≡ false
+            by (SleeperAfter.on u x v f) w = contrary w v
+            by (SleeperAfter.ready m o b x v f) w = rw (ap (λ (r : Thread). r .state) x)
+            by (SleeperAfter.done m y o d f b g x v z) w = rw (ap (λ (r : Thread). r .state) x)
 
         pub turns-on : higher u p i + cond (signalsAt p t s) 1 0 ≤ higher t p i
         turns-on =
@@ -249,9 +224,8 @@ module _ (t : Tables) (c : Clock) (s : Step) (host : Host t c s) (e : stepped t 
           where
             by : {a b : Bool} → SleeperAfter t s i (rowOf u i) a b → a ≡ false → (rowOf u i .state ≡ 3) × (rowOf u i .place ≡ p)
             by (SleeperAfter.on u x v f) w = (ap (λ (r : Thread). r .state) x ∙ queued, ap (λ (r : Thread). r .place) x ∙ place)
-            by (SleeperAfter.ready m o b r g x v f) w = contrary v w
+            by (SleeperAfter.ready m o b x v f) w = contrary v w
             by (SleeperAfter.done m y o d f b g x v z) w = contrary v w
-            by (SleeperAfter.again o g b x v f) w = contrary v w
 
     -- what wakes a waiter at p
     pub turn-of : (i : ℕ) {a : Thread} → a .state ≡ 3 → a .place ≡ p → {m : ℤ} {o : ℕ} → WokenBy t s i a m o → TurnOf p a s m o

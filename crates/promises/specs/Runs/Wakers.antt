@@ -71,7 +71,7 @@ module _ (t : Tables) (s : Step) (i : ℕ) (someone : i ≢ 255) (was-ready : ro
         wakes = λ m o n c h. woken-calm m o (found t .step) n h;
         ends-on = λ {r} m d z n e h. ended-calm m d (r .pending) h;
         takes-on = λ z k m h. ended-calm (pos 0) _ _ h;
-        sleeps-on = λ q z g m side h. again-calm q g m side h;
+        sleeps-on = λ q z g m side u h. again-calm q g m side h;
       })
       (record {
         wakes = λ m o n c h. woken-calm m o (found t .step) n h;

@@ -28,7 +28,7 @@ use Rattle.promises.specs.Code.Steps.{ran, moments, freshMoments, freshR
 use Rattle.promises.specs.Meant.Fresh.{made-legal}
 use Rattle.promises.specs.Runs.Moments.{turn-woken, sleeper-woken, host}
 use Rattle.promises.specs.Runs.LastWakings.{last-wakings, steps-numbered, numbered-count, numbered-stays, unwoken-same, fresh-why}
-use Rattle.promises.specs.Runs.OneStep.{caller-first}
+use Rattle.promises.specs.Runs.Accepted.{caller-first}
 use Rattle.promises.specs.Top.Demands.{fresh-going, run-going}
 
 module _ (t : Tables) (c : Clock) (g : Going t c) (ss : List Step) (hs : HostSteps ss) where

@@ -59,7 +59,6 @@ late-answer {t} {s} {i} {b} (ReadyAfter.done x d f h e p q) m =
 late-answer (ReadyAfter.again pl side z e p q) m = absurd (below (sym m ∙ z))
 late-answer (ReadyAfter.ready-again pl c side z by e p q) m = absurd (below (sym m ∙ z))
 late-answer (ReadyAfter.done-again pl c x d side z by h e p q) m = absurd (below (sym m ∙ z))
-late-answer (ReadyAfter.slept-again pl c side z by e p q) m = absurd (below (sym m ∙ z))
 
 -- a flag that was answered is not left pending
 pub none-left : {t : Tables} {s : Step} {i : ℕ} {b : Thread} {f : Bool} → FlagsAfter t s i b f → (awaitsFlags t s i && f) ≡ true
@@ -180,9 +179,8 @@ waking-caused (Wakes.fell z f b) = called-cause (CalledOut.served b)
 pub last-tick-told : {t : Tables} {s : Step} {i : ℕ} {b : Thread} {w f : Bool} → LastTick s (rowOf t i) → SleeperAfter t s i b w f
     → (w ≡ true) × (b .message ≡ negsuc 0) × (b .cause ≡ 8)
 last-tick-told v (SleeperAfter.on u e p q) = absurd (u v)
-last-tick-told v (SleeperAfter.ready m c by l g e p q) = (p, rw e (last-by v by .0), rw e (last-by v by .1))
+last-tick-told v (SleeperAfter.ready m c by e p q) = (p, rw e (last-by v by .0), rw e (last-by v by .1))
 last-tick-told v (SleeperAfter.done m x c d f by g e p q) = (p, rw e (last-by v by .0), rw e (last-by v by .1))
-last-tick-told v (SleeperAfter.again c g by e p q) = absurd (below (sym (last-by v by .0)))
 
 -- a tick wakes nobody who was ready: no sleep, waking and end is made up on the way
 pub no-fake-waking : {t : Tables} {s : Step} {i : ℕ} {b : Thread} {w : Bool} → s .caller ≡ 255 → i < 16 → rowOf t i .call .kind ≡ 0
@@ -196,9 +194,8 @@ no-fake-waking c l k (WakerAfter.tried-again (inr x) m h) = absurd (omega (arith
 -- who sleeps and is not in the woken mask finishes nothing
 pub unwoken-unfinished : {t : Tables} {s : Step} {i : ℕ} {b : Thread} {w f : Bool} → SleeperAfter t s i b w f → w ≡ false → f ≡ false
 unwoken-unfinished (SleeperAfter.on u e p q) z = q
-unwoken-unfinished (SleeperAfter.ready m o b l g e p q) z = absurd (true≢false (sym p ∙ z))
+unwoken-unfinished (SleeperAfter.ready m o b e p q) z = absurd (true≢false (sym p ∙ z))
 unwoken-unfinished (SleeperAfter.done m x o d f b g e p q) z = absurd (true≢false (sym p ∙ z))
-unwoken-unfinished (SleeperAfter.again o g b e p q) z = q
 
 -- a word has no bit from the number of threads on
 pub no-bit-past : (f : ℕ → Bool) (n w i : ℕ) → WordOf f n w → n ≤ i → w / 2 ^ i % 2 ≡ 0
@@ -369,5 +366,3 @@ tried-full {t} {s} {i} z (ReadyAfter.again pl side m e p q) n =
     (subst (λ (u : Thread). SideOf (rowOf t i .call) (u .place)) (sym e) side, ap (λ (u : Thread). u .call) e, ap (λ (u : Thread). u .remaining) e)
 tried-full z (ReadyAfter.ready-again pl c side m by e p q) n = absurd (n (ap (λ (u : Thread). u .state) e))
 tried-full z (ReadyAfter.done-again pl c x d side m by h e p q) n = absurd (n (ap (λ (u : Thread). u .state) e))
-tried-full {t} {s} {i} z (ReadyAfter.slept-again pl c side m by e p q) n =
-    (subst (λ (u : Thread). SideOf (rowOf t i .call) (u .place)) (sym e) side, ap (λ (u : Thread). u .call) e, ap (λ (u : Thread). u .remaining) e)

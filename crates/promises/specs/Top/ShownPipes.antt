@@ -13,8 +13,8 @@ use Rattle.pipes.specs.Carrying.{carried}
 use Rattle.pipes.specs.Judging.{pipeRefusal}
 use Rattle.pipes.specs.Opening.{pipesFresh, pipeReset, pipeResumed}
 use Rattle.pipes.specs.Transfer.{goesAhead, stopped, goneOn, writeAnswer, bufferWritten, readAnswer, targetRead}
-use Rattle.promises.specs.Paper.Pipes.{noPipe, pipeOf, PipeCall, PipeMoment, bufferAfter, Lending, inPipe, Told}
-use Rattle.promises.specs.Code.Pipes.{freshPipes, pipeMoments, pipesRan}
+use Rattle.promises.specs.Paper.Pipes.{noPipe, pipeOf, PipeCall, PipeMoment, bufferAfter, OwnLent, Lending, inPipe, Told}
+use Rattle.promises.specs.Code.Pipes.{freshPipes, pipeMoment, pipeMoments, pipesRan}
 use Rattle.promises.specs.Top.Pipes.{since, bytes-always}
 
 -- no table yet, and two pipes are asked for
@@ -121,6 +121,10 @@ pub beside-seen : seen (pipeMoments (freshPipes before 3) beside)
     ∷ []
 unfolding positionsFit carried pipeRefusal pipesFresh pipeReset pipeResumed goesAhead stopped goneOn writeAnswer bufferWritten readAnswer targetRead
 beside-seen = refl
+
+-- what a call lends to pipe 2 is nothing to pipe 0's buffer c, whatever it is
+pub elsewhere-free : (t : Pipes) (b l c : List ℕ) → OwnLent 0 c (pipeMoment t (PipeCall.write 2 b l))
+elsewhere-free t b l c e z = apart e
 
 -- pipe 0 was lent its own buffer, as the last call on it left it
 pub beside-lent : Lending 0 (0 ∷ 0 ∷ 0 ∷ 0 ∷ []) (pipeMoments (freshPipes before 3) beside)

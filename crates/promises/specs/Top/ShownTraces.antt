@@ -21,6 +21,7 @@ use Rattle.promises.specs.Paper.Reader.{byte}
 use Rattle.promises.specs.Paper.Writer.{AnyStep}
 use Rattle.promises.specs.Paper.Traces.{StepsWritten, TraceWritten, StepsRead, TraceRead, AnySteps}
 use Rattle.promises.specs.Code.Traces.{traceCode}
+use Rattle.promises.specs.Meant.Sizes.{fit-limits}
 use Rattle.promises.specs.Top.Traces.{demand-2-traces}
 
 -- two threads, a semaphore and a mailbox of three slots; for one that is not there stand 99
@@ -56,7 +57,12 @@ bytes =
     ++ (0 ∷ 11 ∷ 2 ∷ 0 ∷ 9 ∷ 1 ∷ 2 ∷ 3 ∷ 4 ∷ 255 ∷ 255 ∷ 255 ∷ 255 ∷ [])
     ++ (0 ∷ 11 ∷ 255 ∷ 77 ∷ 200 ∷ 255 ∷ 0 ∷ 0 ∷ 1 ∷ 5 ∷ 6 ∷ 7 ∷ 8 ∷ [])
 
--- written, by the functions themselves
+-- it can be written, by the demand
+pub writes-shown : (k : List ℕ) × TraceWritten traceCode given steps (replicate 40 7) 36 k
+unfolding allFrom sizesFit
+writes-shown = demand-2-traces .writes given steps (replicate 40 7) (fit-limits given refl) (omega arith) (omega arith)
+
+-- and is, by the functions themselves
 pub written-shown : TraceWritten traceCode given steps (replicate 40 7) 36 (bytes ++ replicate 4 7)
 unfolding allFrom sizesFit sizesAnswer sizesWritten headOf stepAnswer stepWritten recordOf
 written-shown = TraceWritten.written 10 refl (StepsWritten.more refl (StepsWritten.more refl StepsWritten.none))
