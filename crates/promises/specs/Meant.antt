@@ -1,4 +1,5 @@
 -- That what the contracts cite comes to what the paper tells (room Paper), and that the paper leaves no choice.
+pub mod Hosts
 pub mod Time
 pub mod Sizes
 pub mod Fresh

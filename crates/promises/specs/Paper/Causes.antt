@@ -54,6 +54,11 @@ abbrev pub causeFor : Step → Thread → ℕ
 causeFor s a =
     cond (eqb (s .kind) 1 && eqb (a .remaining) 1) 8 (cond (eqb (a .state) 4) 4 (cond (eqb (a .state) 2) 3 (queueCause s (a .place))))
 
+-- and for thread i that was ready before the step, with the record a, if the step has woken it: it fell asleep in a mailbox call, the step's own if
+-- it is the caller, else the one that its record kept, and was served by the other side. A fetch (17) by 5 post, a post by 6 fetch; with 0
+abbrev pub causeFell : Step → ℕ → Thread → ℕ
+causeFell s i a = cond (eqb (cond (eqb (s .caller) i) (s .kind) (a .call .kind)) 17) 5 6
+
 -- and the message by the cause: -1 by a tick, -2 by a reset, the waker's own by a release or a resume, else 0
 abbrev pub messageBy : Step → ℕ → ℤ
 messageBy s c = cond (eqb c 8) (negsuc 0) (cond (eqb c 7) (negsuc 1) (cond (eqb c 2 || eqb c 3) (signed (s .a)) (pos 0)))

@@ -26,12 +26,16 @@ pub record EachThread (m : Moment) : Type 0 where
       → inMask i (m .result .woken) ≡ true → Due (m .before) (m .step) i
   -- and so is everybody, where no call goes on
   pub quiet-due : Turns m (m .step .caller ∷ []) → (i : ℕ) → i < m .before .sizes .threads → inMask i (m .result .woken) ≡ true → Due (m .before) (m .step) i
+  -- whoever is woken is ready after the step: none sleeps again in the step that has woken it
+  pub awake : (i : ℕ) → i < m .before .sizes .threads → inMask i (m .result .woken) ≡ true → rowOf (m .after) i .state ≡ 0
   -- of each: the cause and the number in its record are those of its last waking
   pub why : (i : ℕ) → i < m .before .sizes .threads
       → WhyAfter (m .before) (m .step) i (whyOf (rowOf (m .after) i)) (inMask i (m .result .woken))
   pub number : m .after .kernel .steps ≡ risen (m .before .kernel .steps)
   pub flags : (i : ℕ) → i < m .before .sizes .threads
       → FlagsAfter (m .before) (m .step) i (rowOf (m .after) i) (inMask i (m .result .finished))
+  -- whoever runs after the step has no unfinished call; so, of document 02, no unfinished event wait
+  pub runs : (i : ℕ) → m .result .running ≡ i → i ≢ 255 → (rowOf (m .after) i .call .kind ≡ 0) × (rowOf (m .after) i .awaited ≡ 0)
   -- an event wait finishes only in a step after which its thread runs
   pub goes-on : (i : ℕ) → i < m .before .sizes .threads → awaitsFlags (m .before) (m .step) i ≡ true → inMask i (m .result .finished) ≡ true
       → m .result .running ≡ i

@@ -103,6 +103,6 @@ module _ (t : Tables) (c : Clock) (s : Step) (host : Host t c s) (e : stepped t 
     pub apart : rowOf t i .state ≢ 0 → i ≢ s .caller
     apart n z = n (rw z (caller-first (rw z at someone) .is-ready))
 
-    -- and how it stands before settling
+    -- how it stands before settling
     pub sleeper-acted : rowOf t i .state ≢ 0 → SleeperAfter t s i (x₀ .thread i) (x₀ .woken i) (x₀ .finished i)
     sleeper-acted n = acts (Steady t s i someone (SleeperAfter t s i)) (life-keeps t s i someone within n (apart n) .act) .1

@@ -29,7 +29,7 @@ use Rattle.promises.specs.Meant.Only.{highest-only}
 use Rattle.promises.specs.Meant.Step.{hangs}
 use Rattle.promises.specs.Meant.Together.{thread-fits}
 use Rattle.promises.specs.Runs.Keeping.{put-same, put-other, queued-asleep}
-use Rattle.promises.specs.Runs.OneRow.{ended-other, ended-state, ended-row, mail-other}
+use Rattle.promises.specs.Runs.OneRow.{ended-other, ended-state, ended-row, mail-other, not-mail}
 use Rattle.promises.specs.Runs.Sleepers.{last-by}
 use Rattle.promises.specs.Runs.Accepted.{accepted, together, caller-first, semaphore-there, queue-there, mailbox-there, pool-there, x₀, act, someone, fits, sleeper-acted}
 use Rattle.promises.specs.Runs.Places.{cause-for, message-by}
@@ -37,12 +37,6 @@ use Rattle.promises.specs.Runs.OnlyDue.{act-due}
 use Rattle.promises.specs.Runs.Turns.{sideAt, CallsOn, Finds, on-side, on-mail, Mails, Sure, Fair}
 
 -- ---- calls and places
-
--- a call of another kind is no mailbox's
-not-mail : {n k : ℕ} → n ≡ k → k ≢ 15 → k ≢ 16 → k ≢ 17 → IsMailing n → ⊥
-not-mail e x y z (inl (inl h)) = x (sym e ∙ h)
-not-mail e x y z (inl (inr h)) = y (sym e ∙ h)
-not-mail e x y z (inr h) = z (sym e ∙ h)
 
 -- who waits elsewhere than at a mailbox has no call on one
 mail-far : {a : Thread} → WaitFits a → a .state ≢ 0 → (a .state ≡ 3 → a .place < 28) → IsMailing (a .call .kind) → ⊥

@@ -8,6 +8,7 @@ use mathlib.Core.Logic.{_≢_, inl, inr}
 use mathlib.Core.Bool.{Bool, true, false, cond, _&&_}
 use mathlib.Core.List.{List, [], _∷_, tail-eq-of-cons-eq}
 use lib.Dec.{eqb}
+use lib.IntN.{pos}
 use borrow.Author.Tests.{eq-eqb, ne-eqb}
 use Rattle.kernel.specs.declared.clock.Clock.{Clock}
 use Rattle.kernel.specs.declared.records.Thread.{Thread}
@@ -16,10 +17,11 @@ use Rattle.library.specs.declared.calls.Step.{Step}
 use Rattle.library.specs.declared.tables.Tables.{Tables}
 use Rattle.steps.specs.Stepping.{stepped}
 use Rattle.steps.proofs.StepLaws.{Untouched, step-refused}
-use Rattle.promises.specs.Paper.Together.{TicksFit}
+use Rattle.promises.specs.Paper.World.{World, risen, found, Left, First, Running}
+use Rattle.promises.specs.Paper.Together.{TicksFit, AwaitedFit, HangTogether}
 use Rattle.promises.specs.Paper.Host.{HostStep, Host, HostSteps, Going}
 use Rattle.promises.specs.Paper.Waking.{rowOf, inMask, WokenBy, sleptOn, SleeperAfter, Due}
-use Rattle.promises.specs.Paper.Causes.{causeFor, messageBy}
+use Rattle.promises.specs.Paper.Causes.{Wakes, causeFor, causeFell, messageBy, Why, whyOf, WhyAfter}
 use Rattle.promises.specs.Paper.Step.{ClockAfter, StepOf}
 use Rattle.promises.specs.Paper.Run.{isTick, ticksIn, signalsAt, signalsIn, joinsAt, joinsIn, higher, WokenIn, TurnOf, WakingOf, TurnAt, begunWith}
 use Rattle.promises.specs.Paper.History.{Turns}
@@ -29,9 +31,10 @@ use Rattle.promises.specs.Code.Steps.{momentOf, moments}
 use Rattle.promises.specs.Together.Tests.{neither-means}
 use Rattle.promises.specs.Kept.Steps.{Hangs, step-hangs}
 use Rattle.promises.specs.Runs.Keeping.{queued-asleep}
-use Rattle.promises.specs.Runs.OneStep.{sizes-after, steps-after, why-after, sleeper-after, waker-after, woken-after, flags-of}
-use Rattle.promises.specs.Runs.Places.{cause-for, message-by}
-use Rattle.promises.specs.Runs.GoingOn.{goes-running}
+use Rattle.promises.specs.Runs.Accepted.{unbroken}
+use Rattle.promises.specs.Runs.OneStep.{sizes-after, steps-after, awake-after, why-after, sleeper-after, waker-after, woken-after, flags-of}
+use Rattle.promises.specs.Runs.Places.{cause-for, message-by, fell-cause}
+use Rattle.promises.specs.Runs.GoingOn.{first-stays, goes-running}
 use Rattle.promises.specs.Runs.Due.{due-woken, woken-due, quiet-due}
 use Rattle.promises.specs.Runs.Waiters.{turns-on, waits-on, turn-of}
 use Rattle.promises.specs.Runs.OwnSleep.{begun-timeout}
@@ -167,6 +170,23 @@ module _ (t : Tables) (c : Clock) (g : Going t c) (s : Step) (h : HostStep s) (e
       let b = waking (sleeper-after t c s ht e i l n) w in
       (cause-for t c s ht e b, message-by t c s ht e b)
 
+  -- of whoever fell asleep in the step
+  pub faller-woken : (i : ℕ) → i < t .sizes .threads → rowOf t i .state ≡ 0 → inMask i (stepped t c s .outcome .woken) ≡ true
+      → (rowOf (stepped t c s .tables) i .cause ≡ causeFell s i (rowOf t i)) × (rowOf (stepped t c s .tables) i .message ≡ pos 0)
+      × (rowOf (stepped t c s .tables) i .step ≡ risen (t .kernel .steps))
+  faller-woken i l z w = by (why-after t c s (host t c g s h) e i l)
+    where
+      b : Thread
+      b = rowOf (stepped t c s .tables) i
+
+      by : WhyAfter t s i (whyOf b) (inMask i (stepped t c s .outcome .woken))
+          → (b .cause ≡ causeFell s i (rowOf t i)) × (b .message ≡ pos 0) × (b .step ≡ risen (t .kernel .steps))
+      by (WhyAfter.same q y) = contrary w q
+      by (WhyAfter.woke q (Wakes.slept n v) y) = absurd (n z)
+      by (WhyAfter.woke q (Wakes.fell n f v) y) =
+          let x = fell-cause t c s (host t c g s h) e i l f v in
+          (ap (λ (r : Why). r .cause) y ∙ x .0, ap (λ (r : Why). r .message) y ∙ x .1, ap (λ (r : Why). r .step) y)
+
 pub turn-comes : (p : ℕ) → p < 20 → (ss : List Step) → HostSteps ss → (t : Tables) (c : Clock) → Going t c → (i : ℕ) → i < t .sizes .threads
     → rowOf t i .state ≡ 3 → rowOf t i .place ≡ p → joinsIn p i (moments t c ss) ≡ false → higher t p i < signalsIn p (moments t c ss)
     → WokenIn i (TurnAt p i) (moments t c ss)
@@ -203,6 +223,30 @@ quiet t c s x e i l (Turns.refused d) z w = absurd (d e)
 quiet t c s x e i l (Turns.accepted d v y js a k) z w =
     quiet-due t c s x e i l v y a (subst (Settles y v) (tail-eq-of-cons-eq z) k) w
 
+-- whoever runs is the first ready thread of tables that hang together
+module _ (t : Tables) (c : Clock) (g : Going t c) (s : Step) (h : HostStep s) (e : stepped t c s .outcome .code ≡ 0) where
+  runs-first : (i : ℕ) → i ≢ 255 → {x : World} → Left x (stepped t c s .tables) → Running x i → First (found (stepped t c s .tables)) i
+  runs-first i n l (Running.idle a z) = absurd (n z)
+  runs-first i n {x} l (Running.thread f) = first-stays x (found (stepped t c s .tables)) i (l .sizes) (λ j. ap (λ (r : Thread). r .state) (l .threads j)) f
+
+  runs-free : (i : ℕ) → stepped t c s .outcome .running ≡ i → i ≢ 255
+      → (rowOf (stepped t c s .tables) i .call .kind ≡ 0) × (rowOf (stepped t c s .tables) i .awaited ≡ 0)
+  runs-free i r n = by (step-is t c s (host t c g s h))
+    where
+      next : HangTogether (found (stepped t c s .tables)) (stepped t c s .tables .kernel .words) (stepped t c s .clock)
+      next = going-on t c g s h .together
+
+      none : {a : Thread} → AwaitedFit a → a .call .kind ≡ 0 → a .awaited ≡ 0
+      none (AwaitedFit.mask k q) z = absurd (omega (arith, k, z))
+      none (AwaitedFit.none k q) z = q
+
+      by : StepOf t c s (stepped t c s) → (rowOf (stepped t c s .tables) i .call .kind ≡ 0) × (rowOf (stepped t c s .tables) i .awaited ≡ 0)
+      by (StepOf.refused m b f q) = absurd (unbroken t c s (host t c g s h) e m b)
+      by (StepOf.accepted b w x is act settles l u d o) =
+          let f = runs-first i n l (subst (Running x) r (o .running)) in
+          let z = next .running i f in
+          (z, none (next .threads i (f .thread) .awaited) z)
+
 pub each-step : (ss : List Step) → HostSteps ss → (t : Tables) (c : Clock) → Going t c → Throughout EachThread (moments t c ss)
 each-step [] hs t c g = Throughout.none
 each-step (s ∷ ss) (HostSteps.more h hs) t c g =
@@ -214,9 +258,11 @@ each-step (s ∷ ss) (HostSteps.more h hs) t c g =
       due = due-woken t c s (host t c g s h) e;
       only-due = woken-due t c s (host t c g s h) e;
       quiet-due = λ u i l w. quiet t c s (host t c g s h) e i l u refl w;
+      awake = awake-after t c s (host t c g s h) e;
       why = why-after t c s (host t c g s h) e;
       number = steps-after t c s (host t c g s h) e;
       flags = flags-of t c s (host t c g s h) e;
+      runs = runs-free t c g s h e;
       goes-on = goes-running t c s (host t c g s h) e;
     })
     (each-step ss hs (stepped t c s .tables) (stepped t c s .clock) (going-on t c g s h))

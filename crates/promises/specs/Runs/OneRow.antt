@@ -76,6 +76,12 @@ mail-other (inl (inl e)) = (λ x. omega arith, λ x. omega arith)
 mail-other (inl (inr e)) = (λ x. omega arith, λ x. omega arith)
 mail-other (inr e) = (λ x. omega arith, λ x. omega arith)
 
+-- nor of any other kind
+pub not-mail : {n k : ℕ} → n ≡ k → k ≢ 15 → k ≢ 16 → k ≢ 17 → IsMailing n → ⊥
+not-mail e x y z (inl (inl h)) = x (sym e ∙ h)
+not-mail e x y z (inl (inr h)) = y (sym e ∙ h)
+not-mail e x y z (inr h) = z (sym e ∙ h)
+
 -- a tick and an event signal leave the step's number
 tick-step : {w x : World} {i : ℕ} → TickOf w i x → x .step ≡ w .step
 tick-step (TickOf.no-ticks a e) = ap (λ (v : World). v .step) e

@@ -187,6 +187,10 @@ module _ (t : Tables) (c : Clock) (s : Step) (host : Host t c s) (e : stepped t 
         → P (rowOf u i) (inMask i (stepped t c s .outcome .woken)) (inMask i (stepped t c s .outcome .finished))
     row-told P k q = told P (settle-keeps (Steady t s i is-thread P) (row-on t s i is-thread P k) (act-step, q) .1)
 
+    -- whoever is woken is ready after the step
+    pub awake-after : inMask i (stepped t c s .outcome .woken) ≡ true → rowOf u i .state ≡ 0
+    awake-after = told (λ b w f. w ≡ true → b .state ≡ 0) (λ w. settles (λ x. x .step ≡ found t .step) (step-kept t s .on) act-step .0 i within w .0)
+
     -- a thread that slept
     pub sleeper-after : rowOf t i .state ≢ 0
         → SleeperAfter t s i (rowOf u i) (inMask i (stepped t c s .outcome .woken)) (inMask i (stepped t c s .outcome .finished))

@@ -1,11 +1,11 @@
 -- The cause of a waking follows from where the thread waited, and from the step: no step leaves a choice.
 use Prim.Native.Nat.{ℕ, _+_, _≤_, _<_}
 use native.Mathlib.Omega.{arith}
-use mathlib.Core.Path.{_≡_, refl, ap, _∙_}
+use mathlib.Core.Path.{_≡_, refl, sym, ap, _∙_, subst}
 use mathlib.Core.Logic.{_≢_, inl, inr}
 use mathlib.Core.Bool.{true, false, cond}
 use lib.Dec.{eqb, ltb}
-use lib.IntN.{ℤ}
+use lib.IntN.{ℤ, pos}
 use borrow.Author.Tests.{eq-eqb, ne-eqb, lt-ltb, le-ltb}
 use Rattle.kernel.specs.declared.clock.Clock.{Clock}
 use Rattle.kernel.specs.declared.records.Call.{Call}
@@ -15,29 +15,35 @@ use Rattle.library.specs.declared.calls.Step.{Step}
 use Rattle.library.specs.declared.sizes.Sizes.{Sizes}
 use Rattle.library.specs.declared.tables.Tables.{Tables}
 use Rattle.steps.specs.Stepping.{stepped}
+use Rattle.promises.specs.Paper.World.{found, First}
 use Rattle.promises.specs.Paper.Host.{Host}
 use Rattle.promises.specs.Paper.Together.{CallFits}
-use Rattle.promises.specs.Paper.Waking.{Tried, Served, CalledOut, WokenBy}
-use Rattle.promises.specs.Paper.Causes.{resetsAt, queueCause, causeFor, messageBy}
-use Rattle.promises.specs.Runs.Accepted.{together, semaphore-there, queue-there, mailbox-there, pool-there, fits}
+use Rattle.promises.specs.Paper.Waking.{rowOf, IsMailing, Tried, Served, CalledOut, WokenBy, OwnWait}
+use Rattle.promises.specs.Paper.Causes.{FallsAt, causeFell, resetsAt, queueCause, causeFor, messageBy}
+use Rattle.promises.specs.Runs.Accepted.{together, caller-first, semaphore-there, queue-there, mailbox-there, pool-there, someone, fits}
+use Rattle.promises.specs.Runs.OneRow.{mail-other, not-mail}
 
 -- the cause by state and place
 abbrev calledCause : Step → ℕ → ℕ → ℕ
 calledCause s state p = cond (eqb state 4) 4 (cond (eqb state 2) 3 (queueCause s p))
 
--- a fetch that a record keeps is of a mailbox that is there
-fetch-there : {z : Sizes} {c : Call} → CallFits z c → c .kind ≡ 17 → c .object < z .mailboxes
-fetch-there (CallFits.none e) k = absurd (omega (arith, k, ap (λ (c : Call). c .kind) e))
-fetch-there (CallFits.semaphore x o a b) k = absurd (omega (arith, k, x))
-fetch-there (CallFits.queue x o a b) k = absurd (omega (arith, k, x))
-fetch-there (CallFits.reference x o a b) k = absurd (omega (arith, k, x))
-fetch-there (CallFits.sleep-for x o a b) k = absurd (omega (arith, k, x))
-fetch-there (CallFits.sleep-until x o b) k = absurd (omega (arith, k, x))
-fetch-there (CallFits.events x o b) k = absurd (omega (arith, k, x))
-fetch-there (CallFits.post (inl x) o b) k = absurd (omega (arith, k, x))
-fetch-there (CallFits.post (inr x) o b) k = absurd (omega (arith, k, x))
-fetch-there (CallFits.fetch x o a b) k = o
-fetch-there (CallFits.alloc x o a b) k = absurd (omega (arith, k, x))
+-- a mailbox call that a record keeps is of a mailbox that is there
+mail-there : {z : Sizes} {c : Call} → CallFits z c → IsMailing (c .kind) → c .object < z .mailboxes
+mail-there (CallFits.none e) g = absurd (mail-other g .1 (ap (λ (c : Call). c .kind) e))
+mail-there (CallFits.semaphore x o a b) g = absurd (not-mail x (λ y. omega arith) (λ y. omega arith) (λ y. omega arith) g)
+mail-there (CallFits.queue x o a b) g = absurd (not-mail x (λ y. omega arith) (λ y. omega arith) (λ y. omega arith) g)
+mail-there (CallFits.reference x o a b) g = absurd (not-mail x (λ y. omega arith) (λ y. omega arith) (λ y. omega arith) g)
+mail-there (CallFits.sleep-for x o a b) g = absurd (not-mail x (λ y. omega arith) (λ y. omega arith) (λ y. omega arith) g)
+mail-there (CallFits.sleep-until x o b) g = absurd (not-mail x (λ y. omega arith) (λ y. omega arith) (λ y. omega arith) g)
+mail-there (CallFits.events x o b) g = absurd (not-mail x (λ y. omega arith) (λ y. omega arith) (λ y. omega arith) g)
+mail-there (CallFits.post x o b) g = o
+mail-there (CallFits.fetch x o a b) g = o
+mail-there (CallFits.alloc x o a b) g = absurd (not-mail x (λ y. omega arith) (λ y. omega arith) (λ y. omega arith) g)
+
+mail-kinds : {n : ℕ} → IsMailing n → (15 ≤ n) × (n ≤ 19)
+mail-kinds (inl (inl e)) = (omega arith, omega arith)
+mail-kinds (inl (inr e)) = (omega arith, omega arith)
+mail-kinds (inr e) = (omega arith, omega arith)
 
 -- a place that is at neither side of the mailbox that the step resets
 not-reset : (s : Step) (p : ℕ) → (s .kind ≡ 18 → p ≢ 28 + s .object) → (s .kind ≡ 18 → p ≢ 32 + s .object) → resetsAt s p ≡ false
@@ -48,9 +54,9 @@ module _ (t : Tables) (c : Clock) (s : Step) (host : Host t c s) (e : stepped t 
   few : (t .sizes .semaphores ≤ 16) × (t .sizes .queues ≤ 8) × (t .sizes .mailboxes ≤ 4) × (t .sizes .pools ≤ 4)
   few = let z = together t c s host e .sizes in (z .semaphores, z .queues, z .mailboxes, z .pools)
 
-  tried-there : {b : ℕ} → Tried t s 17 b → b < t .sizes .mailboxes
-  tried-there (Tried.own k o) = omega (arith, o, mailbox-there t c s host e (omega (arith, k)) (omega (arith, k)))
-  tried-there (Tried.kept j l k o) = omega (arith, o, fetch-there (fits t c s host e j l .call) k)
+  tried-there : {n b : ℕ} → IsMailing n → Tried t s n b → b < 4
+  tried-there g (Tried.own k o) = omega (arith, o, few .2, mailbox-there t c s host e (rw k (mail-kinds g .0)) (rw k (mail-kinds g .1)))
+  tried-there g (Tried.kept j l k o) = omega (arith, o, few .2, mail-there (fits t c s host e j l .call) (subst IsMailing (sym k) g))
 
   reset-there : s .kind ≡ 18 → s .object < 4
   reset-there k = omega (arith, few .2, mailbox-there t c s host e (omega (arith, k)) (omega (arith, k)))
@@ -70,7 +76,7 @@ module _ (t : Tables) (c : Clock) (s : Step) (host : Host t c s) (e : stepped t 
         at-side q (omega (arith, x)) (λ y w. omega (arith, x, w, reset-there y)) (λ y w. z y (omega (arith, x, w))) 5
         (rw (le-ltb p 32 (omega (arith, x))))
     served-at (Served.fetch b z k q x) =
-        let l : b < 4 = omega (arith, few .2, tried-there k) in
+        let l : b < 4 = tried-there (inr refl) k in
         at-side q (omega (arith, x)) (λ y w. z y (omega (arith, x, w))) (λ y w. omega (arith, x, w, l)) 6 (rw (lt-ltb p 32 (omega (arith, x, l))))
 
     queued : state ≡ 3 → p ≡ 20 + s .object → s .object < t .sizes .queues → 2 ≡ calledCause s state p
@@ -121,3 +127,46 @@ module _ (t : Tables) (c : Clock) (s : Step) (host : Host t c s) (e : stepped t 
   message-by (WokenBy.call u (CalledOut.served (Served.fetch b z k q x))) = refl
   message-by (WokenBy.call u (CalledOut.box-reset k q x)) = refl
   message-by (WokenBy.call u (CalledOut.object k q x)) = refl
+
+  -- who is served, by the side where it waits
+  served-writer : (b : ℕ) {st : ℕ} {m : ℤ} {o : ℕ} → b < 4 → Served t s st (28 + b) m o → (o ≡ 6) × (m ≡ pos 0)
+  served-writer b l (Served.post d z k q x) = absurd (omega (arith, l, x))
+  served-writer b l (Served.fetch d z k q x) = (refl, refl)
+
+  served-reader : (b : ℕ) {st : ℕ} {m : ℤ} {o : ℕ} → Served t s st (32 + b) m o → (o ≡ 5) × (m ≡ pos 0)
+  served-reader b (Served.post d z k q x) = (refl, refl)
+  served-reader b (Served.fetch d z k q x) = absurd (omega (arith, x, tried-there (inr refl) k))
+
+  -- who is served waits at a mailbox's side
+  served-far : {st pl : ℕ} {m : ℤ} {o : ℕ} → Served t s st pl m o → (st ≡ 3) × (28 ≤ pl)
+  served-far (Served.post d z k q x) = (q, omega (arith, x))
+  served-far (Served.fetch d z k q x) = (q, omega (arith, x))
+
+  -- WHY ONE WAKES THAT FELL ASLEEP IN THE STEP
+  module _ (i : ℕ) (within : i < t .sizes .threads) where
+    abbrev a : Thread
+    a = rowOf t i
+
+    fell-own : s .caller ≡ i → {st pl : ℕ} {m : ℤ} {o : ℕ} → OwnWait s st pl → Served t s st pl m o → (o ≡ causeFell s i a) × (m ≡ pos 0)
+    fell-own z (OwnWait.semaphore k d) b = absurd (omega (arith, served-far b .1, few .0, semaphore-there t c s host e (omega (arith, k)) (omega (arith, k))))
+    fell-own z (OwnWait.queue k d) b = absurd (omega (arith, served-far b .1, few .1, queue-there t c s host e (omega (arith, k)) (omega (arith, k))))
+    fell-own z (OwnWait.reference k d) b = absurd (omega (arith, served-far b .0))
+    fell-own z (OwnWait.sleeps k) b = absurd (omega (arith, served-far b .0))
+    fell-own z (OwnWait.events k d) b = absurd (omega (arith, served-far b .0))
+    fell-own z (OwnWait.writer (inl k) d) b = rw (eq-eqb (s .caller) i z, k) (served-writer (s .object) (tried-there (inl (inl k)) (Tried.own refl refl)) b)
+    fell-own z (OwnWait.writer (inr k) d) b = rw (eq-eqb (s .caller) i z, k) (served-writer (s .object) (tried-there (inl (inr k)) (Tried.own refl refl)) b)
+    fell-own z (OwnWait.reader k d) b = rw (eq-eqb (s .caller) i z, k) (served-reader (s .object) b)
+    fell-own z (OwnWait.pool k d) b = absurd (omega (arith, served-far b .1, few .3, pool-there t c s host e (omega (arith, k)) (omega (arith, k))))
+
+    -- whoever calls has no call to be continued
+    not-caller : a .call .kind ≢ 0 → s .caller ≢ i
+    not-caller n z = n (together t c s host e .running i (subst (First (found t)) z (caller-first t c s host e (rw z (someone t c s host e i within)))))
+
+    kept-call : IsMailing (a .call .kind) → eqb (s .caller) i ≡ false
+    kept-call g = ne-eqb (s .caller) i (not-caller (mail-other g .1))
+
+    pub fell-cause : {st pl : ℕ} {m : ℤ} {o : ℕ} → FallsAt t s i st pl → Served t s st pl m o → (o ≡ causeFell s i a) × (m ≡ pos 0)
+    fell-cause (FallsAt.own z w) b = fell-own z w b
+    fell-cause (FallsAt.writer (inl k)) b = rw (kept-call (inl (inl k)), k) (served-writer (a .call .object) (tried-there (inl (inl k)) (Tried.kept i within refl refl)) b)
+    fell-cause (FallsAt.writer (inr k)) b = rw (kept-call (inl (inr k)), k) (served-writer (a .call .object) (tried-there (inl (inr k)) (Tried.kept i within refl refl)) b)
+    fell-cause (FallsAt.reader k) b = rw (kept-call (inr k), k) (served-reader (a .call .object) b)

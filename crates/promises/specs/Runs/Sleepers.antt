@@ -32,7 +32,7 @@ use Rattle.promises.specs.Paper.Waking.{
   SideOf,
 }
 use Rattle.promises.specs.Runs.Keeping.{put-same, put-other, Ends, Keeps}
-use Rattle.promises.specs.Runs.OneRow.{flagsTaken, Stands, Steady, row-stays, ready-stays, RowOn, row-keeps}
+use Rattle.promises.specs.Runs.OneRow.{flagsTaken, not-mail, Stands, Steady, row-stays, ready-stays, RowOn, row-keeps}
 
 -- a thread without a call has no event wait
 pub no-event : {n : ℕ} → n ≡ 0 → n ≢ 14
@@ -66,9 +66,8 @@ called-state (CalledOut.object a b c) = inr b
 
 -- a call of another kind has no side
 pub not-side : {c : Call} {k : ℕ} → c .kind ≡ k → k ≢ 15 → k ≢ 16 → k ≢ 17 → {q : ℕ} → SideOf c q → ⊥
-not-side e x y z (SideOf.writers (inl h)) = x (sym e ∙ h)
-not-side e x y z (SideOf.writers (inr h)) = y (sym e ∙ h)
-not-side e x y z (SideOf.readers h) = z (sym e ∙ h)
+not-side e x y z (SideOf.writers h) = not-mail e x y z (inl h)
+not-side e x y z (SideOf.readers h) = not-mail e x y z (inr h)
 
 module _ (t : Tables) (s : Step) (i : ℕ) (someone : i ≢ 255) (within : i < t .sizes .threads) (before : rowOf t i .state ≢ 0) (apart : i ≢ s .caller) where
   abbrev a : Thread

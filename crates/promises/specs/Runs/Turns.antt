@@ -70,7 +70,7 @@ pub on-mail : (side : Bool) (b : ℕ) (c : Call) → CallsOn side b c → IsMail
 on-mail true b c h = inr (h .0)
 on-mail false b c h = inl (h .0)
 
--- what settling finds: few threads, mailboxes that have slots and no more messages than these, and calls that fit where their threads wait
+-- what settling finds: few threads, mailboxes with no more messages than slots, and calls that fit where their threads wait
 pub record Mails (w : World) : Type 0 where
   pub few : w .sizes .threads ≤ 16
   pub boxes : (l : ℕ) → l < w .sizes .threads → (side : Bool) (b : ℕ) → CallsOn side b (w .thread l .call)
@@ -82,7 +82,7 @@ pub record Mails (w : World) : Type 0 where
 -- what the continued call of thread i, which runs in w, leaves in v
 pub data Went (w v : World) (i : ℕ) : Type 0 where
   -- it ends, and no other record is touched
-  alone : (u : World) (m : ℤ) (d : ℕ) → u .woken ≡ w .woken → u .thread i .state ≡ 0 → ((l : ℕ) → l ≢ i → u .thread l ≡ w .thread l)
+  alone : (u : World) (m : ℤ) (d : ℕ) → u .sizes ≡ w .sizes → u .woken ≡ w .woken → u .thread i .state ≡ 0 → ((l : ℕ) → l ≢ i → u .thread l ≡ w .thread l)
       → v ≡ ended u i m d → Went w v i
   -- it ends, and thread j is served, at the other side of its mailbox, which becomes y
   serves : (side : Bool) (b j o d : ℕ) (y : Mailbox) → CallsOn side b (w .thread i .call) → Highest w (sideAt (not side) b) j
@@ -95,7 +95,7 @@ module _ (w : World) (i : ℕ) (is-ready : w .thread i .state ≡ 0) where
   c = w .thread i .call
 
   plainly : {x : World} (m : ℤ) (d : ℕ) → x ≡ ended w i m d → Went w x i
-  plainly m d e = Went.alone w m d refl is-ready (λ l n. refl) e
+  plainly m d e = Went.alone w m d refl refl is-ready (λ l n. refl) e
 
   -- it serves the other side, with or without a waiter there
   served : {v x : World} (side : Bool) (b : ℕ) → CallsOn side b c → (y : Mailbox) → Finds (not side) y (slotsOf w b) → (o d : ℕ)
@@ -103,7 +103,7 @@ module _ (w : World) (i : ℕ) (is-ready : w .thread i .state ≡ 0) where
   served side b mine y finds o d (Release.first j h e) r =
       Went.serves side b j o d y mine h finds (r ∙ ap (λ (q : World). ended (boxTo q b y) i (pos 0) d) e)
   served side b mine y finds o d (Release.nobody h e) r =
-      Went.alone (boxTo w b y) (pos 0) d refl is-ready (λ l n. refl) (r ∙ ap (λ (q : World). ended (boxTo q b y) i (pos 0) d) e)
+      Went.alone (boxTo w b y) (pos 0) d refl refl is-ready (λ l n. refl) (r ∙ ap (λ (q : World). ended (boxTo q b y) i (pos 0) d) e)
 
   waits : {x : World} (side : Bool) (b : ℕ) → CallsOn side b c → w .thread i .message ≡ pos 0 → Lacks side (w .box b) (slotsOf w b)
       → Waits w i 3 (sideAt side b) c x → Went w x i
@@ -124,14 +124,14 @@ module _ (w : World) (i : ℕ) (is-ready : w .thread i .state ≡ 0) where
   -- its own record changes before its call ends
   changed : {x : World} (u : Thread) (m : ℤ) (d : ℕ) → u .state ≡ 0 → x ≡ ended (threadTo w i u) i m d → Went w x i
   changed u m d z e =
-      Went.alone (threadTo w i u) m d refl (ap (λ (r : Thread). r .state) (put-same (w .thread) i u) ∙ z) (λ l n. put-other (w .thread) i l u n) e
+      Went.alone (threadTo w i u) m d refl refl (ap (λ (r : Thread). r .state) (put-same (w .thread) i u) ∙ z) (λ l n. put-other (w .thread) i l u n) e
 
   -- WHAT A TURN LEAVES
   pub went : {x : World} → (c .kind ≡ 17 → w .box (c .object) .positions .count ≤ slotsOf w (c .object)) → Continued w i x → Went w x i
   went q (Continued.flags k m e) = changed (pendingTo (w .thread i) _) (pos 0) _ is-ready e
   went q (Continued.posts k m h) = posts k m h
   went q (Continued.fetches k m h) = fetches (q k) k m h
-  went q (Continued.takes k m e) = Went.alone (poolTo w (c .object) _) (pos 0) _ refl is-ready (λ l n. refl) e
+  went q (Continued.takes k m e) = Went.alone (poolTo w (c .object) _) (pos 0) _ refl refl is-ready (λ l n. refl) e
   went q (Continued.answers h e) = plainly _ 0 e
 
 -- ---- who was woken
@@ -260,7 +260,7 @@ module _ (n : ℕ) (w : World) (i : ℕ) (within : i < n) (g : Mails w) (f : Fir
       unwoken = split (w .woken i) (λ y. absurd (fresh side b mine m lack (fair i within y .1))) (λ y. y)
 
   went-fair : {v : World} → Went w v i → Fair n v × (v .thread i .state ≢ 0 → w .woken i ≡ false)
-  went-fair {v} (Went.alone u m d bits z same e) =
+  went-fair {v} (Went.alone u m d sized bits z same e) =
       ends-fair u v m d z e
       (λ k q l a.
       stays (ended u i m d) (λ l p y. ended-other u i m d l p ∙ same l p) k q (fair k l (sym (ap (λ (f : ℕ → Bool). f k) bits) ∙ a)))

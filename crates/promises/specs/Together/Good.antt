@@ -1,6 +1,6 @@
 -- "Tables that hang together", each sentence as a statement, in the paper's order within each record. That the code's test says
 -- exactly this is proved in Hanging.antt.
-use Prim.Native.Nat.{ℕ, _+_, _≤_, _<_}
+use Prim.Native.Nat.{ℕ, _≤_, _<_}
 use mathlib.Core.Path.{_≡_}
 use mathlib.Core.Logic.{_≢_, _⊎_, _↔_}
 use mathlib.Core.Bool.{true, false}

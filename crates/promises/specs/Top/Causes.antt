@@ -16,20 +16,22 @@ use Rattle.library.specs.declared.sizes.Sizes.{Sizes}
 use Rattle.library.specs.declared.tables.Tables.{Tables}
 use Rattle.library.specs.Fresh.{made}
 use Rattle.steps.specs.Stepping.{stepped}
+use Rattle.promises.specs.Paper.World.{risen}
 use Rattle.promises.specs.Paper.Fresh.{FreshTables, Legal}
 use Rattle.promises.specs.Paper.Host.{HostStep, HostSteps, Going}
 use Rattle.promises.specs.Paper.Waking.{rowOf, inMask, OwnWait}
 use Rattle.promises.specs.Paper.Run.{Moment, isAccepted, howMany, anyOf, TurnOf}
-use Rattle.promises.specs.Paper.Causes.{causeFor, messageBy, Why, whyOf, notYet, numbered, LastWaking, FallsAt, placeOf}
+use Rattle.promises.specs.Paper.Causes.{causeFor, messageBy, Why, whyOf, notYet, numbered, LastWaking, FallsAt, placeOf, causeFell}
 use Rattle.promises.specs.Paper.World.{found, kept, First}
 use Rattle.promises.specs.Paper.Together.{WaitFits}
 use Rattle.promises.specs.Paper.History.{callBy}
 use Rattle.promises.specs.Code.Steps.{ran, moments, freshMoments, freshRan, calledBy, momentOf}
 use Rattle.promises.specs.Meant.Fresh.{made-legal}
-use Rattle.promises.specs.Runs.Moments.{turn-woken, sleeper-woken, host}
+use Rattle.promises.specs.Runs.Moments.{turn-woken, sleeper-woken, host, faller-woken}
 use Rattle.promises.specs.Runs.LastWakings.{last-wakings, steps-numbered, numbered-count, numbered-stays, unwoken-same, fresh-why}
 use Rattle.promises.specs.Runs.Accepted.{caller-first}
 use Rattle.promises.specs.Top.Demands.{fresh-going, run-going}
+use lib.IntN.{pos}
 
 module _ (t : Tables) (c : Clock) (g : Going t c) (ss : List Step) (hs : HostSteps ss) where
   -- "Each thread record shall carry the cause of its last waking .. and the number of that step"
@@ -58,6 +60,12 @@ module _ (t : Tables) (c : Clock) (g : Going t c) (s : Step) (h : HostStep s) (a
       → (rowOf (stepped t c s .tables) i .cause ≡ causeFor s (rowOf t i))
       × (rowOf (stepped t c s .tables) i .message ≡ messageBy s (rowOf (stepped t c s .tables) i .cause))
   sleeper-told = sleeper-woken t c g s h accepted
+
+  -- and of whoever was ready: it fell asleep in this very step, in a mailbox call, and the other side has served it
+  pub faller-told : (i : ℕ) → i < t .sizes .threads → rowOf t i .state ≡ 0 → inMask i (stepped t c s .outcome .woken) ≡ true
+      → (rowOf (stepped t c s .tables) i .cause ≡ causeFell s i (rowOf t i)) × (rowOf (stepped t c s .tables) i .message ≡ pos 0)
+      × (rowOf (stepped t c s .tables) i .step ≡ risen (t .kernel .steps))
+  faller-told = faller-woken t c g s h accepted
 
 -- ---- where a thread waited that a step has woken, as `./listing --why` prints it
 

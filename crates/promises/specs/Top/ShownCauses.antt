@@ -53,7 +53,7 @@ made-valve = code-legal valve Standard refl
 
 -- thread 0 waits, and an interrupt signals; it waits for a tick, signals where it does not run, which is refused, and the tick comes; it waits, and
 -- the interrupt resets. It sleeps for a tick, thread 1 posts, posts again and waits, and the tick comes; it fetches, which wakes thread 1,
--- and fetches again and waits: thread 1's post goes on and wakes it
+-- and fetches again and waits: thread 1's post goes on and wakes it (`faller-told`)
 abbrev shift : List Step
 shift =
     by 0 2 0 9
