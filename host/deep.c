@@ -207,5 +207,5 @@ int main(int argc, char **argv)
            "stack of %llu\n", (unsigned)d.steps, (unsigned)DEEP,
            (unsigned)d.continued, (unsigned long long)d.used,
            (unsigned long long)stack_bytes);
-    return 0;
+    return fflush(stdout) == 0 ? 0 : 1;
 }

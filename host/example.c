@@ -269,5 +269,6 @@ int main(void)
     show_top(&plant);
     show_why(&plant);
     show_time(&plant);
-    return 0;
+    /* what was printed may not have arrived */
+    return fflush(stdout) == 0 ? 0 : 1;
 }

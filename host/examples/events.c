@@ -89,5 +89,6 @@ int main(void)
     say("the scale sleeps", scale_sleeps());
     say("wait for any", conveyor_waits(all, 3));
     say("wait for nothing", conveyor_waits(0, 3));
-    return 0;
+    /* what was printed may not have arrived */
+    return fflush(stdout) == 0 ? 0 : 1;
 }

@@ -70,5 +70,6 @@ int main(void)
     weigh(4);
     printf("lost %u, waiting %u\n", lost,
            (unsigned)tables.mailboxes[WEIGHTS].count);
-    return 0;
+    /* what was printed may not have arrived */
+    return fflush(stdout) == 0 ? 0 : 1;
 }

@@ -115,5 +115,6 @@ int main(void)
                      printed - before) == 0
                ? "as they were written" : "NOT as they were written");
     damage();
-    return 0;
+    /* what was printed may not have arrived */
+    return fflush(stdout) == 0 ? 0 : 1;
 }

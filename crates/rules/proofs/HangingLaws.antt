@@ -7,18 +7,22 @@ use mathlib.Core.Path.{_≡_, refl, sym, ap, _∙_}
 use mathlib.Core.Bool.{Bool, true, false, cond, not, _&&_}
 use mathlib.Core.List.{List}
 use lib.Dec.{eqb, ltb}
+use lib.IntN.{ℤ, pos, negsuc}
 use lib.ListN.{length, getD, set, replicate, length-set, length-replicate}
 use lib.Pow.{pow-mono}
 use lib.Seq.{getD-set-same, getD-set-other}
-use borrow.Author.Tests.{ltb-true, eqb-true, eqb-false, ne-eqb, not-true, not-false}
+use borrow.Author.Tests.{lt-ltb, ltb-true, eqb-true, eqb-false, ne-eqb, not-true, not-false}
 use Rattle.kernel.specs.Numbers.{nobody}
 use Rattle.kernel.specs.Walk.{firstFrom, allFrom, countOf}
-use Rattle.kernel.specs.Words.{wordOf}
-use Rattle.kernel.proofs.Cases.{split}
+use Rattle.kernel.specs.Words.{wordOf, onesOf}
+use Rattle.kernel.proofs.Cases.{split, contrary, both-means}
 use Rattle.kernel.proofs.WalkLaws.{search-agree, count-le, count-none}
 use Rattle.kernel.proofs.WordsLaws.{word-more, word-lt}
 use Rattle.kernel.proofs.Loops.{first-here, first-next, all-fails, all-next, count-more}
+use Rattle.library.specs.declared.sizes.Sizes.{Sizes}
+use Rattle.library.specs.Signs.{same}
 use Rattle.rules.specs.Limits.{usedOf, firstBad}
+use Rattle.rules.specs.PlaceRules.{inUse, placeFits}
 
 -- no more rows are in use than there are; e is what a callee gave
 pub used-of-le : (e rows n : ℕ) → e ≡ usedOf rows n → e ≤ rows
@@ -36,6 +40,20 @@ passes-anyway false e h = refl
 pub passes-unused : (r u e : Bool) → r ≡ u → e ≡ false → not r ≡ cond u e true
 passes-unused r true e s h = rw (s, h)
 passes-unused r false e s h = rw s
+
+-- an empty word names nobody
+pub no-ones : onesOf 0 ≡ 0
+unfolding onesOf countOf
+no-ones = refl
+
+-- a place at which nobody is queued and whose counter is 0 fits, in use or not
+pub idle-fits : (z : Sizes) (p : ℕ) (c : ℤ) → same c (pos 0) ≡ true → placeFits z p c 0 ≡ true
+idle-fits z p (pos zero) h =
+    split (inUse z p) (λ e. rw e (split (ltb p 20) (λ t. rw t) (λ t. rw t))) (λ e. rw e)
+idle-fits z p (pos (suc n)) h =
+    contrary (lt-ltb 0 (suc n) (omega arith))
+    (not-true (ltb 0 (suc n)) (both-means (not (ltb (suc n) 0)) (not (ltb 0 (suc n))) h .1))
+idle-fits z p (negsuc n) h = contrary h refl
 
 -- what a callee gave, r, is the test b; the code has tested that it is not r
 pub passed : {r b : Bool} → r ≡ b → not r ≡ false → b ≡ true

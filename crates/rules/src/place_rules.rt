@@ -7,6 +7,7 @@ use library::signs::is_same;
 use library::signs::negative;
 use library::sizes::Sizes;
 ghost use mathlib.Core.Path.{_≡_};
+ghost use Rattle.kernel.specs.Words.{onesOf};
 ghost use Rattle.rules.specs.PlaceRules.{inUse, queueOf, isIdle, counterFits, placeFits, badCounter};
 
 // Whether the sizes put a place to use.
@@ -61,6 +62,18 @@ fn place_fits(z: Sizes, p: u16, c: i32, n: u16) -> bool
     }
 }
 
+// The same by the word of those who are queued. Where nobody is and the counter is 0 it fits, in use or not.
+fn word_counted(z: Sizes, p: u16, c: i32, word: u16) -> bool
+    ensures { λ r. ⌜ r ≡ placeFits z p c (onesOf word) ⌝ }
+{
+    if word == 0 {
+        if is_same(c, 0) {
+            return true;
+        }
+    }
+    place_fits(z, p, c, count_in(word) as u16)
+}
+
 // The first place whose counter does not agree with the threads queued there, or NO_ROW; they are as many as its word has ones.
 pub fn first_bad_place(counters: [i32; 36], waiting: [u16; 36], z: Sizes) -> u16
     ensures { λ r. ⌜ r ≡ badCounter counters waiting z ⌝ }
@@ -69,7 +82,7 @@ pub fn first_bad_place(counters: [i32; 36], waiting: [u16; 36], z: Sizes) -> u16
     while p < 36 {
         let c = counters[p as usize];
         let word = waiting[p as usize];
-        if !place_fits(z, p, c, count_in(word) as u16) {
+        if !word_counted(z, p, c, word) {
             return p;
         }
         p += 1;

@@ -8,6 +8,7 @@ use kernel::numbers::READY;
 use kernel::places::pool_place;
 use kernel::records::Thread;
 use kernel::words::count_in;
+use library::logic::both;
 use library::numbers::FREE_MARK;
 use library::numbers::OUT;
 use library::signs::is_same;
@@ -86,7 +87,7 @@ fn object_fits(mark: u8, n: u16) -> bool
     if mark == FREE_MARK {
         n == 1
     } else {
-        mark <= OUT && n == 0
+        both(mark <= OUT, n == 0)
     }
 }
 
@@ -95,16 +96,15 @@ fn objects_fit(x: Pool) -> bool
     ensures { λ r. ⌜ r ≡ objectsFit x ⌝ }
 {
     let counts = count_listed(x);
-    let mut o: u8 = 0;
+    let mut fits = true;
+    let mut o: usize = 0;
     while o < 32 {
-        let mark = x.marks[o as usize];
-        let n = counts[o as usize];
-        if !object_fits(mark, n) {
-            return false;
-        }
+        let mark = x.marks[o];
+        let n = counts[o];
+        fits = both(fits, object_fits(mark, n));
         o += 1;
     }
-    true
+    fits
 }
 
 // The larger of a counter and 0.

@@ -34,19 +34,19 @@ loop-holds : tie.Need-loop-holds Inv-loop μ-loop
 loop-holds c = (omega arith, refl)
 
 -- the callee's test is the meaning's
-tested : (c : tie.After-place-fits Inv-loop μ-loop) →
-    let a = c .before .before .before .before .before .args in
-    c .place-fits .result ≡ fits (a .t1) (a .t2) (a .z) (c .before .before .before .before .loop .p)
+tested : (c : tie.After-word-counted Inv-loop μ-loop) →
+    let a = c .before .before .before .before .args in
+    c .word-counted .result ≡ fits (a .t1) (a .t2) (a .z) (c .before .before .before .loop .p)
 tested c =
-    let turn = c .before .before .before in
+    let turn = c .before .before in
     let a = turn .before .before .args in
     let p = turn .before .loop .p in
     let same : toZ w32 (ofZ w32 (counterIn (a .t1) p)) ≡ counterIn (a .t1) p = search needs in
-    rw (same, c .before .count-in .ensures) at (c .place-fits .ensures)
+    rw same at (c .word-counted .ensures)
 
 loop-again : tie.Need-loop-again Inv-loop μ-loop
 loop-again c =
-    let turn = c .before .before .before .before in
+    let turn = c .before .before .before in
     let a = turn .before .before .args in (
       omega arith,
       turn .before .loop .inv .1 ∙ finds-later (fits (a .t1) (a .t2) (a .z)) _ _ _ (turn .loop-test .taken) (tested (c .before)) (c .if1 .left),
@@ -54,7 +54,7 @@ loop-again c =
 
 returns : tie.Need-returns Inv-loop μ-loop
 returns c =
-    let turn = c .before .before .before .before in
+    let turn = c .before .before .before in
     let a = turn .before .before .args in
     sym (turn .before .loop .inv .1 ∙ finds-here (fits (a .t1) (a .t2) (a .z)) _ _ _ (turn .loop-test .taken) (tested (c .before)) (c .if1 .taken))
 
@@ -65,4 +65,4 @@ pub first-bad-place-spec : {M : Type 1} → statement M
 first-bad-place-spec =
     tie.close
     (tie.spec Inv-loop μ-loop loop-holds (λ c. omega arith) (λ c. omega arith) (λ c. omega arith) (λ c. omega arith) (λ c. omega arith)
-    (λ c. omega arith) (λ c κs. tt) (λ c. search needs) (λ c κs. tt) returns (λ c. omega arith) (λ c. omega arith) loop-again returns-2)
+    (λ c. omega arith) (λ c κs. tt) returns (λ c. omega arith) (λ c. omega arith) loop-again returns-2)
