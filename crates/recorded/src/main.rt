@@ -5,61 +5,36 @@ use kernel::kinds::TICK;
 use libc::STDOUT_FILENO;
 use library::calls::Step;
 use library::sizes::Sizes;
-use lines::account_trace;
-use lines::list_trace;
-use lines::why_trace;
+use text::printing::print_trace;
+use text::views::View;
 use trace::writer::Written;
 use trace::writer::write_sizes;
 use trace::writer::write_step;
 
-// What is shown of a trace: a line for each step, these with all tables, its account, or a line for each waking.
-const STEPS: u8 = 0;
-
-const TABLES: u8 = 1;
-
-const ACCOUNT: u8 = 2;
-
-const WHY: u8 = 3;
-
-// A file's name without its ending, `.trace`.
-fn print_title(path: &[u8]) {
+// The trace in a file, under its name without its ending, `.trace`. A file that is not there shows as a line on standard error.
+fn show(path: &[u8], view: View) {
     if 6 <= path.len() {
         let n = path.len() - 6;
         io::write_all(STDOUT_FILENO, &path[..n]);
+        io::write_all(STDOUT_FILENO, b"\n");
     }
-    io::write_all(STDOUT_FILENO, b"\n");
-}
-
-fn print_trace(bytes: &[u8], view: u8) {
-    if view == ACCOUNT {
-        account_trace(bytes);
-    } else if view == WHY {
-        why_trace(bytes);
-    } else {
-        list_trace(bytes, view == TABLES);
-    }
-}
-
-// The trace in a file, under its name. A file that is not there shows as one more line on standard error, and as a missing listing.
-fn show(path: &[u8], view: u8) {
-    print_title(path);
     let fd = os::open_read(path);
     if fd < 0 {
         os::fail(path);
         return;
     }
-    let mut bytes = [0u8; 60001];
+    let mut bytes = io::large_buffer();
     let n = io::read_full(fd, &mut bytes);
     print_trace(&bytes[..n], view);
     libc::close(fd);
 }
 
-// Each of some files, whose names have a space after them.
-fn show_all(names: &[u8], view: u8) {
+// Each of some files, whose names have a line end after them.
+fn show_all(names: &[u8], view: View) {
     let mut from: usize = 0;
     let mut i: usize = 0;
     while i < names.len() {
-        if names[i] == b' ' {
+        if names[i] == b'\n' {
             if from <= i {
                 show(&names[from..i], view);
             }
@@ -83,10 +58,12 @@ fn print_written(w: Written) {
     io::write_all(STDOUT_FILENO, b"\n");
 }
 
-// Sizes of one mailbox, into 9 bytes or 10: 10 are needed.
-fn sizes_of(threads: u16) -> Sizes {
+// Sizes of so many threads and one mailbox, into 10 bytes, which they need, or into one less.
+fn put_sizes(short: bool, threads: u16) {
+    let mut nine = [0u8; 9];
+    let mut ten = [0u8; 10];
     let slots = [1, 0, 0, 0];
-    Sizes {
+    let sizes = Sizes {
         threads: threads,
         semaphores: 0,
         queues: 0,
@@ -94,104 +71,101 @@ fn sizes_of(threads: u16) -> Sizes {
         mailboxes: 1,
         pools: 0,
         slots: slots,
+    };
+    if short {
+        print_written(write_sizes(&mut nine, sizes));
+    } else {
+        print_written(write_sizes(&mut ten, sizes));
     }
 }
 
-fn sizes_into_9(threads: u16) {
-    let mut buf = [0u8; 9];
-    let sizes = sizes_of(threads);
-    let w = write_sizes(&mut buf, sizes);
-    print_written(w);
-}
-
-fn sizes_into_10(threads: u16) {
-    let mut buf = [0u8; 10];
-    let sizes = sizes_of(threads);
-    let w = write_sizes(&mut buf, sizes);
-    print_written(w);
-}
-
-fn tick() -> Step {
-    Step {
+// A tick at a place, into 22 bytes or into more than a trace has.
+fn put_tick(short: bool, at: usize) {
+    let mut few = [0u8; 22];
+    let mut many = [0u8; 60001];
+    let s = Step {
         kind: TICK,
         caller: 255,
         object: 0,
         a: 0,
         timeout: 0,
+    };
+    if short {
+        print_written(write_step(&mut few, at, s));
+    } else {
+        print_written(write_step(&mut many, at, s));
     }
 }
 
-fn step_into_22(at: usize) {
-    let mut buf = [0u8; 22];
-    let s = tick();
-    let w = write_step(&mut buf, at, s);
-    print_written(w);
-}
-
-fn step_into_60001(at: usize) {
-    let mut buf = [0u8; 60001];
-    let s = tick();
-    let w = write_step(&mut buf, at, s);
-    print_written(w);
-}
-
 // 14 before 16; 15 before 16; then what fits.
-fn write_all_cases() {
+fn write_cases() {
     io::write_all(STDOUT_FILENO, b"writer\n");
-    sizes_into_9(17);
-    sizes_into_9(16);
-    sizes_into_10(17);
-    sizes_into_10(16);
-    step_into_22(9);
-    step_into_22(10);
-    step_into_22(59987);
-    step_into_22(59988);
-    step_into_60001(59987);
-    step_into_60001(59988);
+    put_sizes(true, 17);
+    put_sizes(true, 16);
+    put_sizes(false, 17);
+    put_sizes(false, 16);
+    put_tick(true, 9);
+    put_tick(true, 10);
+    put_tick(true, 59987);
+    put_tick(true, 59988);
+    put_tick(false, 59987);
+    put_tick(false, 59988);
 }
 
 // Every refusal of the trace reader, on a damaged trace each; then the traces of a plant, accounts, and why threads woke.
 fn main() {
     show_all(
-        b"11-empty.trace \
-        11-other-version.trace \
-        12-before-record-0.trace \
-        12-inside-a-body.trace \
-        12-inside-a-length.trace \
-        12-inside-record-0.trace \
-        12-though-its-length-is-wrong.trace \
-        13-record-0-below-6.trace \
-        13-record-0-without-its-slots.trace \
-        13-step-of-10-bytes.trace \
-        14-mailbox-of-17-slots.trace \
-        14-nine-references.trace \
-        14-no-thread.trace \
-        15-one-byte-more-than-60000.trace ",
-        STEPS,
+        b"11-empty.trace\n\
+        11-other-version.trace\n\
+        12-before-record-0.trace\n\
+        12-inside-a-body.trace\n\
+        12-inside-a-length.trace\n\
+        12-inside-record-0.trace\n\
+        12-though-its-length-is-wrong.trace\n\
+        13-record-0-below-6.trace\n\
+        13-record-0-without-its-slots.trace\n\
+        13-step-of-10-bytes.trace\n\
+        14-mailbox-of-17-slots.trace\n\
+        14-nine-references.trace\n\
+        14-no-thread.trace\n\
+        15-one-byte-more-than-60000.trace\n",
+        View::List,
     );
     show_all(
-        b"batch-mailbox.trace \
-        dosing-account.trace \
-        event-valves.trace \
-        filler-two-stations.trace \
-        label-queue.trace \
-        sixteen-on-one-semaphore.trace \
-        sleep-until.trace ",
-        STEPS,
+        b"batch-mailbox.trace\n\
+        dosing-account.trace\n\
+        event-valves.trace\n\
+        filler-two-stations.trace\n\
+        label-queue.trace\n\
+        sixteen-on-one-semaphore.trace\n\
+        sleep-until.trace\n",
+        View::List,
     );
-    show_all(b"tank-present.trace ", TABLES);
-    show_all(b"timeout-against-signal.trace tote-pool.trace ", STEPS);
+    show_all(b"tank-present.trace\n", View::Tables);
     show_all(
-        b"two-flags-one-wait.trace whole-line.trace why-the-valve-woke.trace words-on-the-screen.trace ",
-        TABLES,
-    );
-    show_all(
-        b"batch-mailbox.trace dosing-account.trace tote-pool.trace whole-line.trace ",
-        ACCOUNT,
+        b"timeout-against-signal.trace\n\
+        tote-pool.trace\n",
+        View::List,
     );
     show_all(
-        b"batch-mailbox.trace whole-line.trace why-the-valve-woke.trace ",
-        WHY,
+        b"two-flags-one-wait.trace\n\
+        whole-line.trace\n\
+        why-the-valve-woke.trace\n\
+        words-on-the-screen.trace\n",
+        View::Tables,
     );
-    write_all_cases();
+    show_all(
+        b"batch-mailbox.trace\n\
+        dosing-account.trace\n\
+        tote-pool.trace\n\
+        whole-line.trace\n",
+        View::Account,
+    );
+    show_all(
+        b"batch-mailbox.trace\n\
+        whole-line.trace\n\
+        why-the-valve-woke.trace\n",
+        View::Why,
+    );
+    write_cases();
 }

@@ -1,2 +1,0 @@
--- The meaning that this crate's contract cites.
-pub mod Ending
