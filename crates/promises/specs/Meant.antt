@@ -29,3 +29,4 @@ pub mod Rows
 pub mod Only
 pub mod History
 pub mod Step
+pub mod Listing
