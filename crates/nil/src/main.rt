@@ -31,13 +31,13 @@ fn is_same(a: &[u8], b: &[u8]) -> bool {
 // The table of words.
 fn asked_by(word: &[u8]) -> Asked {
     if is_same(word, b"list") {
-        Asked::Print(View::List)
+        Asked::Print(View::Lines)
     } else if is_same(word, b"tables") {
-        Asked::Print(View::Tables)
+        Asked::Print(View::AllTables)
     } else if is_same(word, b"why") {
-        Asked::Print(View::Why)
+        Asked::Print(View::Wakings)
     } else if is_same(word, b"account") {
-        Asked::Print(View::Account)
+        Asked::Print(View::Sums)
     } else if is_same(word, b"--help") {
         Asked::Help
     } else {

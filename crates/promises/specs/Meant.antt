@@ -30,3 +30,4 @@ pub mod Rows
 pub mod Only
 pub mod History
 pub mod Step
+pub mod Listing

@@ -23,3 +23,4 @@ pub mod Ledger
 pub mod Signals
 pub mod Causes
 pub mod EachThread
+pub mod Listing

@@ -9,6 +9,7 @@ pub mod Causes
 pub mod Wakings
 pub mod Broken
 pub mod Facts
+pub mod Listing
 pub mod ShownSteps
 pub mod Shown
 pub mod ShownArms

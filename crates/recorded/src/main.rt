@@ -129,7 +129,7 @@ fn main() {
         14-nine-references.trace\n\
         14-no-thread.trace\n\
         15-one-byte-more-than-60000.trace\n",
-        View::List,
+        View::Lines,
     );
     show_all(
         b"batch-mailbox.trace\n\
@@ -139,33 +139,33 @@ fn main() {
         label-queue.trace\n\
         sixteen-on-one-semaphore.trace\n\
         sleep-until.trace\n",
-        View::List,
+        View::Lines,
     );
-    show_all(b"tank-present.trace\n", View::Tables);
+    show_all(b"tank-present.trace\n", View::AllTables);
     show_all(
         b"timeout-against-signal.trace\n\
         tote-pool.trace\n",
-        View::List,
+        View::Lines,
     );
     show_all(
         b"two-flags-one-wait.trace\n\
         whole-line.trace\n\
         why-the-valve-woke.trace\n\
         words-on-the-screen.trace\n",
-        View::Tables,
+        View::AllTables,
     );
     show_all(
         b"batch-mailbox.trace\n\
         dosing-account.trace\n\
         tote-pool.trace\n\
         whole-line.trace\n",
-        View::Account,
+        View::Sums,
     );
     show_all(
         b"batch-mailbox.trace\n\
         whole-line.trace\n\
         why-the-valve-woke.trace\n",
-        View::Why,
+        View::Wakings,
     );
     write_cases();
 }

@@ -81,11 +81,11 @@ later v (suc m) (suc n) i s x at h l g k =
     (λ g′. rw (refuses s at h here (eqb-false (stepRefusal s at) 0 g′), eq-eqb at at refl, append-nil)))
 
 -- what stands at a trace's start
-opens : (s : List ℕ) → headRefusal s ≡ 0 → nextRead s 0 ≡ record { found = found.Opened; sizes = headSizes s; next = 3 + getN 2 s 1 }
+pub opens : (s : List ℕ) → headRefusal s ≡ 0 → nextRead s 0 ≡ record { found = found.Opened; sizes = headSizes s; next = 3 + getN 2 s 1 }
 unfolding nextRead openedRead
 opens s e = rw e
 
-refused : (s : List ℕ) → headRefusal s ≢ 0 → nextRead s 0 ≡ refusedRead (headRefusal s) 0
+pub refused : (s : List ℕ) → headRefusal s ≢ 0 → nextRead s 0 ≡ refusedRead (headRefusal s) 0
 unfolding nextRead openedRead
 refused s e = rw (ne-eqb (headRefusal s) 0 e)
 

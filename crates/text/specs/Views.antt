@@ -116,10 +116,10 @@ partsText x from n = rows n (λ i. partText x ((from + i) % 256))
 
 -- ---- the views: which parts stand before all records, behind each step's, and at the end
 abbrev pub viewParts : View → Parts
-viewParts view.List = record { head = 20; heads = 1; step = 0; steps = 1; end = 0; ends = 0 }
-viewParts view.Tables = record { head = 20; heads = 1; step = 0; steps = 15; end = 0; ends = 0 }
-viewParts view.Why = record { head = 21; heads = 1; step = 16; steps = 1; end = 0; ends = 0 }
-viewParts view.Account = record { head = 0; heads = 0; step = 0; steps = 0; end = 17; ends = 3 }
+viewParts view.Lines = record { head = 20; heads = 1; step = 0; steps = 1; end = 0; ends = 0 }
+viewParts view.AllTables = record { head = 20; heads = 1; step = 0; steps = 15; end = 0; ends = 0 }
+viewParts view.Wakings = record { head = 21; heads = 1; step = 16; steps = 1; end = 0; ends = 0 }
+viewParts view.Sums = record { head = 0; heads = 0; step = 0; steps = 0; end = 17; ends = 3 }
 viewParts view.Answers = record { head = 0; heads = 0; step = 15; steps = 1; end = 0; ends = 0 }
 
 -- ---- records

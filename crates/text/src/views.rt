@@ -59,10 +59,10 @@ const WHY_HEAD: u8 = 21;
 // What is printed: a line for each step, these with all tables, a line for each waking, or the account at the end; and without a heading a
 // line for each step that has its message and datum too.
 pub enum View {
-    List,
-    Tables,
-    Why,
-    Account,
+    Lines,
+    AllTables,
+    Wakings,
+    Sums,
     Answers,
 }
 
@@ -99,7 +99,7 @@ pub(crate) fn parts_of(view: View) -> Parts
     ensures { λ r. ⌜ r ≡ viewParts view ⌝ }
 {
     match view {
-        View::List => Parts {
+        View::Lines => Parts {
             head: LIST_HEAD,
             heads: 1,
             step: STEP,
@@ -107,7 +107,7 @@ pub(crate) fn parts_of(view: View) -> Parts
             end: 0,
             ends: 0,
         },
-        View::Tables => Parts {
+        View::AllTables => Parts {
             head: LIST_HEAD,
             heads: 1,
             step: STEP,
@@ -115,7 +115,7 @@ pub(crate) fn parts_of(view: View) -> Parts
             end: 0,
             ends: 0,
         },
-        View::Why => Parts {
+        View::Wakings => Parts {
             head: WHY_HEAD,
             heads: 1,
             step: WAKINGS,
@@ -123,7 +123,7 @@ pub(crate) fn parts_of(view: View) -> Parts
             end: 0,
             ends: 0,
         },
-        View::Account => Parts {
+        View::Sums => Parts {
             head: 0,
             heads: 0,
             step: 0,
