@@ -30,3 +30,4 @@ pub mod Only
 pub mod History
 pub mod Step
 pub mod Listing
+pub mod Printing
