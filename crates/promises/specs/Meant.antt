@@ -31,3 +31,4 @@ pub mod Only
 pub mod History
 pub mod Step
 pub mod Listing
+pub mod Printing

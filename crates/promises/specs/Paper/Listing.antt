@@ -1,10 +1,14 @@
 -- WHAT IS PRINTED OF A TRACE, BYTE FOR BYTE, AS DOCUMENT 01 TELLS IT: "The program prints in decimal the heading, a line per step (record
 -- number, code, running, woken, finished), and at a bad record `stopped`, its number (0 for 15 and 11), the code; then it ends." It is told of
 -- any kernel k, over the steps that the paper's reader finds (Paper.Reader).
-use Prim.Native.Nat.{ℕ, suc, _+_, _*_, _<_}
+use Prim.Native.Nat.{ℕ, zero, suc, _+_, _*_, _<_}
 use mathlib.Core.Path.{_≡_}
+use mathlib.Core.Bool.{cond}
 use mathlib.Core.List.{List, [], _∷_, _++_}
+use lib.Dec.{eqb}
+use lib.IntN.{ℤ, pos, negsuc}
 use Rattle.kernel.specs.declared.clock.Clock.{Clock}
+use Rattle.kernel.specs.declared.records.Call.{Call}
 use Rattle.kernel.specs.declared.units.Rate.the-variants.{Standard}
 use Rattle.library.specs.declared.calls.Step.{Step}
 use Rattle.library.specs.declared.sizes.Sizes.{Sizes}
@@ -15,6 +19,7 @@ use Rattle.trace.specs.declared.decoding.Read.{Read}
 use Rattle.promises.specs.Paper.Answers.{foundSaid}
 use Rattle.promises.specs.Paper.Fresh.{nothing, MadeOf}
 use Rattle.promises.specs.Paper.Reader.{ReadOf}
+use Rattle.promises.specs.Paper.Waking.{rowOf, inMask}
 use Rattle.promises.specs.Paper.Run.{Moment, momentsBy}
 
 -- ---- NUMBERS AND LINES
@@ -95,3 +100,93 @@ NoEnd m ms l = l ≡ []
 
 abbrev pub ListingTold : (Tables → Clock → Step → Stepped) → (List ℕ → List ℕ) → Type 0
 ListingTold k f = Told listHeading StepLine NoEnd k f
+
+-- ---- ROWS OF WORDS, for the other views (docs/LISTING.md)
+
+-- what stands in a row: letters, a number, one below 0 by its size, one with a letter before it
+pub data Word : Type 0 where
+  letters : List ℕ → Word
+  number : ℕ → Word
+  minus : ℕ → Word
+  lettered : ℕ → ℕ → Word
+
+-- `-` is 45
+pub data WordText : Word → List ℕ → Type 0 where
+  letters : {l : List ℕ} → WordText (Word.letters l) l
+  number : {n : ℕ} {ds : List ℕ} → InDecimal n ds → WordText (Word.number n) ds
+  minus : {n : ℕ} {ds : List ℕ} → InDecimal n ds → WordText (Word.minus n) (45 ∷ ds)
+  lettered : {b n : ℕ} {ds : List ℕ} → InDecimal n ds → WordText (Word.lettered b n) (b ∷ ds)
+
+abbrev pub signedWord : ℤ → Word
+signedWord (pos n) = Word.number n
+signedWord (negsuc n) = Word.minus (suc n)
+
+-- a row: a word, and others behind blanks; and its line end
+pub data RowText : Word → List Word → List ℕ → Type 0 where
+  last : {w : Word} {a : List ℕ} → WordText w a → RowText w [] (a ++ (10 ∷ []))
+  more : {w v : Word} {vs : List Word} {a rest : List ℕ} → WordText w a → RowText v vs rest → RowText w (v ∷ vs) (a ++ (32 ∷ rest))
+
+pub record Row : Type 0 where
+  pub first : Word
+  pub others : List Word
+
+-- rows, one behind the other
+pub data RowsText : List Row → List ℕ → Type 0 where
+  none : RowsText [] []
+  more : {r : Row} {rs : List Row} {a b : List ℕ} → RowText (r .first) (r .others) a → RowsText rs b → RowsText (r ∷ rs) (a ++ b)
+
+-- ---- WHY THREADS WOKE
+
+-- `step thread cause object message`
+abbrev pub whyHeading : List ℕ
+whyHeading =
+    115 ∷ 116 ∷ 101 ∷ 112 ∷ 32 ∷ 116 ∷ 104 ∷ 114 ∷ 101 ∷ 97 ∷ 100 ∷ 32 ∷ 99 ∷ 97 ∷ 117 ∷ 115 ∷ 101 ∷ 32 ∷ 111 ∷ 98 ∷ 106 ∷ 101 ∷ 99 ∷ 116 ∷ 32
+    ∷ 109 ∷ 101 ∷ 115 ∷ 115 ∷ 97 ∷ 103 ∷ 101 ∷ 10 ∷ []
+
+-- `signal`, `release`, `resume`, `event`, `post`, `fetch`, `reset`, `tick`: 1 to 8; `none` before the first waking
+abbrev pub causeLetters : ℕ → List ℕ
+causeLetters n =
+    cond (eqb n 1) (115 ∷ 105 ∷ 103 ∷ 110 ∷ 97 ∷ 108 ∷ [])
+    (cond (eqb n 2) (114 ∷ 101 ∷ 108 ∷ 101 ∷ 97 ∷ 115 ∷ 101 ∷ [])
+    (cond (eqb n 3) (114 ∷ 101 ∷ 115 ∷ 117 ∷ 109 ∷ 101 ∷ [])
+    (cond (eqb n 4) (101 ∷ 118 ∷ 101 ∷ 110 ∷ 116 ∷ [])
+    (cond (eqb n 5) (112 ∷ 111 ∷ 115 ∷ 116 ∷ [])
+    (cond (eqb n 6) (102 ∷ 101 ∷ 116 ∷ 99 ∷ 104 ∷ [])
+    (cond (eqb n 7) (114 ∷ 101 ∷ 115 ∷ 101 ∷ 116 ∷ [])
+    (cond (eqb n 8) (116 ∷ 105 ∷ 99 ∷ 107 ∷ []) (110 ∷ 111 ∷ 110 ∷ 101 ∷ []))))))))
+
+-- where a call waits: s semaphore, q queue, r reference, w a mailbox's writers, f its readers, p pool; `-` for a sleep and for an event wait
+abbrev pub waitedWord : Call → Word
+waitedWord c =
+    cond (eqb (c .kind) 2) (Word.lettered 115 (c .object))
+    (cond (eqb (c .kind) 6) (Word.lettered 113 (c .object))
+    (cond (eqb (c .kind) 9) (Word.lettered 114 (c .object))
+    (cond (eqb (c .kind) 15) (Word.lettered 119 (c .object))
+    (cond (eqb (c .kind) 16) (Word.lettered 119 (c .object))
+    (cond (eqb (c .kind) 17) (Word.lettered 102 (c .object)) (cond (eqb (c .kind) 20) (Word.lettered 112 (c .object)) (Word.letters (45 ∷ []))))))))
+
+-- "by the step's own call, if the thread made the step, else by the call that its record had kept before the step"
+abbrev pub calledIn : Moment → ℕ → Call
+calledIn m i =
+    cond (eqb (m .step .caller) i)
+    (record { kind = m .step .kind; object = m .step .object; operand = m .step .a; timeout = m .step .timeout })
+    (rowOf (m .before) i .call)
+
+-- "step, thread, cause, object, message": the step's number, the cause and the message are in the thread's record after the step
+abbrev pub wakingRow : Moment → ℕ → Row
+wakingRow m i =
+    record {
+      first = Word.number (rowOf (m .after) i .step);
+      others = Word.number i ∷ Word.letters (causeLetters (rowOf (m .after) i .cause)) ∷ waitedWord (calledIn m i) ∷ signedWord (rowOf (m .after) i .message) ∷ [];
+    }
+
+-- of the threads below n that the step has woken
+abbrev pub wakings : Moment → ℕ → List Row
+wakings m zero = []
+wakings m (suc i) = wakings m i ++ cond (inMask i (m .result .woken)) (wakingRow m i ∷ []) []
+
+abbrev pub WakingLines : ℕ → Moment → List ℕ → Type 0
+WakingLines n m l = RowsText (wakings m 16) l
+
+abbrev pub WhyTold : (Tables → Clock → Step → Stepped) → (List ℕ → List ℕ) → Type 0
+WhyTold k f = Told whyHeading WakingLines NoEnd k f

@@ -34,13 +34,14 @@ use Rattle.trace.specs.Traces.{readFrom, readAll}
 use Rattle.accounts.specs.Account.{entered}
 use Rattle.accounts.specs.Accounting.{threadsEntered, accountedStep}
 use Rattle.text.specs.declared.views.Seen.{Seen}
-use Rattle.text.specs.declared.views.View.the-variants.{Lines}
+use Rattle.text.specs.declared.views.View.the-variants.{Lines, Wakings}
 use Rattle.text.specs.Rows.{rows, wordText, rowText}
 use Rattle.text.specs.Decimal.{digitsN, decimal}
 use Rattle.text.specs.Views.{stepLine, stepRow, rowOf, rowsIn, headText, partText, partsText, freshSeen, seenAfter, recordsText, viewText}
-use Rattle.promises.specs.Paper.Listing.{StepLine, listHeading, ListingTold}
+use Rattle.promises.specs.Paper.Listing.{StepLine, listHeading, ListingTold, WhyTold}
 use Rattle.promises.specs.Paper.Run.{Moment, momentBy}
-use Rattle.promises.specs.Code.Listing.{listingText}
+use Rattle.promises.specs.Code.Listing.{listingText, whyText}
+use Rattle.promises.specs.Meant.Printing.{rows-one, why-heading, waking-lines}
 use Rattle.promises.specs.Top.Facts.{sixSteps}
 use Rattle.promises.specs.Meant.Listing.{lineText, line-is, line-one, numbers-line, lastSeen, view-told}
 
@@ -68,6 +69,12 @@ nothing-last x = refl
 pub listing-told : ListingTold stepped listingText
 listing-told =
     view-told Lines _ _ _ heading-is step-line-is (λ z xs. nothing-last (lastSeen 1 (freshSeen z) xs)) (λ n m a b p q. line-one p ∙ sym (line-one q))
+    (λ m ms a b p q. p ∙ sym q)
+
+-- why threads woke: a row for each thread that a step has woken, by step and thread, of every trace, and no other text
+pub why-told : WhyTold stepped whyText
+why-told =
+    view-told Wakings _ _ _ why-heading waking-lines (λ z xs. nothing-last (lastSeen 1 (freshSeen z) xs)) (λ n m a b p q. rows-one p ∙ sym (rows-one q))
     (λ m ms a b p q. p ∙ sym q)
 
 -- ---- the example
