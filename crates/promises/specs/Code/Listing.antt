@@ -1,7 +1,7 @@
 -- The text that crates/text gives of a trace, by view.
 use Prim.Native.Nat.{ℕ}
 use mathlib.Core.List.{List}
-use Rattle.text.specs.declared.views.View.the-variants.{Lines, Wakings}
+use Rattle.text.specs.declared.views.View.the-variants.{Lines, Wakings, Sums}
 use Rattle.text.specs.Views.{viewText}
 
 -- the listing
@@ -11,3 +11,7 @@ listingText s = viewText Lines s
 -- why threads woke
 abbrev pub whyText : List ℕ → List ℕ
 whyText s = viewText Wakings s
+
+-- the account
+abbrev pub accountText : List ℕ → List ℕ
+accountText s = viewText Sums s

@@ -30,19 +30,19 @@ use Rattle.promises.specs.Meant.Listing.{in-decimal, decimal-one}
 
 abbrev pub wordBytes : Word → List ℕ
 wordBytes (Word.letters l) = l
-wordBytes (Word.number n) = decimal n
+wordBytes (Word.plain n) = decimal n
 wordBytes (Word.minus n) = 45 ∷ decimal n
 wordBytes (Word.lettered b n) = b ∷ decimal n
 
 word-is : (w : Word) → WordText w (wordBytes w)
 word-is (Word.letters l) = WordText.letters
-word-is (Word.number n) = WordText.number (in-decimal n)
+word-is (Word.plain n) = WordText.plain (in-decimal n)
 word-is (Word.minus n) = WordText.minus (in-decimal n)
 word-is (Word.lettered b n) = WordText.lettered (in-decimal n)
 
 word-one : {w : Word} {a : List ℕ} → WordText w a → a ≡ wordBytes w
 word-one WordText.letters = refl
-word-one (WordText.number d) = decimal-one d
+word-one (WordText.plain d) = decimal-one d
 word-one (WordText.minus d) = ap (λ (l : List ℕ). 45 ∷ l) (decimal-one d)
 word-one (WordText.lettered {b} d) = ap (λ (l : List ℕ). b ∷ l) (decimal-one d)
 
@@ -125,11 +125,11 @@ pub why-heading : partsText (freshSeen noSizes) 21 1 ≡ whyHeading
 unfolding rows rowsIn headText partText partsText
 why-heading = refl
 
-no-letters : wordText (replicate 9 0) ≡ []
+pub no-letters : wordText (replicate 9 0) ≡ []
 unfolding rows wordText
 no-letters = refl
 
-no-rows : (f : ℕ → List ℕ) → rows 0 f ≡ []
+pub no-rows : (f : ℕ → List ℕ) → rows 0 f ≡ []
 unfolding rows
 no-rows f = refl
 
@@ -139,11 +139,11 @@ no-text = refl
 
 waking-row : (n i c : ℕ) (a : Item) (w : Word) (m : ℤ) → field a ≡ 32 ∷ wordBytes w
     → rowText (numbered n (Number i) (Cause c) a (Signed m) Nothing Nothing)
-    ≡ rowBytes (Word.number n) (Word.number i ∷ Word.letters (causeLetters c) ∷ w ∷ signedWord m ∷ [])
+    ≡ rowBytes (Word.plain n) (Word.plain i ∷ Word.letters (causeLetters c) ∷ w ∷ signedWord m ∷ [])
 unfolding rowText
 waking-row n i c a w m e =
     rw (no-letters, no-rows, cause-is c, e, signed-is m)
-    (words-row (Word.number n) (Word.number i ∷ Word.letters (causeLetters c) ∷ w ∷ signedWord m ∷ []))
+    (words-row (Word.plain n) (Word.plain i ∷ Word.letters (causeLetters c) ∷ w ∷ signedWord m ∷ []))
 
 module _ (n : ℕ) (x : Seen) (s : Step) where
   abbrev now : Moment

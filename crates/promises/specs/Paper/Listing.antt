@@ -1,11 +1,12 @@
 -- WHAT IS PRINTED OF A TRACE, BYTE FOR BYTE, AS DOCUMENT 01 TELLS IT: "The program prints in decimal the heading, a line per step (record
 -- number, code, running, woken, finished), and at a bad record `stopped`, its number (0 for 15 and 11), the code; then it ends." It is told of
 -- any kernel k, over the steps that the paper's reader finds (Paper.Reader).
-use Prim.Native.Nat.{ℕ, zero, suc, _+_, _*_, _<_}
+use Prim.Native.Nat.{ℕ, zero, suc, _+_, _*_, _/_, _%_, _<_}
 use mathlib.Core.Path.{_≡_}
 use mathlib.Core.Bool.{cond}
 use mathlib.Core.List.{List, [], _∷_, _++_}
-use lib.Dec.{eqb}
+use lib.Dec.{eqb, ltb}
+use lib.ListN.{getD}
 use lib.IntN.{ℤ, pos, negsuc}
 use Rattle.kernel.specs.declared.clock.Clock.{Clock}
 use Rattle.kernel.specs.declared.records.Call.{Call}
@@ -16,6 +17,9 @@ use Rattle.library.specs.declared.fresh.Made.{Made}
 use Rattle.library.specs.declared.tables.Tables.{Tables}
 use Rattle.steps.specs.declared.stepping.Stepped.{Stepped}
 use Rattle.trace.specs.declared.decoding.Read.{Read}
+use Rattle.accounts.specs.declared.account.Account.{Account}
+use Rattle.promises.specs.Paper.World.{found}
+use Rattle.promises.specs.Paper.Together.{number}
 use Rattle.promises.specs.Paper.Answers.{foundSaid}
 use Rattle.promises.specs.Paper.Fresh.{nothing, MadeOf}
 use Rattle.promises.specs.Paper.Reader.{ReadOf}
@@ -106,19 +110,19 @@ ListingTold k f = Told listHeading StepLine NoEnd k f
 -- what stands in a row: letters, a number, one below 0 by its size, one with a letter before it
 pub data Word : Type 0 where
   letters : List ℕ → Word
-  number : ℕ → Word
+  plain : ℕ → Word
   minus : ℕ → Word
   lettered : ℕ → ℕ → Word
 
 -- `-` is 45
 pub data WordText : Word → List ℕ → Type 0 where
   letters : {l : List ℕ} → WordText (Word.letters l) l
-  number : {n : ℕ} {ds : List ℕ} → InDecimal n ds → WordText (Word.number n) ds
+  plain : {n : ℕ} {ds : List ℕ} → InDecimal n ds → WordText (Word.plain n) ds
   minus : {n : ℕ} {ds : List ℕ} → InDecimal n ds → WordText (Word.minus n) (45 ∷ ds)
   lettered : {b n : ℕ} {ds : List ℕ} → InDecimal n ds → WordText (Word.lettered b n) (b ∷ ds)
 
 abbrev pub signedWord : ℤ → Word
-signedWord (pos n) = Word.number n
+signedWord (pos n) = Word.plain n
 signedWord (negsuc n) = Word.minus (suc n)
 
 -- a row: a word, and others behind blanks; and its line end
@@ -176,8 +180,8 @@ calledIn m i =
 abbrev pub wakingRow : Moment → ℕ → Row
 wakingRow m i =
     record {
-      first = Word.number (rowOf (m .after) i .step);
-      others = Word.number i ∷ Word.letters (causeLetters (rowOf (m .after) i .cause)) ∷ waitedWord (calledIn m i) ∷ signedWord (rowOf (m .after) i .message) ∷ [];
+      first = Word.plain (rowOf (m .after) i .step);
+      others = Word.plain i ∷ Word.letters (causeLetters (rowOf (m .after) i .cause)) ∷ waitedWord (calledIn m i) ∷ signedWord (rowOf (m .after) i .message) ∷ [];
     }
 
 -- of the threads below n that the step has woken
@@ -190,3 +194,91 @@ WakingLines n m l = RowsText (wakings m 16) l
 
 abbrev pub WhyTold : (Tables → Clock → Step → Stepped) → (List ℕ → List ℕ) → Type 0
 WhyTold k f = Told whyHeading WakingLines NoEnd k f
+
+-- ---- THE ACCOUNT (docs/ACCOUNT.md), of the account that a run comes to
+
+-- "rows within the sizes only": as many as the sizes say, and as the table has
+abbrev pub few : ℕ → ℕ → ℕ
+few n most = cond (ltb n most) n most
+
+-- the rows of the numbers below n, in order
+abbrev pub inOrder : ℕ → (ℕ → List Row) → List Row
+inOrder zero f = []
+inOrder (suc i) f = inOrder i f ++ f i
+
+-- `mailbox posted fetched lost present`
+abbrev pub mailboxHeading : Row
+mailboxHeading =
+    record {
+      first = Word.letters (109 ∷ 97 ∷ 105 ∷ 108 ∷ 98 ∷ 111 ∷ 120 ∷ []);
+      others = Word.letters (112 ∷ 111 ∷ 115 ∷ 116 ∷ 101 ∷ 100 ∷ []) ∷ Word.letters (102 ∷ 101 ∷ 116 ∷ 99 ∷ 104 ∷ 101 ∷ 100 ∷ [])
+          ∷ Word.letters (108 ∷ 111 ∷ 115 ∷ 116 ∷ []) ∷ Word.letters (112 ∷ 114 ∷ 101 ∷ 115 ∷ 101 ∷ 110 ∷ 116 ∷ []) ∷ [];
+    }
+
+-- `pool added free out`
+abbrev pub poolHeading : Row
+poolHeading =
+    record {
+      first = Word.letters (112 ∷ 111 ∷ 111 ∷ 108 ∷ []);
+      others = Word.letters (97 ∷ 100 ∷ 100 ∷ 101 ∷ 100 ∷ []) ∷ Word.letters (102 ∷ 114 ∷ 101 ∷ 101 ∷ []) ∷ Word.letters (111 ∷ 117 ∷ 116 ∷ []) ∷ [];
+    }
+
+-- `pool object thread step`
+abbrev pub objectHeading : Row
+objectHeading =
+    record {
+      first = Word.letters (112 ∷ 111 ∷ 111 ∷ 108 ∷ []);
+      others = Word.letters (111 ∷ 98 ∷ 106 ∷ 101 ∷ 99 ∷ 116 ∷ []) ∷ Word.letters (116 ∷ 104 ∷ 114 ∷ 101 ∷ 97 ∷ 100 ∷ [])
+          ∷ Word.letters (115 ∷ 116 ∷ 101 ∷ 112 ∷ []) ∷ [];
+    }
+
+-- "its number; the posts ..; the fetches ..; the messages lost ..; and how many are in it now"
+abbrev pub mailboxSum : Account → Tables → ℕ → Row
+mailboxSum a t b =
+    record {
+      first = Word.plain b;
+      others = Word.plain (getD (a .posted) b 0) ∷ Word.plain (getD (a .fetched) b 0) ∷ Word.plain (getD (a .lost) b 0)
+          ∷ Word.plain (found t .box b .positions .count) ∷ [];
+    }
+
+-- "its number; the objects added; how many are free now, and how many are out"
+abbrev pub poolSum : Account → Tables → ℕ → Row
+poolSum a t q =
+    record {
+      first = Word.plain q;
+      others = Word.plain (getD (a .added) q 0) ∷ Word.plain (number (λ o. eqb (getD (found t .pool q .marks) o 0) 1) 32)
+          ∷ Word.plain (number (λ o. eqb (getD (found t .pool q .marks) o 0) 2) 32) ∷ [];
+    }
+
+-- "For each object that is out, by pool and then by object: the pool, the object, the thread .., and the number of the record"
+abbrev pub objectSum : Account → Tables → ℕ → List Row
+objectSum a t i =
+    cond (eqb (getD (found t .pool (i / 32) .marks) (i % 32) 0) 2)
+    (record {
+      first = Word.plain (i / 32);
+      others = Word.plain (i % 32) ∷ Word.plain (getD (a .takers) i 0) ∷ Word.plain (getD (a .steps) i 0) ∷ [];
+    }
+    ∷ [])
+    []
+
+-- "The three headings are always printed, and after each its lines"
+abbrev pub accountRows : Account → Tables → List Row
+accountRows a t =
+    (mailboxHeading ∷ inOrder (few (t .sizes .mailboxes) 4) (λ b. mailboxSum a t b ∷ []))
+    ++ ((poolHeading ∷ inOrder (few (t .sizes .pools) 4) (λ q. poolSum a t q ∷ []))
+    ++ (objectHeading ∷ inOrder (32 * few (t .sizes .pools) 4) (λ i. objectSum a t i)))
+
+-- the tables behind a run
+abbrev pub tablesAfter : Tables → List Moment → Tables
+tablesAfter t [] = t
+tablesAfter t (m ∷ ms) = tablesAfter (m .after) ms
+
+-- nothing for a step
+abbrev pub NoText : ℕ → Moment → List ℕ → Type 0
+NoText n m l = l ≡ []
+
+abbrev pub AccountEnd : (List Moment → Account) → Made → List Moment → List ℕ → Type 0
+AccountEnd tally m ms l = RowsText (accountRows (tally ms) (tablesAfter (m .tables) ms)) l
+
+abbrev pub AccountTold : (Tables → Clock → Step → Stepped) → (List Moment → Account) → (List ℕ → List ℕ) → Type 0
+AccountTold k tally f = Told [] NoText (AccountEnd tally) k f

@@ -31,16 +31,18 @@ use Rattle.rules.specs.Hanging.{hangsTogether}
 use Rattle.trace.specs.Ordered.{getN}
 use Rattle.trace.specs.Decoding.{endsInside, lengthRefusal, stepRefusal, decodedSizes, decodedStep, openedRead, steppedRead, nextRead}
 use Rattle.trace.specs.Traces.{readFrom, readAll}
-use Rattle.accounts.specs.Account.{entered}
+use Rattle.accounts.specs.Account.{freshAccount, entered}
 use Rattle.accounts.specs.Accounting.{threadsEntered, accountedStep}
 use Rattle.text.specs.declared.views.Seen.{Seen}
-use Rattle.text.specs.declared.views.View.the-variants.{Lines, Wakings}
+use Rattle.text.specs.declared.views.View.the-variants.{Lines, Wakings, Sums}
 use Rattle.text.specs.Rows.{rows, wordText, rowText}
 use Rattle.text.specs.Decimal.{digitsN, decimal}
 use Rattle.text.specs.Views.{stepLine, stepRow, rowOf, rowsIn, headText, partText, partsText, freshSeen, seenAfter, recordsText, viewText}
-use Rattle.promises.specs.Paper.Listing.{StepLine, listHeading, ListingTold, WhyTold}
+use Rattle.promises.specs.Paper.Listing.{StepLine, listHeading, ListingTold, WhyTold, AccountTold}
 use Rattle.promises.specs.Paper.Run.{Moment, momentBy}
-use Rattle.promises.specs.Code.Listing.{listingText, whyText}
+use Rattle.promises.specs.Code.Listing.{listingText, whyText, accountText}
+use Rattle.promises.specs.Code.Steps.{tallied}
+use Rattle.promises.specs.Meant.Accounting.{account-end}
 use Rattle.promises.specs.Meant.Printing.{rows-one, why-heading, waking-lines}
 use Rattle.promises.specs.Top.Facts.{sixSteps}
 use Rattle.promises.specs.Meant.Listing.{lineText, line-is, line-one, numbers-line, lastSeen, view-told}
@@ -61,21 +63,28 @@ step-line-is : (n : ℕ) (x : Seen) (s : Step) → StepLine n (momentBy stepped 
 unfolding seenAfter
 step-line-is n x s = rw (step-text n x s) (line-is n (seenAfter n x s .outcome .code ∷ seenAfter n x s .outcome .running ∷ seenAfter n x s .outcome .woken ∷ seenAfter n x s .outcome .finished ∷ []))
 
-nothing-last : (x : Seen) → partsText x 0 0 ≡ []
+nothing-shown : (x : Seen) → partsText x 0 0 ≡ []
 unfolding rows partsText
-nothing-last x = refl
+nothing-shown x = refl
 
 -- the text of a listing is document 01's, of every trace, and no other
 pub listing-told : ListingTold stepped listingText
 listing-told =
-    view-told Lines _ _ _ heading-is step-line-is (λ z xs. nothing-last (lastSeen 1 (freshSeen z) xs)) (λ n m a b p q. line-one p ∙ sym (line-one q))
+    view-told Lines _ _ _ heading-is step-line-is (λ z xs. nothing-shown (lastSeen 1 (freshSeen z) xs)) (λ n m a b p q. line-one p ∙ sym (line-one q))
     (λ m ms a b p q. p ∙ sym q)
 
 -- why threads woke: a row for each thread that a step has woken, by step and thread, of every trace, and no other text
 pub why-told : WhyTold stepped whyText
 why-told =
-    view-told Wakings _ _ _ why-heading waking-lines (λ z xs. nothing-last (lastSeen 1 (freshSeen z) xs)) (λ n m a b p q. rows-one p ∙ sym (rows-one q))
+    view-told Wakings _ _ _ why-heading waking-lines (λ z xs. nothing-shown (lastSeen 1 (freshSeen z) xs)) (λ n m a b p q. rows-one p ∙ sym (rows-one q))
     (λ m ms a b p q. p ∙ sym q)
+
+-- the account: three headings, and after each its rows, of the account that the run comes to and of the tables behind it; and no other text.
+-- That this account is the history's is `account-printed-fresh`
+pub account-told : AccountTold stepped (λ ms. tallied 1 freshAccount ms) accountText
+account-told =
+    view-told Sums _ _ _ (nothing-shown (freshSeen noSizes)) (λ n x s. nothing-shown (seenAfter n x s)) account-end (λ n m a b p q. p ∙ sym q)
+    (λ m ms a b p q. rows-one p ∙ sym (rows-one q))
 
 -- ---- the example
 
