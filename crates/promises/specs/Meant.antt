@@ -33,3 +33,4 @@ pub mod Step
 pub mod Listing
 pub mod Printing
 pub mod Accounting
+pub mod AllTables

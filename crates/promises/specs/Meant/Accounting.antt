@@ -40,7 +40,7 @@ rows-in-order zero f g h = refl
 rows-in-order (suc k) f g h =
     ap (λ (l : List ℕ). l ++ f k) (rows-in-order k f g h) ∙ ap (λ (l : List ℕ). rowsBytes (inOrder k g) ++ l) (h k) ∙ sym (rows-append (inOrder k g) (g k))
 
-four-row : (n a b c d : ℕ) → rowText (numbered n (Number a) (Number b) (Number c) (Number d) Nothing Nothing)
+pub four-row : (n a b c d : ℕ) → rowText (numbered n (Number a) (Number b) (Number c) (Number d) Nothing Nothing)
     ≡ rowBytes (Word.plain n) (Word.plain a ∷ Word.plain b ∷ Word.plain c ∷ Word.plain d ∷ [])
 unfolding rowText
 four-row n a b c d = rw (no-letters, no-rows) (words-row (Word.plain n) (Word.plain a ∷ Word.plain b ∷ Word.plain c ∷ Word.plain d ∷ []))
@@ -51,7 +51,7 @@ unfolding rowText
 three-row n a b c = rw (no-letters, no-rows) (words-row (Word.plain n) (Word.plain a ∷ Word.plain b ∷ Word.plain c ∷ []))
 
 -- a row alone
-alone : (l : List ℕ) → l ≡ l ++ []
+pub alone : (l : List ℕ) → l ≡ l ++ []
 alone l = sym (append-nil l)
 
 module _ (y : Seen) where

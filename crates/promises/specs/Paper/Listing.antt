@@ -1,7 +1,7 @@
 -- WHAT IS PRINTED OF A TRACE, BYTE FOR BYTE, AS DOCUMENT 01 TELLS IT: "The program prints in decimal the heading, a line per step (record
 -- number, code, running, woken, finished), and at a bad record `stopped`, its number (0 for 15 and 11), the code; then it ends." It is told of
 -- any kernel k, over the steps that the paper's reader finds (Paper.Reader).
-use Prim.Native.Nat.{ℕ, zero, suc, _+_, _*_, _/_, _%_, _<_}
+use Prim.Native.Nat.{ℕ, zero, suc, _+_, _-_, _*_, _/_, _%_, _<_}
 use mathlib.Core.Path.{_≡_}
 use mathlib.Core.Bool.{cond}
 use mathlib.Core.List.{List, [], _∷_, _++_}
@@ -18,7 +18,7 @@ use Rattle.library.specs.declared.tables.Tables.{Tables}
 use Rattle.steps.specs.declared.stepping.Stepped.{Stepped}
 use Rattle.trace.specs.declared.decoding.Read.{Read}
 use Rattle.accounts.specs.declared.account.Account.{Account}
-use Rattle.promises.specs.Paper.World.{found}
+use Rattle.promises.specs.Paper.World.{found, signed}
 use Rattle.promises.specs.Paper.Together.{number}
 use Rattle.promises.specs.Paper.Answers.{foundSaid}
 use Rattle.promises.specs.Paper.Fresh.{nothing, MadeOf}
@@ -282,3 +282,102 @@ AccountEnd tally m ms l = RowsText (accountRows (tally ms) (tablesAfter (m .tabl
 
 abbrev pub AccountTold : (Tables → Clock → Step → Stepped) → (List Moment → Account) → (List ℕ → List ℕ) → Type 0
 AccountTold k tally f = Told [] NoText (AccountEnd tally) k f
+
+-- ---- ALL TABLES, after each step's line
+
+-- PLACE: a place of the table of counters, s0 .., p0 .., q0 .., w0 .. (writers), f0 .. (readers)
+abbrev pub placeWord : ℕ → Word
+placeWord p =
+    cond (ltb p 16) (Word.lettered 115 p)
+    (cond (ltb p 20) (Word.lettered 112 (p - 16))
+    (cond (ltb p 28) (Word.lettered 113 (p - 20)) (cond (ltb p 32) (Word.lettered 119 (p - 28)) (Word.lettered 102 (p - 32)))))
+
+-- where a thread waits: r0 .. a reference if it is suspended, `-` nowhere
+abbrev pub waitWord : ℕ → ℕ → Word
+waitWord state place = cond (eqb state 3) (placeWord place) (cond (eqb state 2) (Word.lettered 114 place) (Word.letters (45 ∷ [])))
+
+-- the words of the numbers below n, in order
+abbrev pub listedWords : ℕ → (ℕ → Word) → List Word
+listedWords zero f = []
+listedWords (suc i) f = listedWords i f ++ (f i ∷ [])
+
+-- `thread I STATE PLACE REMAINING PENDING AWAITED MESSAGE KIND OBJECT OPERAND TIMEOUT LASTMESSAGE LASTDATUM CAUSE STEP`
+abbrev pub threadRow : Tables → ℕ → Row
+threadRow t i =
+    record {
+      first = Word.letters (116 ∷ 104 ∷ 114 ∷ 101 ∷ 97 ∷ 100 ∷ []);
+      others = Word.plain i ∷ Word.plain (rowOf t i .state) ∷ waitWord (rowOf t i .state) (rowOf t i .place) ∷ Word.plain (rowOf t i .remaining)
+          ∷ Word.plain (rowOf t i .pending) ∷ Word.plain (rowOf t i .awaited) ∷ signedWord (rowOf t i .message) ∷ Word.plain (rowOf t i .call .kind)
+          ∷ Word.plain (rowOf t i .call .object) ∷ Word.plain (rowOf t i .call .operand) ∷ Word.plain (rowOf t i .call .timeout)
+          ∷ signedWord (rowOf t i .answer .message) ∷ Word.plain (rowOf t i .answer .datum) ∷ Word.plain (rowOf t i .cause) ∷ Word.plain (rowOf t i .step) ∷ [];
+    }
+
+-- a row of a word and two others
+abbrev pub pairRow : List ℕ → Word → Word → Row
+pairRow l a b = record { first = Word.letters l; others = a ∷ b ∷ [] }
+
+-- `mailbox I READ WRITE COUNT RESET WRITERS READERS SLOT0 SLOT1 ..`
+abbrev pub mailboxRow : Tables → ℕ → Row
+mailboxRow t i =
+    record {
+      first = Word.letters (109 ∷ 97 ∷ 105 ∷ 108 ∷ 98 ∷ 111 ∷ 120 ∷ []);
+      others = (Word.plain i ∷ Word.plain (found t .box i .positions .read) ∷ Word.plain (found t .box i .positions .write)
+          ∷ Word.plain (found t .box i .positions .count) ∷ Word.plain (cond (eqb (found t .box i .reset) 0) 0 1)
+          ∷ signedWord (found t .counter (28 + i)) ∷ signedWord (found t .counter (32 + i)) ∷ [])
+          ++ listedWords (few (getD (t .sizes .slots) i 0) 16) (λ j. signedWord (signed (getD (found t .box i .messages) j 0)));
+    }
+
+-- two rows a pool: `pool I COUNTER LENGTH BOTTOM .. TOP`, and `marks I MARK0 .. MARK31`
+abbrev pub poolRow : Tables → ℕ → Row
+poolRow t i =
+    cond (eqb (i % 2) 0)
+    (record {
+      first = Word.letters (112 ∷ 111 ∷ 111 ∷ 108 ∷ []);
+      others = (Word.plain (i / 2) ∷ signedWord (found t .counter (16 + i / 2)) ∷ Word.plain (found t .pool (i / 2) .length) ∷ [])
+          ++ listedWords (few (found t .pool (i / 2) .length) 32) (λ j. Word.plain (getD (found t .pool (i / 2) .list) j 0));
+    })
+    (record {
+      first = Word.letters (109 ∷ 97 ∷ 114 ∷ 107 ∷ 115 ∷ []);
+      others = (Word.plain (i / 2) ∷ []) ++ listedWords 32 (λ j. Word.plain (getD (found t .pool (i / 2) .marks) j 0));
+    })
+
+-- `waiting PLACE WORD`
+abbrev pub waitingRow : Tables → ℕ → Row
+waitingRow t p =
+    pairRow (119 ∷ 97 ∷ 105 ∷ 116 ∷ 105 ∷ 110 ∷ 103 ∷ []) (placeWord p) (Word.plain (getD (t .kernel .words .waiting) p 0))
+
+-- the rows within the sizes, table by table, in the order of docs/LISTING.md; "each mailbox's two sides `w0 f0 w1 f1 ..`"
+abbrev pub tableRows : Tables → List Row
+tableRows t =
+    inOrder (few (t .sizes .threads) 16) (λ i. threadRow t i ∷ [])
+    ++ (inOrder (few (t .sizes .semaphores) 16)
+    (λ i. pairRow (115 ∷ 101 ∷ 109 ∷ 97 ∷ 112 ∷ 104 ∷ 111 ∷ 114 ∷ 101 ∷ []) (Word.plain i) (signedWord (found t .counter i)) ∷ [])
+    ++ (inOrder (few (t .sizes .queues) 8) (λ i. pairRow (113 ∷ 117 ∷ 101 ∷ 117 ∷ 101 ∷ []) (Word.plain i) (signedWord (found t .counter (20 + i))) ∷ [])
+    ++ (inOrder (few (t .sizes .references) 8)
+    (λ i. pairRow (114 ∷ 101 ∷ 102 ∷ 101 ∷ 114 ∷ 101 ∷ 110 ∷ 99 ∷ 101 ∷ []) (Word.plain i) (Word.plain (found t .holder i)) ∷ [])
+    ++ (inOrder (few (t .sizes .mailboxes) 4) (λ i. mailboxRow t i ∷ [])
+    ++ (inOrder (2 * few (t .sizes .pools) 4) (λ i. poolRow t i ∷ [])
+    ++ ((record { first = Word.letters (114 ∷ 101 ∷ 97 ∷ 100 ∷ 121 ∷ []); others = Word.plain (t .kernel .words .ready) ∷ [] } ∷ [])
+    ++ (inOrder (few (t .sizes .semaphores) 16) (λ i. waitingRow t i ∷ [])
+    ++ (inOrder (few (t .sizes .queues) 8) (λ i. waitingRow t (20 + i) ∷ [])
+    ++ (inOrder (2 * few (t .sizes .mailboxes) 4) (λ i. waitingRow t (28 + 4 * (i % 2) + i / 2) ∷ [])
+    ++ inOrder (few (t .sizes .pools) 4) (λ i. waitingRow t (16 + i) ∷ []))))))))))
+
+-- the step's line, `answer MESSAGE DATUM`, all tables, `clock TIME FREQUENCY`, `steps NUMBER`; the clock is the one behind the step
+abbrev pub allRows : ℕ → Moment → Clock → List Row
+allRows n m c =
+    (record {
+      first = Word.plain n;
+      others = Word.plain (m .result .code) ∷ Word.plain (m .result .running) ∷ Word.plain (m .result .woken) ∷ Word.plain (m .result .finished) ∷ [];
+    }
+    ∷ [])
+    ++ ((pairRow (97 ∷ 110 ∷ 115 ∷ 119 ∷ 101 ∷ 114 ∷ []) (signedWord (m .result .message)) (Word.plain (m .result .datum)) ∷ [])
+    ++ (tableRows (m .after)
+    ++ ((pairRow (99 ∷ 108 ∷ 111 ∷ 99 ∷ 107 ∷ []) (Word.plain (c .time .0)) (Word.plain (c .frequency)) ∷ [])
+    ++ (record { first = Word.letters (115 ∷ 116 ∷ 101 ∷ 112 ∷ 115 ∷ []); others = Word.plain (m .after .kernel .steps) ∷ [] } ∷ []))))
+
+abbrev pub WholeLines : (Tables → Clock → Step → Stepped) → ℕ → Moment → List ℕ → Type 0
+WholeLines k n m l = RowsText (allRows n m (k (m .before) (m .clock) (m .step) .clock)) l
+
+abbrev pub TablesTold : (Tables → Clock → Step → Stepped) → (List ℕ → List ℕ) → Type 0
+TablesTold k f = Told listHeading (WholeLines k) NoEnd k f

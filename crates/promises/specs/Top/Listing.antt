@@ -34,15 +34,16 @@ use Rattle.trace.specs.Traces.{readFrom, readAll}
 use Rattle.accounts.specs.Account.{freshAccount, entered}
 use Rattle.accounts.specs.Accounting.{threadsEntered, accountedStep}
 use Rattle.text.specs.declared.views.Seen.{Seen}
-use Rattle.text.specs.declared.views.View.the-variants.{Lines, Wakings, Sums}
+use Rattle.text.specs.declared.views.View.the-variants.{Lines, AllTables, Wakings, Sums}
 use Rattle.text.specs.Rows.{rows, wordText, rowText}
 use Rattle.text.specs.Decimal.{digitsN, decimal}
 use Rattle.text.specs.Views.{stepLine, stepRow, rowOf, rowsIn, headText, partText, partsText, freshSeen, seenAfter, recordsText, viewText}
-use Rattle.promises.specs.Paper.Listing.{StepLine, listHeading, ListingTold, WhyTold, AccountTold}
+use Rattle.promises.specs.Paper.Listing.{StepLine, listHeading, ListingTold, TablesTold, WhyTold, AccountTold}
 use Rattle.promises.specs.Paper.Run.{Moment, momentBy}
-use Rattle.promises.specs.Code.Listing.{listingText, whyText, accountText}
+use Rattle.promises.specs.Code.Listing.{listingText, tablesText, whyText, accountText}
 use Rattle.promises.specs.Code.Steps.{tallied}
 use Rattle.promises.specs.Meant.Accounting.{account-end}
+use Rattle.promises.specs.Meant.AllTables.{whole-lines}
 use Rattle.promises.specs.Meant.Printing.{rows-one, why-heading, waking-lines}
 use Rattle.promises.specs.Top.Facts.{sixSteps}
 use Rattle.promises.specs.Meant.Listing.{lineText, line-is, line-one, numbers-line, lastSeen, view-told}
@@ -71,6 +72,12 @@ nothing-shown x = refl
 pub listing-told : ListingTold stepped listingText
 listing-told =
     view-told Lines _ _ _ heading-is step-line-is (λ z xs. nothing-shown (lastSeen 1 (freshSeen z) xs)) (λ n m a b p q. line-one p ∙ sym (line-one q))
+    (λ m ms a b p q. p ∙ sym q)
+
+-- with all tables: behind each step's line its answer and all tables, in the order and with the fields of docs/LISTING.md; and no other text
+pub tables-told : TablesTold stepped tablesText
+tables-told =
+    view-told AllTables _ _ _ heading-is whole-lines (λ z xs. nothing-shown (lastSeen 1 (freshSeen z) xs)) (λ n m a b p q. rows-one p ∙ sym (rows-one q))
     (λ m ms a b p q. p ∙ sym q)
 
 -- why threads woke: a row for each thread that a step has woken, by step and thread, of every trace, and no other text
