@@ -1,8 +1,8 @@
 -- Rows of words: each has one text, and a row of the code is the paper's, item by item.
-use Prim.Native.Nat.{ℕ, zero, suc, _+_}
+use Prim.Native.Nat.{ℕ, zero, suc}
 use native.Mathlib.Omega.{arith}
-use mathlib.Core.Path.{_≡_, refl, sym, ap, subst, _∙_}
-use mathlib.Core.Bool.{Bool, true, false, cond}
+use mathlib.Core.Path.{_≡_, refl, sym, ap, _∙_}
+use mathlib.Core.Bool.{cond}
 use mathlib.Core.List.{List, [], _∷_, _++_, append-assoc, append-nil}
 use lib.Dec.{eqb}
 use lib.ListN.{replicate}
@@ -23,7 +23,8 @@ use Rattle.text.specs.Views.{stepRow, rowsIn, headText, partText, partsText, fr
 use Rattle.text.specs.Views as views
 use Rattle.promises.specs.Paper.Waking.{rowOf, inMask}
 use Rattle.promises.specs.Paper.Run.{Moment, momentBy}
-use Rattle.promises.specs.Paper.Listing.{Word, WordText, signedWord, RowText, Row, RowsText, causeLetters, waitedWord, calledIn, wakingRow, wakings, whyHeading, WakingLines}
+use Rattle.promises.specs.Paper.Listing.{Word, WordText, signedWord, RowText, Row, RowsText, causeLetters, waitedWord, wakingRow, wakings, whyHeading, WakingLines}
+use Rattle.promises.specs.Paper.History.{callBy}
 use Rattle.promises.specs.Meant.Listing.{in-decimal, decimal-one}
 
 -- ---- a word's text
@@ -157,8 +158,8 @@ module _ (n : ℕ) (x : Seen) (s : Step) where
       split (inMask i (now .result .woken))
       (λ t.
       rw t
-      (waking-row (rowOf (now .after) i .step) i (rowOf (now .after) i .cause) (waitedItem (calledIn now i)) (waitedWord (calledIn now i))
-      (rowOf (now .after) i .message) (waited-is (calledIn now i))
+      (waking-row (rowOf (now .after) i .step) i (rowOf (now .after) i .cause) (waitedItem (callBy now i)) (waitedWord (callBy now i))
+      (rowOf (now .after) i .message) (waited-is (callBy now i))
       ∙ sym (append-nil (rowBytes (wakingRow now i .first) (wakingRow now i .others)))))
       (λ f. rw f no-text)
 

@@ -25,6 +25,7 @@ use Rattle.promises.specs.Paper.Fresh.{nothing, MadeOf}
 use Rattle.promises.specs.Paper.Reader.{ReadOf}
 use Rattle.promises.specs.Paper.Waking.{rowOf, inMask}
 use Rattle.promises.specs.Paper.Run.{Moment, momentsBy}
+use Rattle.promises.specs.Paper.History.{callBy}
 
 -- ---- NUMBERS AND LINES
 
@@ -169,19 +170,13 @@ waitedWord c =
     (cond (eqb (c .kind) 16) (Word.lettered 119 (c .object))
     (cond (eqb (c .kind) 17) (Word.lettered 102 (c .object)) (cond (eqb (c .kind) 20) (Word.lettered 112 (c .object)) (Word.letters (45 ∷ []))))))))
 
--- "by the step's own call, if the thread made the step, else by the call that its record had kept before the step"
-abbrev pub calledIn : Moment → ℕ → Call
-calledIn m i =
-    cond (eqb (m .step .caller) i)
-    (record { kind = m .step .kind; object = m .step .object; operand = m .step .a; timeout = m .step .timeout })
-    (rowOf (m .before) i .call)
-
--- "step, thread, cause, object, message": the step's number, the cause and the message are in the thread's record after the step
+-- "step, thread, cause, object, message": the step's number, the cause and the message are in the thread's record after the step; it waited in the
+-- step's own call, if it made the step, else in the one that its record had kept
 abbrev pub wakingRow : Moment → ℕ → Row
 wakingRow m i =
     record {
       first = Word.plain (rowOf (m .after) i .step);
-      others = Word.plain i ∷ Word.letters (causeLetters (rowOf (m .after) i .cause)) ∷ waitedWord (calledIn m i) ∷ signedWord (rowOf (m .after) i .message) ∷ [];
+      others = Word.plain i ∷ Word.letters (causeLetters (rowOf (m .after) i .cause)) ∷ waitedWord (callBy m i) ∷ signedWord (rowOf (m .after) i .message) ∷ [];
     }
 
 -- of the threads below n that the step has woken

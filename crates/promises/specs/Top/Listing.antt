@@ -4,9 +4,7 @@
 use Prim.Native.Nat.{ℕ}
 use mathlib.Core.Path.{_≡_, refl, sym, _∙_}
 use mathlib.Core.List.{List, [], _∷_}
-use Rattle.kernel.specs.declared.units.Rate.the-variants.{Standard}
 use Rattle.library.specs.declared.calls.Step.{Step}
-use Rattle.library.specs.declared.sizes.Sizes.{Sizes}
 use Rattle.library.specs.Sizes.{noSizes, sizesFit}
 use Rattle.steps.specs.Refusal.{refusalOf}
 use Rattle.steps.specs.Stepping.{maskOf, outcomeOf, doneWith, refusedWith, stepped}
@@ -39,7 +37,7 @@ use Rattle.text.specs.Rows.{rows, wordText, rowText}
 use Rattle.text.specs.Decimal.{digitsN, decimal}
 use Rattle.text.specs.Views.{stepLine, stepRow, rowOf, rowsIn, headText, partText, partsText, freshSeen, seenAfter, recordsText, viewText}
 use Rattle.promises.specs.Paper.Listing.{StepLine, listHeading, ListingTold, TablesTold, WhyTold, AccountTold}
-use Rattle.promises.specs.Paper.Run.{Moment, momentBy}
+use Rattle.promises.specs.Paper.Run.{momentBy}
 use Rattle.promises.specs.Code.Listing.{listingText, tablesText, whyText, accountText}
 use Rattle.promises.specs.Code.Steps.{tallied}
 use Rattle.promises.specs.Meant.Accounting.{account-end}
@@ -81,8 +79,8 @@ tables-told =
     (λ m ms a b p q. p ∙ sym q)
 
 -- why threads woke: a row for each thread that a step has woken, by step and thread, of every trace, and no other text
-pub why-told : WhyTold stepped whyText
-why-told =
+pub wakings-told : WhyTold stepped whyText
+wakings-told =
     view-told Wakings _ _ _ why-heading waking-lines (λ z xs. nothing-shown (lastSeen 1 (freshSeen z) xs)) (λ n m a b p q. rows-one p ∙ sym (rows-one q))
     (λ m ms a b p q. p ∙ sym q)
 
