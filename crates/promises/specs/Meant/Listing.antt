@@ -1,14 +1,13 @@
 -- What the meanings print is what the paper tells: digits by digits, record by record; and the paper leaves no choice.
-use Prim.Native.Nat.{ℕ, zero, suc, _+_, _-_, _*_, _/_, _%_, _≤_, _<_}
+use Prim.Native.Nat.{ℕ, zero, suc, _+_, _*_, _/_, _%_, _≤_, _<_}
 use native.Mathlib.Omega.{arith}
 use native.Mathlib.Numerals.{add-one}
 use mathlib.Core.Path.{_≡_, refl, sym, ap, subst, _∙_}
 use mathlib.Core.Logic.{_≢_}
-use mathlib.Core.Bool.{Bool, true, false, cond}
 use mathlib.Core.List.{List, [], _∷_, _++_, append-assoc, append-nil}
 use lib.Dec.{eqb, ltb}
 use lib.ListN.{length, getD, take, drop}
-use borrow.Author.Tests.{eqb-true, eqb-false, ltb-true, ltb-false, ne-eqb}
+use borrow.Author.Tests.{eqb-true, eqb-false, ltb-true, ltb-false}
 use Rattle.kernel.specs.declared.clock.Clock.{Clock}
 use Rattle.kernel.specs.declared.units.Rate.the-variants.{Standard}
 use Rattle.kernel.proofs.Cases.{split}
@@ -18,14 +17,13 @@ use Rattle.library.specs.declared.fresh.Made.{Made}
 use Rattle.library.specs.declared.tables.Tables.{Tables}
 use Rattle.library.specs.Fresh.{made}
 use Rattle.library.specs.Sizes.{noSizes}
-use Rattle.steps.specs.declared.stepping.Outcome.{Outcome}
 use Rattle.steps.specs.declared.stepping.Stepped.{Stepped}
 use Rattle.steps.specs.Stepping.{stepped}
 use Rattle.trace.specs.declared.decoding.Found.{Found}
 use Rattle.trace.specs.declared.decoding.Found.the-variants as found
 use Rattle.trace.specs.declared.decoding.Read.{Read}
 use Rattle.trace.specs.Ordered.{getN}
-use Rattle.trace.specs.Decoding.{headSizes, headRefusal, refusedRead, stepRefusal, decodedStep, nextRead}
+use Rattle.trace.specs.Decoding.{headRefusal, stepRefusal, decodedStep, nextRead}
 use Rattle.trace.specs.Traces.{Reading, readFrom, readAll}
 use Rattle.trace.proofs.Framing.{Head, head, stands}
 use Rattle.trace.proofs.ReadingLaws.{ends, steps-on, refuses}
@@ -35,7 +33,7 @@ use Rattle.text.specs.declared.views.View.{View}
 use Rattle.text.specs.Decimal.{digitsN, decimal}
 use Rattle.text.specs.Rows.{rows, wordText, rowText}
 use Rattle.text.specs.Views.{partsText, viewParts, freshSeen, seenAfter, stopText, recordsText, readingText, viewText}
-use Rattle.text.proofs.DecimalLaws.{one-digit, more-digits, one-number}
+use Rattle.text.proofs.DecimalLaws.{one-digit, more-digits}
 use Rattle.text.proofs.ViewLaws.{opens, refused}
 use Rattle.promises.specs.Paper.Answers.{Said, foundSaid}
 use Rattle.promises.specs.Paper.Fresh.{nothing, MadeOf}
@@ -43,7 +41,6 @@ use Rattle.promises.specs.Paper.Reader.{ReadOf}
 use Rattle.promises.specs.Paper.Run.{Moment, momentBy, momentsBy}
 use Rattle.promises.specs.Paper.Listing.{InDecimal, Line, Stop, StepsFound, TraceFound, StopLine, EachText, Printed, Told}
 use Rattle.promises.specs.Meant.Fresh.{made-is, made-one}
-use Rattle.promises.specs.Meant.Said.{found-one}
 use Rattle.promises.specs.Meant.Reader.{read-is, read-one}
 
 -- ---- numbers
