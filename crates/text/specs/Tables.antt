@@ -1,5 +1,5 @@
 -- The rows of all tables and of the words, in the order of docs/LISTING.md. A table is a part, by its number.
-use Prim.Native.Nat.{ℕ, _+_, _-_, _*_, _/_, _%_}
+use Prim.Native.Nat.{ℕ, _+_, _*_, _/_, _%_, _-_}
 use mathlib.Core.Bool.{cond}
 use mathlib.Core.List.{[], _∷_}
 use lib.Dec.{eqb, ltb}

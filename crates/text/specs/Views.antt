@@ -2,7 +2,7 @@
 -- bad record `stopped`, its number (0 for 15 and 11), the code; then it ends."
 use Prim.Native.Nat.{ℕ, zero, suc, _+_, _*_, _%_}
 use mathlib.Core.Path.{_≡_}
-use mathlib.Core.Bool.{Bool, cond}
+use mathlib.Core.Bool.{cond}
 use mathlib.Core.List.{List, [], _∷_, _++_}
 use lib.Dec.{eqb, ltb}
 use lib.ListN.{getD}
@@ -12,7 +12,6 @@ use Rattle.kernel.specs.Tables.{rowIn}
 use Rattle.kernel.specs.Words.{hasBit}
 use Rattle.library.specs.declared.calls.Step.{Step}
 use Rattle.library.specs.declared.sizes.Sizes.{Sizes}
-use Rattle.library.specs.declared.tables.Tables.{Tables}
 use Rattle.library.specs.Fresh.{made}
 use Rattle.library.specs.Sizes.{noSizes}
 use Rattle.accounts.specs.Account.{freshAccount}

@@ -2,7 +2,7 @@
 use Prim.Native.Nat.{ℕ, zero, suc, _+_, _*_, _/_, _%_}
 use native.Mathlib.Numerals.{add-one}
 use mathlib.Core.Path.{_≡_, refl, sym, ap, subst, _∙_}
-use mathlib.Core.Bool.{Bool, true, false, cond}
+use mathlib.Core.Bool.{Bool}
 use mathlib.Core.List.{List, [], _∷_, _++_, append-assoc, append-nil}
 use lib.Dec.{eqb}
 use lib.ListN.{getD}
@@ -10,7 +10,6 @@ use Rattle.kernel.specs.declared.units.Rate.the-variants.{Standard}
 use Rattle.kernel.specs.Walk.{countOf}
 use Rattle.kernel.proofs.Cases.{split}
 use Rattle.accounts.specs.declared.account.Account.{Account}
-use Rattle.accounts.specs.Accounting.{accountedStep}
 use Rattle.accounts.specs.Account.{freshAccount}
 use Rattle.library.specs.declared.calls.Step.{Step}
 use Rattle.library.specs.declared.sizes.Sizes.{Sizes}
@@ -24,7 +23,6 @@ use Rattle.text.specs.Sums.{objectRow, mailboxSums, poolSums, sumRow}
 use Rattle.text.specs.Views.{rowOf, rowsIn, headText, partText, partsText, freshSeen, seenAfter}
 use Rattle.promises.specs.Paper.Together.{number}
 use Rattle.promises.specs.Paper.World.{found}
-use Rattle.promises.specs.Paper.Ledger.{talliedBy}
 use Rattle.promises.specs.Paper.Run.{Moment, momentsBy}
 use Rattle.promises.specs.Paper.Listing.{Word, Row, RowsText, few, inOrder, mailboxHeading, poolHeading, objectHeading}
 use Rattle.promises.specs.Paper.Listing.{mailboxSum, poolSum, objectSum, accountRows, tablesAfter, AccountEnd}

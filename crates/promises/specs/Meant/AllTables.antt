@@ -1,8 +1,8 @@
 -- What is printed of all tables is the paper's, row by row: each item is its word, and each part its rows in order.
-use Prim.Native.Nat.{ℕ, zero, suc, _+_, _-_, _*_, _/_, _%_}
+use Prim.Native.Nat.{ℕ, zero, suc, _+_, _*_, _/_, _%_, _-_}
 use native.Mathlib.Omega.{arith}
 use mathlib.Core.Path.{_≡_, refl, sym, ap, _∙_}
-use mathlib.Core.Bool.{Bool, true, false, cond}
+use mathlib.Core.Bool.{cond}
 use mathlib.Core.List.{List, [], _∷_, _++_, append-assoc, append-nil}
 use lib.Dec.{eqb, ltb}
 use lib.ListN.{getD}
@@ -16,17 +16,17 @@ use Rattle.steps.specs.Stepping.{stepped}
 use Rattle.text.specs.declared.items.Item.{Item}
 use Rattle.text.specs.declared.items.Item.the-variants.{Nothing, Number, Signed}
 use Rattle.text.specs.declared.views.Seen.{Seen}
-use Rattle.text.specs.Rows.{rows, wordText, field, rowText, brief, numbered}
+use Rattle.text.specs.Rows.{rows, wordText, field, rowText, brief}
 use Rattle.text.specs.Tables.{placeItem, waitItem, freeRow, marksRow, wordRow, tableRow}
 use Rattle.text.specs.Tables as tables
 use Rattle.text.specs.Views.{stepLine, stepRow, rowsIn, headText, partText, partsText, seenAfter}
 use Rattle.text.specs.Views as views
 use Rattle.promises.specs.Paper.World.{found, signed}
 use Rattle.promises.specs.Paper.Waking.{rowOf}
-use Rattle.promises.specs.Paper.Run.{Moment, momentBy}
+use Rattle.promises.specs.Paper.Run.{momentBy}
 use Rattle.promises.specs.Paper.Listing.{Word, Row, signedWord, few, inOrder, placeWord, waitWord, listedWords, threadRow, pairRow, mailboxRow, poolRow}
 use Rattle.promises.specs.Paper.Listing.{waitingRow, tableRows, allRows, WholeLines}
-use Rattle.promises.specs.Meant.Printing.{wordBytes, rowBytes, othersText, words-row, rowsBytes, rows-is, rows-append, signed-is, no-letters, no-rows}
+use Rattle.promises.specs.Meant.Printing.{wordBytes, rowBytes, othersText, words-row, rowsBytes, rows-is, rows-append, signed-is, no-rows}
 use Rattle.promises.specs.Meant.Accounting.{rows-in-order, alone, four-row}
 
 -- ---- items

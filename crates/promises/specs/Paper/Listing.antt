@@ -1,7 +1,7 @@
 -- WHAT IS PRINTED OF A TRACE, BYTE FOR BYTE, AS DOCUMENT 01 TELLS IT: "The program prints in decimal the heading, a line per step (record
 -- number, code, running, woken, finished), and at a bad record `stopped`, its number (0 for 15 and 11), the code; then it ends." It is told of
 -- any kernel k, over the steps that the paper's reader finds (Paper.Reader).
-use Prim.Native.Nat.{ℕ, zero, suc, _+_, _-_, _*_, _/_, _%_, _<_}
+use Prim.Native.Nat.{ℕ, zero, suc, _+_, _*_, _/_, _%_, _<_, _-_}
 use mathlib.Core.Path.{_≡_}
 use mathlib.Core.Bool.{cond}
 use mathlib.Core.List.{List, [], _∷_, _++_}
