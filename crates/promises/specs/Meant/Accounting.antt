@@ -6,7 +6,6 @@ use mathlib.Core.Bool.{Bool}
 use mathlib.Core.List.{List, [], _∷_, _++_, append-assoc, append-nil}
 use lib.Dec.{eqb}
 use lib.ListN.{getD}
-use Rattle.kernel.specs.declared.units.Rate.the-variants.{Standard}
 use Rattle.kernel.specs.Walk.{countOf}
 use Rattle.kernel.proofs.Cases.{split}
 use Rattle.accounts.specs.declared.account.Account.{Account}
@@ -20,7 +19,7 @@ use Rattle.text.specs.declared.items.Item.the-variants.{Nothing, Number}
 use Rattle.text.specs.declared.views.Seen.{Seen}
 use Rattle.text.specs.Rows.{rows, rowText, numbered}
 use Rattle.text.specs.Sums.{objectRow, mailboxSums, poolSums, sumRow}
-use Rattle.text.specs.Views.{rowOf, rowsIn, headText, partText, partsText, freshSeen, seenAfter}
+use Rattle.text.specs.Views.{rowOf, rowsIn, headText, partText, partsText, listedRate, freshSeen, seenAfter}
 use Rattle.promises.specs.Paper.Together.{number}
 use Rattle.promises.specs.Paper.World.{found}
 use Rattle.promises.specs.Paper.Run.{Moment, momentsBy}
@@ -128,12 +127,12 @@ last-tables n x [] = refl
 last-tables n x (s ∷ ss) = last-tables (n + 1) (seenAfter n x s) ss
 
 pub account-end : (z : Sizes) (xs : List Step)
-    → AccountEnd (λ ms. tallied 1 freshAccount ms) (made z Standard) (momentsBy stepped (made z Standard .tables) (made z Standard .clock) xs)
+    → AccountEnd (λ ms. tallied 1 freshAccount ms) (made z listedRate) (momentsBy stepped (made z listedRate .tables) (made z listedRate .clock) xs)
     (partsText (lastSeen 1 (freshSeen z) xs) 17 3)
 account-end z xs =
     let y : Seen = lastSeen 1 (freshSeen z) xs in
-    let ms : List Moment = momentsBy stepped (made z Standard .tables) (made z Standard .clock) xs in
+    let ms : List Moment = momentsBy stepped (made z listedRate .tables) (made z listedRate .clock) xs in
     rw (account-text y)
-    (subst (λ (t : Tables). RowsText (accountRows (tallied 1 freshAccount ms) (tablesAfter (made z Standard .tables) ms)) (rowsBytes (accountRows (y .account) t))) (sym (last-tables 1 (freshSeen z) xs))
-    (subst (λ (a : Account). RowsText (accountRows (tallied 1 freshAccount ms) (tablesAfter (made z Standard .tables) ms)) (rowsBytes (accountRows a (tablesAfter (made z Standard .tables) ms)))) (sym (last-account 1 (freshSeen z) xs))
-    (rows-is (accountRows (tallied 1 freshAccount ms) (tablesAfter (made z Standard .tables) ms)))))
+    (subst (λ (t : Tables). RowsText (accountRows (tallied 1 freshAccount ms) (tablesAfter (made z listedRate .tables) ms)) (rowsBytes (accountRows (y .account) t))) (sym (last-tables 1 (freshSeen z) xs))
+    (subst (λ (a : Account). RowsText (accountRows (tallied 1 freshAccount ms) (tablesAfter (made z listedRate .tables) ms)) (rowsBytes (accountRows a (tablesAfter (made z listedRate .tables) ms)))) (sym (last-account 1 (freshSeen z) xs))
+    (rows-is (accountRows (tallied 1 freshAccount ms) (tablesAfter (made z listedRate .tables) ms)))))

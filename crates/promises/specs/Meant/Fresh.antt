@@ -21,7 +21,7 @@ use Rattle.library.specs.Fresh.{freshTables, freshClock, made}
 use Rattle.promises.specs.Paper.Time.{ticksInSecond}
 use Rattle.promises.specs.Paper.Fresh.{FreshTables, FreshClock, Legal, nothing, MadeWith, MadeOf}
 use Rattle.promises.specs.Meant.Time.{same-rate, possible-fits, fits-possible}
-use Rattle.promises.specs.Meant.Sizes.{fit-limits, out-of-limits}
+use Rattle.promises.specs.Meant.Sizes.{fit-limits, limits-fit, out-of-limits}
 
 fresh-tables : (z : Sizes) → z .threads ≤ 16 → FreshTables z (freshTables z)
 fresh-tables z few =
@@ -62,6 +62,12 @@ made-legal z rate legal = by (made-is z rate)
     by (MadeOf.no-size n m) = absurd (n (legal .sizes))
     by (MadeOf.no-frequency f n m) = absurd (n (legal .frequency))
     by (MadeOf.fresh f p m) = m
+
+-- they are these
+pub legal-made : (z : Sizes) (rate : Rate) → Legal z rate
+    → made z rate ≡ record { code = 0; tables = freshTables z; clock = freshClock (ticksInSecond rate) }
+unfolding made
+legal-made z rate legal = rw (same-rate rate, limits-fit z (legal .sizes), fits-possible (ticksInSecond rate) (legal .frequency))
 
 -- and of no others
 pub code-legal : (z : Sizes) (rate : Rate) → made z rate .code ≡ 0 → Legal z rate

@@ -9,7 +9,6 @@ use lib.Dec.{eqb, ltb}
 use lib.ListN.{length, getD, take, drop}
 use borrow.Author.Tests.{eqb-true, eqb-false, ltb-true, ltb-false}
 use Rattle.kernel.specs.declared.clock.Clock.{Clock}
-use Rattle.kernel.specs.declared.units.Rate.the-variants.{Standard}
 use Rattle.kernel.proofs.Cases.{split}
 use Rattle.library.specs.declared.calls.Step.{Step}
 use Rattle.library.specs.declared.sizes.Sizes.{Sizes}
@@ -32,7 +31,7 @@ use Rattle.text.specs.declared.views.Seen.{Seen}
 use Rattle.text.specs.declared.views.View.{View}
 use Rattle.text.specs.Decimal.{digitsN, decimal}
 use Rattle.text.specs.Rows.{rows, wordText, rowText}
-use Rattle.text.specs.Views.{partsText, viewParts, freshSeen, seenAfter, stopText, recordsText, readingText, viewText}
+use Rattle.text.specs.Views.{partsText, viewParts, listedRate, freshSeen, seenAfter, stopText, recordsText, readingText, viewText}
 use Rattle.text.proofs.DecimalLaws.{one-digit, more-digits}
 use Rattle.text.proofs.ViewLaws.{opens, refused}
 use Rattle.promises.specs.Paper.Answers.{Said, foundSaid}
@@ -226,7 +225,7 @@ module _ (each : ℕ → Moment → List ℕ → Type 0) (end : Made → List Mo
       → p ≡ q
   printed-one {heading} {k} (Printed.printed {z} {xs} {stop} {m} {a} {b} {c} t d e n l h) (Printed.printed {xs = ys} {m = o} {a = a′} {b = b′} {c = c′} t′ d′ e′ n′ l′ h′) =
       let same = trace-one t t′ in
-      let making : m ≡ o = made-one (subst (λ (y : Sizes). MadeOf y Standard m) (same .0) d) d′ in
+      let making : m ≡ o = made-one (subst (λ (y : Sizes). MadeOf y listedRate m) (same .0) d) d′ in
       let run : momentsBy k (m .tables) (m .clock) xs ≡ momentsBy k (o .tables) (o .clock) ys =
       ap (λ (x : Made). momentsBy k (x .tables) (x .clock) xs) making ∙ ap (λ (zs : List Step). momentsBy k (o .tables) (o .clock) zs) (same .1 .0) in
       let lines = texts-one (subst (λ (ms : List Moment). EachText each 1 ms a) run e) e′ in
@@ -268,7 +267,7 @@ module _ (w : View) (heading : List ℕ) (each : ℕ → Moment → List ℕ →
     (each-is : (n : ℕ) (x : Seen) (s : Step)
     → each n (momentBy stepped (x .tables) (x .clock) s) (partsText (seenAfter n x s) (viewParts w .step) (viewParts w .steps)))
     (end-is : (z : Sizes) (xs : List Step)
-    → end (made z Standard) (momentsBy stepped (made z Standard .tables) (made z Standard .clock) xs)
+    → end (made z listedRate) (momentsBy stepped (made z listedRate .tables) (made z listedRate .clock) xs)
     (partsText (lastSeen 1 (freshSeen z) xs) (viewParts w .end) (viewParts w .ends)))
     (each-one : (n : ℕ) (m : Moment) (a b : List ℕ) → each n m a → each n m b → a ≡ b)
     (end-one : (m : Made) (ms : List Moment) (a b : List ℕ) → end m ms a → end m ms b → a ≡ b) where
@@ -287,7 +286,7 @@ module _ (w : View) (heading : List ℕ) (each : ℕ → Moment → List ℕ →
   unfolding viewText
   view-is s =
       let r : Reading = readAll s in
-      Printed.printed (all-found s) (made-is (r .sizes) Standard) (texts-are 1 (freshSeen (r .sizes)) (r .steps)) (end-is (r .sizes) (r .steps)) (stop-is (r .stop))
+      Printed.printed (all-found s) (made-is (r .sizes) listedRate) (texts-are 1 (freshSeen (r .sizes)) (r .steps)) (end-is (r .sizes) (r .steps)) (stop-is (r .stop))
       (ap (λ (l : List ℕ). l ++ readingText (viewParts w) r) head-is
       ∙ ap (λ (l : List ℕ). heading ++ l) (records-split (viewParts w) 1 (freshSeen (r .sizes)) (r .steps) (r .stop)))
 

@@ -10,7 +10,7 @@ use lib.ListN.{getD}
 use lib.IntN.{ℤ, pos, negsuc}
 use Rattle.kernel.specs.declared.clock.Clock.{Clock}
 use Rattle.kernel.specs.declared.records.Call.{Call}
-use Rattle.kernel.specs.declared.units.Rate.the-variants.{Standard}
+use Rattle.kernel.specs.declared.units.Rate.the-variants.{Given}
 use Rattle.library.specs.declared.calls.Step.{Step}
 use Rattle.library.specs.declared.sizes.Sizes.{Sizes}
 use Rattle.library.specs.declared.fresh.Made.{Made}
@@ -75,10 +75,11 @@ pub data EachText (each : ℕ → Moment → List ℕ → Type 0) : ℕ → List
   none : {n : ℕ} → EachText each n [] []
   more : {n : ℕ} {m : Moment} {ms : List Moment} {a b : List ℕ} → each n m a → EachText each (suc n) ms b → EachText each n (m ∷ ms) (a ++ b)
 
--- a view: its heading, what stands for each step, what stands at the end, and where reading stopped. "where none is given it is 1000"
+-- a view: its heading, what stands for each step, what stands at the end, and where reading stopped. "The listing program and
+-- the recorded plant traces now give 1000 themselves" (document 02)
 pub data Printed (heading : List ℕ) (each : ℕ → Moment → List ℕ → Type 0) (end : Made → List Moment → List ℕ → Type 0)
     (k : Tables → Clock → Step → Stepped) (s text : List ℕ) : Type 0 where
-  printed : {z : Sizes} {xs : List Step} {stop : Stop} {m : Made} {a b c : List ℕ} → TraceFound s z xs stop → MadeOf z Standard m
+  printed : {z : Sizes} {xs : List Step} {stop : Stop} {m : Made} {a b c : List ℕ} → TraceFound s z xs stop → MadeOf z (Given 1000) m
       → EachText each 1 (momentsBy k (m .tables) (m .clock) xs) a → end m (momentsBy k (m .tables) (m .clock) xs) b → StopLine stop c
       → text ≡ heading ++ (a ++ (b ++ c)) → Printed heading each end k s text
 
