@@ -63,7 +63,7 @@ made-legal z rate legal = by (made-is z rate)
     by (MadeOf.no-frequency f n m) = absurd (n (legal .frequency))
     by (MadeOf.fresh f p m) = m
 
--- they are these
+-- these, at the frequency that is given or the usual one
 pub legal-made : (z : Sizes) (rate : Rate) → Legal z rate
     → made z rate ≡ record { code = 0; tables = freshTables z; clock = freshClock (ticksInSecond rate) }
 unfolding made

@@ -52,7 +52,7 @@ linesFrom n (o ∷ os) = lineOf n o ∷ linesFrom (suc n) os
 abbrev pub ranFresh : Reading → Made → Ran
 ranFresh r m = ran (m .tables) (m .clock) (r .steps)
 
--- the lines of a trace, from its bytes; record 0 is the sizes, and "The listing program .. now give 1000" (document 02)
+-- the lines of a trace, from its bytes; record 0 is the sizes, and the listing program gives 1000 (document 02)
 abbrev pub linesOf : Reading → List (List ℕ)
 linesOf r = linesFrom 1 (ranFresh r (made (r .sizes) (Given 1000)) .outcomes)
 
