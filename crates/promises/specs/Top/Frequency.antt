@@ -18,7 +18,7 @@ use Rattle.promises.specs.Paper.Fresh.{Legal}
 use Rattle.promises.specs.Paper.Frequency.{clockAt, ranAt}
 use Rattle.promises.specs.Code.Steps.{ran, freshRan}
 use Rattle.promises.specs.Meant.Time.{fits-possible}
-use Rattle.promises.specs.Meant.Fresh.{legal-made}
+use Rattle.promises.specs.Meant.Fresh.{made-fresh}
 use Rattle.promises.specs.Runs.Frequency.{run-at}
 
 -- ---- where none is given
@@ -43,5 +43,5 @@ any-frequency t c f g h ss = run-at f (fits-possible f h) t c ss (fits-possible 
 pub any-frequency-fresh : (y : Sizes) (r q : Rate) → Legal y r → Legal y q → (ss : List Step)
     → freshRan y q ss ≡ ranAt (ticksInSecond q) (freshRan y r ss)
 any-frequency-fresh y r q g h ss =
-    rw (legal-made y r g, legal-made y q h)
+    rw (made-fresh y r g, made-fresh y q h)
     (any-frequency (freshTables y) (freshClock (ticksInSecond r)) (ticksInSecond q) (g .frequency) (h .frequency) ss)
