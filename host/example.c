@@ -28,7 +28,9 @@ enum {
     PATIENCE = 8
 };
 
-/* As the firmware was compiled with it: the manual's number. */
+/* As the firmware was compiled with them: ticks a second, and the manual's
+   number. */
+#define FREQUENCY UINT32_C(1000)
 #define TIME_INFINITE UINT32_C(0)
 
 /* Where a thread's code stands: which of its calls is the next one. */
@@ -252,7 +254,7 @@ int main(void)
                (unsigned)nil_layout());
         return 1;
     }
-    code = nil_fresh(&plant.tables, &plant.clock, &sizes, NIL_FREQUENCY);
+    code = nil_fresh(&plant.tables, &plant.clock, &sizes, FREQUENCY);
     if (code == 0) {
         code = run_threads(&plant, PRINTER); /* all are ready at first */
     }

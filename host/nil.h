@@ -65,8 +65,13 @@ enum { NIL_NOT_COUNTED = 1 };
 #define NIL_INFINITE UINT32_C(4294967295)
 #define NIL_LONGEST UINT32_C(4294967294)
 
-/* Ticks a second: 1 to NIL_MAX_FREQUENCY, and the usual one. */
-#define NIL_FREQUENCY UINT32_C(1000)
+/*
+ * Ticks a second: 1 to NIL_MAX_FREQUENCY. NIL_FREQUENCY is the new boxes', for
+ * a host that has no other to give. Firmware that was compiled for another
+ * frequency counts its timeouts in those ticks: its host gives that one, as the
+ * examples do with 1000.
+ */
+#define NIL_FREQUENCY UINT32_C(10000)
 #define NIL_MAX_FREQUENCY UINT32_C(1000000)
 
 /*

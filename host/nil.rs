@@ -46,8 +46,9 @@ pub const IMMEDIATE: u32 = 0;
 pub const INFINITE: u32 = 4294967295;
 pub const LONGEST: u32 = 4294967294;
 
-/// Ticks a second where the firmware names none; 1 to 1,000,000 are accepted.
-pub const FREQUENCY: u32 = 1000;
+/// Ticks a second where the firmware names none: the new boxes'. 1 to 1,000,000 are accepted. Firmware that was compiled for
+/// another frequency counts its timeouts in those ticks: its host gives that one.
+pub const FREQUENCY: u32 = 10000;
 
 /// Why a thread was last made ready, in its `cause`. A pool's free and add are signals too. A thread that was woken by another's
 /// call which went on only then, as a post does that had waited for room, has that call's cause, whatever the step's kind was.

@@ -312,6 +312,10 @@ fn tells_the_time() {
     assert_eq!((nil::ms2i(1, 100), nil::ms2i(0, 1000)), (Ok(1), Ok(0)));
     assert_eq!((nil::s2i(2, 1000), nil::s2i(1, 0)), (Ok(2000), Err(6)));
     assert_eq!((nil::i2s(1, 1000), nil::i2ms(3, 2000)), (Ok(1), Ok(2)));
+    // the new boxes' frequency: a second, and the longest interval in whole seconds
+    assert_eq!(nil::s2i(1, nil::FREQUENCY), Ok(10000));
+    assert_eq!(nil::s2i(429496, nil::FREQUENCY), Ok(4294960000));
+    assert_eq!(nil::s2i(429497, nil::FREQUENCY), Err(6));
     assert_eq!(
         (nil::i2us(7, 1000000), nil::i2us(nil::INFINITE, 1000)),
         (Ok(7), Err(6))

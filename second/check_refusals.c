@@ -42,10 +42,11 @@ static void check_idle(void)
 static void check_fresh(void)
 {
     struct sizes z = { 1, 0, 0, 0, 0, 0, { 0 } };
-    static const uint32_t zero = 0, most = 1000000, more = 1000001;
+    static const uint32_t zero = 0, old = 1000, most = 1000000, more = 1000001;
 
     about("fresh tables");
-    VERIFY(fresh_tables(&t, &z, NULL) == 0 && t.clock.frequency == 1000);
+    VERIFY(fresh_tables(&t, &z, NULL) == 0 && t.clock.frequency == 10000);
+    VERIFY(fresh_tables(&t, &z, &old) == 0 && t.clock.frequency == 1000);
     VERIFY(fresh_tables(&t, &z, &most) == 0 && t.clock.frequency == most);
     VERIFY(fresh_tables(&t, &z, &zero) == 6);
     VERIFY(fresh_tables(&t, &z, &more) == 6 && t.clock.frequency == most);

@@ -70,9 +70,13 @@ static void check_conversions(void)
     VERIFY(to_ticks(MICROSECONDS, 1500, &f1000, &n) == 0 && n.ticks == 2);
     VERIFY(to_ticks(MILLISECONDS, 1, &f100, &n) == 0 && n.ticks == 1);
     VERIFY(to_ticks(MILLISECONDS, 0, NULL, &n) == 0 && n.ticks == 0);
-    VERIFY(to_ticks(SECONDS, 4294968, NULL, &n) == 6 && n.ticks == 0);
-    VERIFY(to_ticks(SECONDS, 4294967, NULL, &n) == 0
+    VERIFY(to_ticks(SECONDS, 4294968, &f1000, &n) == 6 && n.ticks == 0);
+    VERIFY(to_ticks(SECONDS, 4294967, &f1000, &n) == 0
            && n.ticks == UINT32_C(4294967000));
+    VERIFY(to_ticks(SECONDS, 429497, NULL, &n) == 6 && n.ticks == 0);
+    VERIFY(to_ticks(SECONDS, 429496, NULL, &n) == 0
+           && n.ticks == UINT32_C(4294960000));
+    VERIFY(to_ticks(MICROSECONDS, 101, NULL, &n) == 0 && n.ticks == 2);
     VERIFY(to_ticks(SECONDS, LONGEST, &f1, &n) == 0 && n.ticks == LONGEST);
     VERIFY(to_ticks(SECONDS, INFINITE, &f1, &n) == 6 && n.ticks == 0);
     VERIFY(to_ticks(SECONDS, 0, &zero, &n) == 6);
@@ -82,6 +86,9 @@ static void check_conversions(void)
            && v == UINT64_C(4294967294000000));
     VERIFY(from_ticks(SECONDS, n, &most, &v) == 0 && v == 4295);
     VERIFY(from_ticks(SECONDS, n, &more, &v) == 6 && v == 0);
+    n.ticks = 10001;
+    VERIFY(from_ticks(SECONDS, n, NULL, &v) == 0 && v == 2);
+    VERIFY(from_ticks(SECONDS, n, &f1000, &v) == 0 && v == 11);
     n.ticks = INFINITE;
     VERIFY(from_ticks(SECONDS, n, NULL, &v) == 6 && v == 0);
 }

@@ -7,6 +7,10 @@
 #include <stdio.h>
 #include <string.h>
 
+/* "The listing program and the recorded plant traces now give 1000
+   themselves." */
+static const uint32_t LISTED_FREQUENCY = 1000;
+
 enum { EXIT_FINE = 0, EXIT_TROUBLE = 1, EXIT_USAGE = 2 };
 
 static const char USAGE[] =
@@ -149,7 +153,7 @@ static struct stop go_through(const uint8_t *bytes, size_t length,
 
     run->agrees = true;
     if (code == ACCEPTED) {
-        fresh_tables(&run->t, &sizes, NULL);
+        fresh_tables(&run->t, &sizes, &LISTED_FREQUENCY);
         begin_account(&run->account, &run->t);
         while ((code = trace_next(&r, &s)) == ACCEPTED) {
             make(run, r.record - 1, &s);

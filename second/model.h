@@ -42,7 +42,8 @@ enum { COUNTER_TOP = 2147483647 };
 #define INFINITE UINT32_C(4294967295)
 #define LONGEST UINT32_C(4294967294)
 
-#define DEFAULT_FREQUENCY UINT32_C(1000)
+/* "Where no frequency is given, take 10000 instead of 1000." */
+#define DEFAULT_FREQUENCY UINT32_C(10000)
 #define MAX_FREQUENCY UINT32_C(1000000)
 
 enum state { READY, SLEEPING, SUSPENDED, QUEUED, AWAITING_EVENTS };
@@ -239,8 +240,8 @@ struct finished_calls {
 
 /* tables.c */
 bool sizes_in_limits(const struct sizes *sizes);
-/* Without a frequency (NULL) it is 1000. Refused with 14 for a size, then 6
-   for the frequency; the tables are then left alone. */
+/* Without a frequency (NULL) it is DEFAULT_FREQUENCY. Refused with 14 for a
+   size, then 6 for the frequency; the tables are then left alone. */
 uint32_t fresh_tables(struct tables *t, const struct sizes *sizes,
                       const uint32_t *frequency);
 uint32_t running_thread(const struct tables *t);

@@ -26,7 +26,8 @@ struct interval time_difference(struct system_time start,
 bool time_in_range(struct system_time time, struct system_time start,
                    struct system_time end);
 
-/* Without a frequency (NULL) it is 1000. Both return 0, or 6 with value 0. */
+/* Without a frequency (NULL) it is DEFAULT_FREQUENCY. Both return 0, or 6 with
+   value 0. */
 uint32_t to_ticks(enum unit unit, uint32_t value, const uint32_t *frequency,
                   struct interval *out);
 uint32_t from_ticks(enum unit unit, struct interval value,

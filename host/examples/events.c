@@ -13,6 +13,9 @@
 enum { SCALE, CONVEYOR, THREADS };
 enum { FULL = 1, STUCK = 2, EMPTY = 4 };
 
+/* Ticks a second, as the firmware was compiled with them. */
+#define FREQUENCY UINT32_C(1000)
+
 static nil_tables tables;
 static nil_clock clock;
 
@@ -72,7 +75,7 @@ int main(void)
     uint32_t all = FULL | STUCK | EMPTY;
 
     if (!NIL_LAYOUT_FITS()
-        || nil_fresh(&tables, &clock, &sizes, NIL_FREQUENCY) != 0
+        || nil_fresh(&tables, &clock, &sizes, FREQUENCY) != 0
         || scale_sleeps().running != CONVEYOR) {
         return 1;
     }

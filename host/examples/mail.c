@@ -10,6 +10,9 @@
 enum { RECORDER, THREADS };
 enum { WEIGHTS }; /* mailboxes */
 
+/* Ticks a second, as the firmware was compiled with them. */
+#define FREQUENCY UINT32_C(1000)
+
 static nil_tables tables;
 static nil_clock clock;
 static unsigned lost;
@@ -54,7 +57,7 @@ int main(void)
     static const nil_sizes sizes = { THREADS, 0, 0, 0, 1, 0, { 2, 0, 0, 0 } };
 
     if (!NIL_LAYOUT_FITS()
-        || nil_fresh(&tables, &clock, &sizes, NIL_FREQUENCY) != 0) {
+        || nil_fresh(&tables, &clock, &sizes, FREQUENCY) != 0) {
         return 1;
     }
     /* its first fetch finds nothing, and it sleeps */

@@ -12,6 +12,9 @@ enum { TRAYS }; /* pools */
 
 static const char *const trays[] = { "the red tray", "the blue tray" };
 
+/* Ticks a second, as the firmware was compiled with them. */
+#define FREQUENCY UINT32_C(1000)
+
 static nil_tables tables;
 static nil_clock clock;
 
@@ -43,7 +46,7 @@ int main(void)
     static const nil_sizes sizes = { THREADS, 0, 0, 0, 0, 1, { 0, 0, 0, 0 } };
 
     if (!NIL_LAYOUT_FITS()
-        || nil_fresh(&tables, &clock, &sizes, NIL_FREQUENCY) != 0) {
+        || nil_fresh(&tables, &clock, &sizes, FREQUENCY) != 0) {
         return 1;
     }
     say("add the red tray", step(NIL_ADD, NIL_INTERRUPT, 0, 0));

@@ -16,6 +16,9 @@ static const nil_request steps[] = {
 };
 enum { STEPS = sizeof steps / sizeof steps[0] };
 
+/* Ticks a second, as the firmware was compiled with them. */
+#define FREQUENCY UINT32_C(1000)
+
 struct plant {
     nil_tables tables;
     nil_clock clock;
@@ -29,7 +32,7 @@ static size_t play(struct plant *p, uint8_t *trace, size_t room)
     nil_result r;
     size_t at;
 
-    if (nil_fresh(&p->tables, &p->clock, &sizes, NIL_FREQUENCY) != 0
+    if (nil_fresh(&p->tables, &p->clock, &sizes, FREQUENCY) != 0
         || nil_write_sizes(trace, room, &sizes, &at) != 0) {
         return 0;
     }
@@ -50,8 +53,7 @@ static uint32_t replay(struct plant *p, const uint8_t *trace, size_t length)
 
     nil_read(trace, length, 0, &read);
     if (read.code == 0) {
-        read.code = nil_fresh(&p->tables, &p->clock, &read.sizes,
-                              NIL_FREQUENCY);
+        read.code = nil_fresh(&p->tables, &p->clock, &read.sizes, FREQUENCY);
     }
     while (read.code == 0) {
         nil_read(trace, length, read.next, &read);

@@ -80,6 +80,11 @@ lastStep = 4294967295
 abbrev pub top : ℤ
 top = pos 2147483647
 
+-- ticks a second where no frequency is given; neither the 1000 that is given where a trace is printed, nor that of a settings file of
+-- version 1 (document 02, 11/13)
+abbrev pub usualFrequency : ℕ
+usualFrequency = 10000
+
 -- intervals
 abbrev pub immediate : ℕ
 immediate = 0

@@ -9,7 +9,7 @@ use Rattle.kernel.specs.declared.units.Rate.{Rate}
 use Rattle.kernel.specs.declared.units.Rate.the-variants.{Given, Standard}
 use Rattle.kernel.specs.declared.units.Ticks.{Ticks}
 use Rattle.kernel.specs.declared.units.Units.{Units}
-use Rattle.kernel.specs.Numbers.{infinite}
+use Rattle.kernel.specs.Numbers.{usualFrequency, infinite}
 
 -- how many of a unit make a second
 abbrev pub perSecond : Unit → ℕ
@@ -17,10 +17,10 @@ perSecond Seconds = 1
 perSecond Milliseconds = 1000
 perSecond Microseconds = 1000000
 
--- "where none is given it is 1000"
+-- "Where no frequency is given, take 10000" (document 02)
 abbrev pub frequencyOf : Rate → ℕ
 frequencyOf (Given f) = f
-frequencyOf Standard = 1000
+frequencyOf Standard = usualFrequency
 
 -- "Frequency is 1 to 1,000,000"
 abbrev pub frequencyFits : ℕ → Bool

@@ -2,6 +2,7 @@
 // TIME_I2US, one function each way over the unit. All round upward, so that no wait ends too soon.
 // A refused conversion has the code 6 and the value 0.
 use crate::numbers::INFINITE;
+use crate::numbers::USUAL_FREQUENCY;
 use crate::time::Interval;
 ghost use mathlib.Core.Path.{_≡_};
 ghost use Rattle.kernel.specs.Units.{perSecond, frequencyOf, frequencyFits, roundedUp, inTicks, ofTicks};
@@ -39,13 +40,13 @@ pub fn per_second(u: Unit) -> u64
     }
 }
 
-// The frequency in ticks a second: 1000 where none is given.
+// The frequency in ticks a second: the usual one where none is given.
 pub fn frequency_of(r: Rate) -> u32
     ensures { λ x. ⌜ x ≡ frequencyOf r ⌝ }
 {
     match r {
         Rate::Given(f) => f,
-        Rate::Standard => 1000,
+        Rate::Standard => USUAL_FREQUENCY,
     }
 }
 

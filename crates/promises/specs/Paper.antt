@@ -17,6 +17,7 @@ pub mod Boundary
 pub mod Broken
 pub mod Waking
 pub mod Run
+pub mod Frequency
 pub mod Flags
 pub mod History
 pub mod Ledger

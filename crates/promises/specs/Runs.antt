@@ -1,6 +1,7 @@
 -- Runs: any list of steps, refused ones included.
 pub mod Answers
 pub mod Refusals
+pub mod Frequency
 pub mod Keeping
 pub mod OneRow
 pub mod Passing

@@ -8,6 +8,7 @@ pub mod Signals
 pub mod Causes
 pub mod Wakings
 pub mod Broken
+pub mod Frequency
 pub mod Facts
 pub mod Listing
 pub mod ShownSteps

@@ -7,7 +7,8 @@ use mathlib.Core.List.{List, [], _∷_, _++_}
 use lib.Dec.{eqb, ltb}
 use lib.ListN.{getD}
 use lib.IntN.{pos}
-use Rattle.kernel.specs.declared.units.Rate.the-variants.{Standard}
+use Rattle.kernel.specs.declared.units.Rate.{Rate}
+use Rattle.kernel.specs.declared.units.Rate.the-variants.{Given}
 use Rattle.kernel.specs.Tables.{rowIn}
 use Rattle.kernel.specs.Words.{hasBit}
 use Rattle.library.specs.declared.calls.Step.{Step}
@@ -123,16 +124,20 @@ viewParts view.Answers = record { head = 0; heads = 0; step = 15; steps = 1; end
 
 -- ---- records
 
--- fresh tables of the sizes, at 1000 ticks a second; no step yet
+-- "The listing program and the recorded plant traces now give 1000 themselves" (document 02): a trace has no frequency in it
+abbrev pub listedRate : Rate
+listedRate = Given 1000
+
+-- fresh tables of the sizes, at that frequency; no step yet
 abbrev pub freshSeen : Sizes → Seen
 freshSeen z =
     record {
       number = 0;
       step = record { kind = 0; caller = 0; object = 0; a = 0; timeout = 0 };
-      found = made z Standard .tables .kernel .threads;
+      found = made z listedRate .tables .kernel .threads;
       outcome = record { code = 0; running = 0; woken = 0; finished = 0; message = pos 0; datum = 0 };
-      tables = made z Standard .tables;
-      clock = made z Standard .clock;
+      tables = made z listedRate .tables;
+      clock = made z listedRate .clock;
       account = freshAccount;
     }
 

@@ -326,11 +326,15 @@ fn put_stop(out: &mut [u8], at: usize, found: Found) -> usize
     }
 }
 
-// Fresh tables of the sizes, at 1000 ticks a second, and no step yet.
+// Ticks a second of what is printed of a trace, which has no frequency in it: the old controllers'. It is given, and does not follow
+// the usual one (`kernel`, `USUAL_FREQUENCY`), so that no stored listing changes with that.
+const LISTED_FREQUENCY: u32 = 1000;
+
+// Fresh tables of the sizes, at that frequency, and no step yet.
 pub(crate) fn fresh_seen(sizes: Sizes) -> Seen
     ensures { λ r. ⌜ r ≡ freshSeen sizes ⌝ }
 {
-    let m = make(sizes, Rate::Standard);
+    let m = make(sizes, Rate::Given(LISTED_FREQUENCY));
     let tables = m.tables;
     let clock = m.clock;
     let found = tables.kernel.threads;

@@ -6,13 +6,14 @@ use mathlib.Core.Bool.{Bool}
 use mathlib.Core.List.{List, [], _∷_, _++_, append-assoc, append-nil}
 use lib.Dec.{eqb}
 use lib.ListN.{getD}
-use Rattle.kernel.specs.declared.units.Rate.the-variants.{Standard}
 use Rattle.kernel.specs.Walk.{countOf}
 use Rattle.kernel.proofs.Cases.{split}
 use Rattle.accounts.specs.declared.account.Account.{Account}
 use Rattle.accounts.specs.Account.{freshAccount}
+use Rattle.accounts.specs.Accounting.{accountedStep}
 use Rattle.library.specs.declared.calls.Step.{Step}
 use Rattle.library.specs.declared.sizes.Sizes.{Sizes}
+use Rattle.library.specs.declared.fresh.Made.{Made}
 use Rattle.library.specs.declared.tables.Tables.{Tables}
 use Rattle.library.specs.Fresh.{made}
 use Rattle.steps.specs.Stepping.{stepped}
@@ -20,15 +21,17 @@ use Rattle.text.specs.declared.items.Item.the-variants.{Nothing, Number}
 use Rattle.text.specs.declared.views.Seen.{Seen}
 use Rattle.text.specs.Rows.{rows, rowText, numbered}
 use Rattle.text.specs.Sums.{objectRow, mailboxSums, poolSums, sumRow}
-use Rattle.text.specs.Views.{rowOf, rowsIn, headText, partText, partsText, freshSeen, seenAfter}
+use Rattle.text.specs.Views.{rowOf, rowsIn, headText, partText, partsText, listedRate, freshSeen, seenAfter}
 use Rattle.promises.specs.Paper.Together.{number}
 use Rattle.promises.specs.Paper.World.{found}
 use Rattle.promises.specs.Paper.Run.{Moment, momentsBy}
+use Rattle.promises.specs.Paper.Ledger.{reportOf}
 use Rattle.promises.specs.Paper.Listing.{Word, Row, RowsText, few, inOrder, mailboxHeading, poolHeading, objectHeading}
 use Rattle.promises.specs.Paper.Listing.{mailboxSum, poolSum, objectSum, accountRows, tablesAfter, AccountEnd}
 use Rattle.promises.specs.Code.Steps.{tallied}
 use Rattle.promises.specs.Meant.Together.{number-count}
 use Rattle.promises.specs.Meant.Listing.{lastSeen}
+use Rattle.promises.specs.Runs.Frequency.{Alike}
 use Rattle.promises.specs.Meant.Printing.{rowBytes, words-row, rowsBytes, rows-is, rows-append, no-letters, no-rows, no-text}
 
 -- rows in order are the paper's, if each is
@@ -128,12 +131,25 @@ last-tables n x [] = refl
 last-tables n x (s ∷ ss) = last-tables (n + 1) (seenAfter n x s) ss
 
 pub account-end : (z : Sizes) (xs : List Step)
-    → AccountEnd (λ ms. tallied 1 freshAccount ms) (made z Standard) (momentsBy stepped (made z Standard .tables) (made z Standard .clock) xs)
+    → AccountEnd (λ ms. tallied 1 freshAccount ms) (made z listedRate) (momentsBy stepped (made z listedRate .tables) (made z listedRate .clock) xs)
     (partsText (lastSeen 1 (freshSeen z) xs) 17 3)
 account-end z xs =
     let y : Seen = lastSeen 1 (freshSeen z) xs in
-    let ms : List Moment = momentsBy stepped (made z Standard .tables) (made z Standard .clock) xs in
+    let ms : List Moment = momentsBy stepped (made z listedRate .tables) (made z listedRate .clock) xs in
     rw (account-text y)
-    (subst (λ (t : Tables). RowsText (accountRows (tallied 1 freshAccount ms) (tablesAfter (made z Standard .tables) ms)) (rowsBytes (accountRows (y .account) t))) (sym (last-tables 1 (freshSeen z) xs))
-    (subst (λ (a : Account). RowsText (accountRows (tallied 1 freshAccount ms) (tablesAfter (made z Standard .tables) ms)) (rowsBytes (accountRows a (tablesAfter (made z Standard .tables) ms)))) (sym (last-account 1 (freshSeen z) xs))
-    (rows-is (accountRows (tallied 1 freshAccount ms) (tablesAfter (made z Standard .tables) ms)))))
+    (subst (λ (t : Tables). RowsText (accountRows (tallied 1 freshAccount ms) (tablesAfter (made z listedRate .tables) ms)) (rowsBytes (accountRows (y .account) t))) (sym (last-tables 1 (freshSeen z) xs))
+    (subst (λ (a : Account). RowsText (accountRows (tallied 1 freshAccount ms) (tablesAfter (made z listedRate .tables) ms)) (rowsBytes (accountRows a (tablesAfter (made z listedRate .tables) ms)))) (sym (last-account 1 (freshSeen z) xs))
+    (rows-is (accountRows (tallied 1 freshAccount ms) (tablesAfter (made z listedRate .tables) ms)))))
+
+-- of moments that are alike but for their clocks there is one account, and the same tables stand behind them
+tally-alike : (n : ℕ) (a : Account) {ms ns : List Moment} → Alike ms ns → tallied n a ms ≡ tallied n a ns
+tally-alike n a Alike.none = refl
+tally-alike n a (Alike.more {m} r) = tally-alike (suc n) (accountedStep a n (m .before) (m .step) (reportOf (m .result)) (m .after)) r
+
+tables-alike : {t u : Tables} {ms ns : List Moment} → t ≡ u → Alike ms ns → tablesAfter t ms ≡ tablesAfter u ns
+tables-alike e Alike.none = e
+tables-alike e (Alike.more r) = tables-alike refl r
+
+pub account-alike : (m o : Made) (ms ns : List Moment) (l : List ℕ) → m .tables ≡ o .tables → Alike ms ns
+    → AccountEnd (λ xs. tallied 1 freshAccount xs) m ms l → AccountEnd (λ xs. tallied 1 freshAccount xs) o ns l
+account-alike m o ms ns l e r x = rw (sym (tally-alike 1 freshAccount r), sym (tables-alike e r)) x

@@ -21,7 +21,7 @@ use Rattle.library.specs.Fresh.{freshTables, freshClock, made}
 use Rattle.promises.specs.Paper.Time.{ticksInSecond}
 use Rattle.promises.specs.Paper.Fresh.{FreshTables, FreshClock, Legal, nothing, MadeWith, MadeOf}
 use Rattle.promises.specs.Meant.Time.{same-rate, possible-fits, fits-possible}
-use Rattle.promises.specs.Meant.Sizes.{fit-limits, out-of-limits}
+use Rattle.promises.specs.Meant.Sizes.{fit-limits, limits-fit, out-of-limits}
 
 fresh-tables : (z : Sizes) → z .threads ≤ 16 → FreshTables z (freshTables z)
 fresh-tables z few =
@@ -55,13 +55,15 @@ made-is z rate =
     (λ e. rw e (MadeOf.no-size (out-of-limits z e) (record { code = refl; tables = fresh-tables nothing (omega arith); clock = fresh-clock 0 }))))
 
 -- of legal sizes and frequency fresh tables are made, and are not refused
+pub made-fresh : (z : Sizes) (rate : Rate) → Legal z rate
+    → made z rate ≡ record { code = 0; tables = freshTables z; clock = freshClock (ticksInSecond rate) }
+unfolding made
+made-fresh z rate legal = rw (same-rate rate, limits-fit z (legal .sizes), fits-possible (ticksInSecond rate) (legal .frequency))
+
 pub made-legal : (z : Sizes) (rate : Rate) → Legal z rate → MadeWith 0 z (ticksInSecond rate) (made z rate)
-made-legal z rate legal = by (made-is z rate)
-  where
-    by : MadeOf z rate (made z rate) → MadeWith 0 z (ticksInSecond rate) (made z rate)
-    by (MadeOf.no-size n m) = absurd (n (legal .sizes))
-    by (MadeOf.no-frequency f n m) = absurd (n (legal .frequency))
-    by (MadeOf.fresh f p m) = m
+made-legal z rate legal =
+    rw (made-fresh z rate legal)
+    (record { code = refl; tables = fresh-tables z (legal .sizes .threads .1); clock = fresh-clock (ticksInSecond rate) })
 
 -- and of no others
 pub code-legal : (z : Sizes) (rate : Rate) → made z rate .code ≡ 0 → Legal z rate

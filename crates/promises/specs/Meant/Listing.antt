@@ -9,7 +9,7 @@ use lib.Dec.{eqb, ltb}
 use lib.ListN.{length, getD, take, drop}
 use borrow.Author.Tests.{eqb-true, eqb-false, ltb-true, ltb-false}
 use Rattle.kernel.specs.declared.clock.Clock.{Clock}
-use Rattle.kernel.specs.declared.units.Rate.the-variants.{Standard}
+use Rattle.kernel.specs.declared.units.Rate.the-variants.{Given}
 use Rattle.kernel.proofs.Cases.{split}
 use Rattle.library.specs.declared.calls.Step.{Step}
 use Rattle.library.specs.declared.sizes.Sizes.{Sizes}
@@ -32,16 +32,18 @@ use Rattle.text.specs.declared.views.Seen.{Seen}
 use Rattle.text.specs.declared.views.View.{View}
 use Rattle.text.specs.Decimal.{digitsN, decimal}
 use Rattle.text.specs.Rows.{rows, wordText, rowText}
-use Rattle.text.specs.Views.{partsText, viewParts, freshSeen, seenAfter, stopText, recordsText, readingText, viewText}
+use Rattle.text.specs.Views.{partsText, viewParts, listedRate, freshSeen, seenAfter, stopText, recordsText, readingText, viewText}
 use Rattle.text.proofs.DecimalLaws.{one-digit, more-digits}
 use Rattle.text.proofs.ViewLaws.{opens, refused}
 use Rattle.promises.specs.Paper.Answers.{Said, foundSaid}
+use Rattle.promises.specs.Paper.Time.{Possible}
 use Rattle.promises.specs.Paper.Fresh.{MadeOf}
 use Rattle.promises.specs.Paper.Reader.{ReadOf}
 use Rattle.promises.specs.Paper.Run.{Moment, momentBy, momentsBy}
 use Rattle.promises.specs.Paper.Listing.{InDecimal, Line, Stop, StepsFound, TraceFound, StopLine, EachText, Printed, Told}
 use Rattle.promises.specs.Meant.Fresh.{made-is, made-one}
 use Rattle.promises.specs.Meant.Reader.{read-is, read-one}
+use Rattle.promises.specs.Runs.Frequency.{momentAt, Alike, fresh-alike}
 
 -- ---- numbers
 
@@ -222,11 +224,11 @@ module _ (each : ℕ → Moment → List ℕ → Type 0) (end : Made → List Mo
   texts-one (EachText.more {n} {m} {a = a} {b = b} x r) (EachText.more {a = c} y t) =
       ap (λ (l : List ℕ). l ++ b) (each-one n m a c x y) ∙ ap (λ (l : List ℕ). c ++ l) (texts-one r t)
 
-  pub printed-one : {heading : List ℕ} {k : Tables → Clock → Step → Stepped} {s p q : List ℕ} → Printed heading each end k s p → Printed heading each end k s q
-      → p ≡ q
-  printed-one {heading} {k} (Printed.printed {z} {xs} {stop} {m} {a} {b} {c} t d e n l h) (Printed.printed {xs = ys} {m = o} {a = a′} {b = b′} {c = c′} t′ d′ e′ n′ l′ h′) =
+  pub printed-one : {f : ℕ} {heading : List ℕ} {k : Tables → Clock → Step → Stepped} {s p q : List ℕ} → Printed f heading each end k s p
+      → Printed f heading each end k s q → p ≡ q
+  printed-one {f} {heading} {k} (Printed.printed {z} {xs} {stop} {m} {a} {b} {c} t d e n l h) (Printed.printed {xs = ys} {m = o} {a = a′} {b = b′} {c = c′} t′ d′ e′ n′ l′ h′) =
       let same = trace-one t t′ in
-      let making : m ≡ o = made-one (subst (λ (y : Sizes). MadeOf y Standard m) (same .0) d) d′ in
+      let making : m ≡ o = made-one (subst (λ (y : Sizes). MadeOf y (Given f) m) (same .0) d) d′ in
       let run : momentsBy k (m .tables) (m .clock) xs ≡ momentsBy k (o .tables) (o .clock) ys =
       ap (λ (x : Made). momentsBy k (x .tables) (x .clock) xs) making ∙ ap (λ (zs : List Step). momentsBy k (o .tables) (o .clock) zs) (same .1 .0) in
       let lines = texts-one (subst (λ (ms : List Moment). EachText each 1 ms a) run e) e′ in
@@ -268,7 +270,7 @@ module _ (w : View) (heading : List ℕ) (each : ℕ → Moment → List ℕ →
     (each-is : (n : ℕ) (x : Seen) (s : Step)
     → each n (momentBy stepped (x .tables) (x .clock) s) (partsText (seenAfter n x s) (viewParts w .step) (viewParts w .steps)))
     (end-is : (z : Sizes) (xs : List Step)
-    → end (made z Standard) (momentsBy stepped (made z Standard .tables) (made z Standard .clock) xs)
+    → end (made z listedRate) (momentsBy stepped (made z listedRate .tables) (made z listedRate .clock) xs)
     (partsText (lastSeen 1 (freshSeen z) xs) (viewParts w .end) (viewParts w .ends)))
     (each-one : (n : ℕ) (m : Moment) (a b : List ℕ) → each n m a → each n m b → a ≡ b)
     (end-one : (m : Made) (ms : List Moment) (a b : List ℕ) → end m ms a → end m ms b → a ≡ b) where
@@ -283,14 +285,46 @@ module _ (w : View) (heading : List ℕ) (each : ℕ → Moment → List ℕ →
       (eachText (viewParts w) (n + 1) (seenAfter n x s) ss))
       (add-one n) (texts-are (n + 1) (seenAfter n x s) ss))
 
-  view-is : (s : List ℕ) → Printed heading each end stepped s (viewText w s)
-  unfolding viewText
-  view-is s =
-      let r : Reading = readAll s in
-      Printed.printed (all-found s) (made-is (r .sizes) Standard) (texts-are 1 (freshSeen (r .sizes)) (r .steps)) (end-is (r .sizes) (r .steps)) (stop-is (r .stop))
-      (ap (λ (l : List ℕ). l ++ readingText (viewParts w) r) head-is
-      ∙ ap (λ (l : List ℕ). heading ++ l) (records-split (viewParts w) 1 (freshSeen (r .sizes)) (r .steps) (r .stop)))
+  -- the run at the frequency f of what a trace holds
+  abbrev runAt : ℕ → List ℕ → List Moment
+  runAt f s = momentsBy stepped (made (readAll s .sizes) (Given f) .tables) (made (readAll s .sizes) (Given f) .clock) (readAll s .steps)
 
-  -- a view's text is what the paper tells, and nothing else is
-  pub view-told : Told heading each end stepped (viewText w)
-  view-told = record { is = view-is; only = λ s text p. printed-one each end each-one end-one p (view-is s) }
+  abbrev stepsText : List ℕ → List ℕ
+  stepsText s = eachText (viewParts w) 1 (freshSeen (readAll s .sizes)) (readAll s .steps)
+
+  abbrev endText : List ℕ → List ℕ
+  endText s = partsText (lastSeen 1 (freshSeen (readAll s .sizes)) (readAll s .steps)) (viewParts w .end) (viewParts w .ends)
+
+  -- the view's text, if that run has it, is what the paper tells, and nothing else is
+  told-at : (f : ℕ) → ((s : List ℕ) → EachText each 1 (runAt f s) (stepsText s)) → ((s : List ℕ) → end (made (readAll s .sizes) (Given f)) (runAt f s) (endText s))
+      → Told f heading each end stepped (viewText w)
+  unfolding viewText
+  told-at f texts ends = record { is = is; only = λ s text p. printed-one each end each-one end-one p (is s) }
+    where
+      is : (s : List ℕ) → Printed f heading each end stepped s (viewText w s)
+      is s =
+          let r : Reading = readAll s in
+          Printed.printed (all-found s) (made-is (r .sizes) (Given f)) (texts s) (ends s) (stop-is (r .stop))
+          (ap (λ (l : List ℕ). l ++ readingText (viewParts w) r) head-is
+          ∙ ap (λ (l : List ℕ). heading ++ l) (records-split (viewParts w) 1 (freshSeen (r .sizes)) (r .steps) (r .stop)))
+
+  given-texts : (s : List ℕ) → EachText each 1 (runAt 1000 s) (stepsText s)
+  given-texts s = texts-are 1 (freshSeen (readAll s .sizes)) (readAll s .steps)
+
+  -- at the frequency that is given
+  pub view-told : Told 1000 heading each end stepped (viewText w)
+  view-told = told-at 1000 given-texts (λ s. end-is (readAll s .sizes) (readAll s .steps))
+
+  -- at any, if nothing that stands in the view is read off the clock
+  module _ (each-blind : (n : ℕ) (m : Moment) (d : Clock) (a : List ℕ) → each n m a → each n (momentAt d m) a)
+      (end-blind : (m o : Made) (ms ns : List Moment) (a : List ℕ) → m .tables ≡ o .tables → Alike ms ns → end m ms a → end o ns a) where
+    texts-alike : {n : ℕ} {ms ns : List Moment} {a : List ℕ} → Alike ms ns → EachText each n ms a → EachText each n ns a
+    texts-alike Alike.none EachText.none = EachText.none
+    texts-alike (Alike.more {m} {d} r) (EachText.more {n} {a = a} x t) = EachText.more (each-blind n m d a x) (texts-alike r t)
+
+    pub view-any : (f : ℕ) → Possible f → Told f heading each end stepped (viewText w)
+    view-any f possible =
+        told-at f (λ s. texts-alike (same s .1) (given-texts s)) (λ s. end-blind _ _ _ _ _ (same s .0) (same s .1) (end-is (readAll s .sizes) (readAll s .steps)))
+      where
+        same : (s : List ℕ) → (made (readAll s .sizes) (Given 1000) .tables ≡ made (readAll s .sizes) (Given f) .tables) × Alike (runAt 1000 s) (runAt f s)
+        same s = fresh-alike (readAll s .sizes) 1000 f (record { low = omega arith; high = omega arith }) possible (readAll s .steps)

@@ -10,7 +10,7 @@ use lib.ListN.{getD}
 use lib.IntN.{ℤ, pos, negsuc}
 use Rattle.kernel.specs.declared.clock.Clock.{Clock}
 use Rattle.kernel.specs.declared.records.Call.{Call}
-use Rattle.kernel.specs.declared.units.Rate.the-variants.{Standard}
+use Rattle.kernel.specs.declared.units.Rate.the-variants.{Given}
 use Rattle.library.specs.declared.calls.Step.{Step}
 use Rattle.library.specs.declared.sizes.Sizes.{Sizes}
 use Rattle.library.specs.declared.fresh.Made.{Made}
@@ -75,18 +75,18 @@ pub data EachText (each : ℕ → Moment → List ℕ → Type 0) : ℕ → List
   none : {n : ℕ} → EachText each n [] []
   more : {n : ℕ} {m : Moment} {ms : List Moment} {a b : List ℕ} → each n m a → EachText each (suc n) ms b → EachText each n (m ∷ ms) (a ++ b)
 
--- a view: its heading, what stands for each step, what stands at the end, and where reading stopped. "where none is given it is 1000"
-pub data Printed (heading : List ℕ) (each : ℕ → Moment → List ℕ → Type 0) (end : Made → List Moment → List ℕ → Type 0)
+-- a view, from fresh tables at the frequency f: its heading, what stands for each step, what stands at the end, and where reading stopped
+pub data Printed (f : ℕ) (heading : List ℕ) (each : ℕ → Moment → List ℕ → Type 0) (end : Made → List Moment → List ℕ → Type 0)
     (k : Tables → Clock → Step → Stepped) (s text : List ℕ) : Type 0 where
-  printed : {z : Sizes} {xs : List Step} {stop : Stop} {m : Made} {a b c : List ℕ} → TraceFound s z xs stop → MadeOf z Standard m
+  printed : {z : Sizes} {xs : List Step} {stop : Stop} {m : Made} {a b c : List ℕ} → TraceFound s z xs stop → MadeOf z (Given f) m
       → EachText each 1 (momentsBy k (m .tables) (m .clock) xs) a → end m (momentsBy k (m .tables) (m .clock) xs) b → StopLine stop c
-      → text ≡ heading ++ (a ++ (b ++ c)) → Printed heading each end k s text
+      → text ≡ heading ++ (a ++ (b ++ c)) → Printed f heading each end k s text
 
--- such a view is what f gives of every trace, and nothing else is such a view of it
-pub record Told (heading : List ℕ) (each : ℕ → Moment → List ℕ → Type 0) (end : Made → List Moment → List ℕ → Type 0)
-    (k : Tables → Clock → Step → Stepped) (f : List ℕ → List ℕ) : Type 0 where
-  pub is : (s : List ℕ) → Printed heading each end k s (f s)
-  pub only : (s text : List ℕ) → Printed heading each end k s text → text ≡ f s
+-- such a view is what g gives of every trace, and nothing else is such a view of it
+pub record Told (f : ℕ) (heading : List ℕ) (each : ℕ → Moment → List ℕ → Type 0) (end : Made → List Moment → List ℕ → Type 0)
+    (k : Tables → Clock → Step → Stepped) (g : List ℕ → List ℕ) : Type 0 where
+  pub is : (s : List ℕ) → Printed f heading each end k s (g s)
+  pub only : (s text : List ℕ) → Printed f heading each end k s text → text ≡ g s
 
 -- ---- THE LISTING
 
@@ -103,8 +103,8 @@ StepLine n m l = Line (n ∷ m .result .code ∷ m .result .running ∷ m .resul
 abbrev pub NoEnd : Made → List Moment → List ℕ → Type 0
 NoEnd m ms l = l ≡ []
 
-abbrev pub ListingTold : (Tables → Clock → Step → Stepped) → (List ℕ → List ℕ) → Type 0
-ListingTold k f = Told listHeading StepLine NoEnd k f
+abbrev pub ListingTold : ℕ → (Tables → Clock → Step → Stepped) → (List ℕ → List ℕ) → Type 0
+ListingTold f k g = Told f listHeading StepLine NoEnd k g
 
 -- ---- ROWS OF WORDS, for the other views (docs/LISTING.md)
 
@@ -187,8 +187,8 @@ wakings m (suc i) = wakings m i ++ cond (inMask i (m .result .woken)) (wakingRow
 abbrev pub WakingLines : ℕ → Moment → List ℕ → Type 0
 WakingLines n m l = RowsText (wakings m 16) l
 
-abbrev pub WhyTold : (Tables → Clock → Step → Stepped) → (List ℕ → List ℕ) → Type 0
-WhyTold k f = Told whyHeading WakingLines NoEnd k f
+abbrev pub WhyTold : ℕ → (Tables → Clock → Step → Stepped) → (List ℕ → List ℕ) → Type 0
+WhyTold f k g = Told f whyHeading WakingLines NoEnd k g
 
 -- ---- THE ACCOUNT (docs/ACCOUNT.md), of the account that a run comes to
 
@@ -275,8 +275,8 @@ NoText n m l = l ≡ []
 abbrev pub AccountEnd : (List Moment → Account) → Made → List Moment → List ℕ → Type 0
 AccountEnd tally m ms l = RowsText (accountRows (tally ms) (tablesAfter (m .tables) ms)) l
 
-abbrev pub AccountTold : (Tables → Clock → Step → Stepped) → (List Moment → Account) → (List ℕ → List ℕ) → Type 0
-AccountTold k tally f = Told [] NoText (AccountEnd tally) k f
+abbrev pub AccountTold : ℕ → (Tables → Clock → Step → Stepped) → (List Moment → Account) → (List ℕ → List ℕ) → Type 0
+AccountTold f k tally g = Told f [] NoText (AccountEnd tally) k g
 
 -- ---- ALL TABLES, after each step's line
 
@@ -374,5 +374,5 @@ allRows n m c =
 abbrev pub WholeLines : (Tables → Clock → Step → Stepped) → ℕ → Moment → List ℕ → Type 0
 WholeLines k n m l = RowsText (allRows n m (k (m .before) (m .clock) (m .step) .clock)) l
 
-abbrev pub TablesTold : (Tables → Clock → Step → Stepped) → (List ℕ → List ℕ) → Type 0
-TablesTold k f = Told listHeading (WholeLines k) NoEnd k f
+abbrev pub TablesTold : ℕ → (Tables → Clock → Step → Stepped) → (List ℕ → List ℕ) → Type 0
+TablesTold f k g = Told f listHeading (WholeLines k) NoEnd k g

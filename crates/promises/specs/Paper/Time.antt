@@ -48,10 +48,10 @@ inSecond Seconds = 1
 inSecond Milliseconds = 1000
 inSecond Microseconds = 1000000
 
--- "where none is given it is 1000"
+-- "Where no frequency is given, take 10000 instead of 1000" (document 02)
 abbrev pub ticksInSecond : Rate → ℕ
 ticksInSecond (Given f) = f
-ticksInSecond Standard = 1000
+ticksInSecond Standard = 10000
 
 -- "Frequency is 1 to 1,000,000"
 pub record Possible (f : ℕ) : Type 0 where

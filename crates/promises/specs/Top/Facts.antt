@@ -48,13 +48,13 @@ abbrev pub linesFrom : ℕ → List Outcome → List (List ℕ)
 linesFrom n [] = []
 linesFrom n (o ∷ os) = lineOf n o ∷ linesFrom (suc n) os
 
--- what a reading's steps do to fresh tables of its sizes, "where none is given" at the standard frequency
+-- what a reading's steps do to fresh tables of its sizes
 abbrev pub ranFresh : Reading → Made → Ran
 ranFresh r m = ran (m .tables) (m .clock) (r .steps)
 
--- the lines of a trace, from its bytes; record 0 is the sizes
+-- the lines of a trace, from its bytes; record 0 is the sizes, and the listing program gives 1000 (document 02)
 abbrev pub linesOf : Reading → List (List ℕ)
-linesOf r = linesFrom 1 (ranFresh r (made (r .sizes) Standard) .outcomes)
+linesOf r = linesFrom 1 (ranFresh r (made (r .sizes) (Given 1000)) .outcomes)
 
 -- "Trace `01 0006 020100000000` and six 11-byte steps", with their length bytes
 abbrev pub sixSteps : List ℕ

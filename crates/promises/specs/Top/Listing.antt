@@ -36,15 +36,16 @@ use Rattle.text.specs.declared.views.View.the-variants.{Lines, AllTables, Wakin
 use Rattle.text.specs.Rows.{rows, wordText, rowText}
 use Rattle.text.specs.Decimal.{digitsN, decimal}
 use Rattle.text.specs.Views.{stepLine, stepRow, rowOf, rowsIn, headText, partText, partsText, freshSeen, seenAfter, recordsText, viewText}
+use Rattle.promises.specs.Paper.Time.{Possible}
 use Rattle.promises.specs.Paper.Listing.{StepLine, listHeading, ListingTold, TablesTold, WhyTold, AccountTold}
 use Rattle.promises.specs.Paper.Run.{momentBy}
 use Rattle.promises.specs.Code.Listing.{listingText, tablesText, whyText, accountText}
 use Rattle.promises.specs.Code.Steps.{tallied}
-use Rattle.promises.specs.Meant.Accounting.{account-end}
+use Rattle.promises.specs.Meant.Accounting.{account-end, account-alike}
 use Rattle.promises.specs.Meant.AllTables.{whole-lines}
 use Rattle.promises.specs.Meant.Printing.{rows-one, why-heading, waking-lines}
 use Rattle.promises.specs.Top.Facts.{sixSteps}
-use Rattle.promises.specs.Meant.Listing.{lineText, line-is, line-one, numbers-line, lastSeen, view-told}
+use Rattle.promises.specs.Meant.Listing.{lineText, line-is, line-one, numbers-line, lastSeen, view-told, view-any}
 
 heading-is : partsText (freshSeen noSizes) 20 1 ≡ listHeading
 unfolding rows rowsIn headText partText partsText
@@ -66,30 +67,31 @@ nothing-shown : (x : Seen) → partsText x 0 0 ≡ []
 unfolding rows partsText
 nothing-shown x = refl
 
--- the text of a listing is document 01's, of every trace, and no other
-pub listing-told : ListingTold stepped listingText
+-- the text of a listing is document 01's, of every trace, and no other; it is the same text at whatever frequency
+pub listing-told : (f : ℕ) → Possible f → ListingTold f stepped listingText
 listing-told =
-    view-told Lines _ _ _ heading-is step-line-is (λ z xs. nothing-shown (lastSeen 1 (freshSeen z) xs)) (λ n m a b p q. line-one p ∙ sym (line-one q))
-    (λ m ms a b p q. p ∙ sym q)
+    view-any Lines _ _ _ heading-is step-line-is (λ z xs. nothing-shown (lastSeen 1 (freshSeen z) xs)) (λ n m a b p q. line-one p ∙ sym (line-one q))
+    (λ m ms a b p q. p ∙ sym q) (λ n m d a p. p) (λ m o ms ns a e r p. p)
 
--- with all tables: behind each step's line its answer and all tables, in the order and with the fields of docs/LISTING.md; and no other text
-pub tables-told : TablesTold stepped tablesText
+-- with all tables, where the program gives the frequency 1000: behind each step's line its answer and all tables, in the order and with the
+-- fields of docs/LISTING.md; and no other text
+pub tables-told : TablesTold 1000 stepped tablesText
 tables-told =
     view-told AllTables _ _ _ heading-is whole-lines (λ z xs. nothing-shown (lastSeen 1 (freshSeen z) xs)) (λ n m a b p q. rows-one p ∙ sym (rows-one q))
     (λ m ms a b p q. p ∙ sym q)
 
 -- why threads woke: a row for each thread that a step has woken, by step and thread, of every trace, and no other text
-pub wakings-told : WhyTold stepped whyText
+pub wakings-told : (f : ℕ) → Possible f → WhyTold f stepped whyText
 wakings-told =
-    view-told Wakings _ _ _ why-heading waking-lines (λ z xs. nothing-shown (lastSeen 1 (freshSeen z) xs)) (λ n m a b p q. rows-one p ∙ sym (rows-one q))
-    (λ m ms a b p q. p ∙ sym q)
+    view-any Wakings _ _ _ why-heading waking-lines (λ z xs. nothing-shown (lastSeen 1 (freshSeen z) xs)) (λ n m a b p q. rows-one p ∙ sym (rows-one q))
+    (λ m ms a b p q. p ∙ sym q) (λ n m d a p. p) (λ m o ms ns a e r p. p)
 
 -- the account: three headings, and after each its rows, of the account that the run comes to and of the tables behind it; and no other text.
 -- That this account is the history's is `account-printed-fresh`
-pub account-told : AccountTold stepped (λ ms. tallied 1 freshAccount ms) accountText
+pub account-told : (f : ℕ) → Possible f → AccountTold f stepped (λ ms. tallied 1 freshAccount ms) accountText
 account-told =
-    view-told Sums _ _ _ (nothing-shown (freshSeen noSizes)) (λ n x s. nothing-shown (seenAfter n x s)) account-end (λ n m a b p q. p ∙ sym q)
-    (λ m ms a b p q. rows-one p ∙ sym (rows-one q))
+    view-any Sums _ _ _ (nothing-shown (freshSeen noSizes)) (λ n x s. nothing-shown (seenAfter n x s)) account-end (λ n m a b p q. p ∙ sym q)
+    (λ m ms a b p q. rows-one p ∙ sym (rows-one q)) (λ n m d a p. p) account-alike
 
 -- ---- the example
 

@@ -6,7 +6,7 @@ use mathlib.Core.List.{List, [], _∷_, _++_}
 use lib.IntN.{pos, negsuc}
 use Rattle.kernel.specs.declared.records.Answer.{Answer}
 use Rattle.kernel.specs.declared.records.Thread.{Thread}
-use Rattle.kernel.specs.declared.units.Rate.the-variants.{Standard}
+use Rattle.kernel.specs.declared.units.Rate.the-variants.{Given, Standard}
 use Rattle.kernel.specs.Walk.{firstFrom, allFrom, countOf}
 use Rattle.kernel.specs.Words.{wordOf, onesOf, firstOf}
 use Rattle.kernel.specs.Moves.{takenOff, putOn, woken, slept, finished, blocked}
@@ -40,10 +40,12 @@ use Rattle.promises.specs.Paper.Waking.{rowOf}
 use Rattle.promises.specs.Paper.Run.{WokenIn, WakingOf, TurnAt}
 use Rattle.promises.specs.Paper.EachThread.{EachThread, Throughout}
 use Rattle.promises.specs.Paper.Fresh.{Legal}
+use Rattle.promises.specs.Paper.Frequency.{ranAt}
 use Rattle.promises.specs.Meant.Fresh.{code-legal}
 use Rattle.promises.specs.Code.Steps.{moments, freshRan}
 use Rattle.promises.specs.Top.ShownSteps.{by, typed}
 use Rattle.promises.specs.Top.Demands.{demand-3a, demand-3a-begun, demand-3b, demand-3c, demand-3c-pools}
+use Rattle.promises.specs.Top.Frequency.{any-frequency-fresh}
 
 -- two threads, one semaphore, one pool
 abbrev two : Sizes
@@ -130,6 +132,12 @@ unfolding firstFrom allFrom countOf wordOf firstOf firstReady firstWaiter takenO
 demand-3c-pools-shown =
     demand-3c-pools two Standard made-shown (alone allocs) (one 0 20 0 4294967295 (omega arith)) (alone (by 255 22 5 0))
     (one 255 22 5 0 (omega arith)) 0 (omega arith) 0 (omega arith) refl refl refl (omega arith)
+
+-- ---- the frequency of document 02: where none is given a wait ends at the tick at which it ends where 1000 is
+
+pub frequency-shown : freshRan two Standard (waits 0 1 ∷ tick ∷ []) ≡ ranAt 10000 (freshRan two (Given 1000) (waits 0 1 ∷ tick ∷ []))
+unfolding allFrom sizesFit made
+frequency-shown = any-frequency-fresh two (Given 1000) Standard (code-legal two (Given 1000) refl) made-shown (waits 0 1 ∷ tick ∷ [])
 
 -- ---- the words of document 02, in runs: fresh; thread 0 waits; both wait, and idle runs; a signal wakes thread 0. Each row has the ready word,
 -- the word of semaphore 0, how many are ready, who is first

@@ -72,16 +72,17 @@ ticksRow r = r .code ∷ r .interval .0 ∷ []
 abbrev unitsRow : Units → List ℕ
 unitsRow r = r .code ∷ r .value ∷ []
 
--- to ticks: frequencies 0 and 1,000,001, where none is given, the longest result, and one above it
+-- to ticks: frequencies 0 and 1,000,001, where none is given, and where 1000 is, the longest result, and one above it
 pub ticks-shown : ticksRow (inTicks Seconds 1 (Given 0))
     ∷ ticksRow (inTicks Seconds 1 (Given 1000001))
     ∷ ticksRow (inTicks Seconds 2 Standard)
+    ∷ ticksRow (inTicks Seconds 2 (Given 1000))
     ∷ ticksRow (inTicks Seconds 4294967294 (Given 1))
     ∷ ticksRow (inTicks Seconds 4294967295 (Given 1))
     ∷ ticksRow (inTicks Milliseconds 1 (Given 3))
     ∷ ticksRow (inTicks Microseconds 1000001 (Given 1))
     ∷ []
-    ≡ (6 ∷ 0 ∷ []) ∷ (6 ∷ 0 ∷ []) ∷ (0 ∷ 2000 ∷ []) ∷ (0 ∷ 4294967294 ∷ []) ∷ (6 ∷ 0 ∷ []) ∷ (0 ∷ 1 ∷ []) ∷ (0 ∷ 2 ∷ []) ∷ []
+    ≡ (6 ∷ 0 ∷ []) ∷ (6 ∷ 0 ∷ []) ∷ (0 ∷ 20000 ∷ []) ∷ (0 ∷ 2000 ∷ []) ∷ (0 ∷ 4294967294 ∷ []) ∷ (6 ∷ 0 ∷ []) ∷ (0 ∷ 1 ∷ []) ∷ (0 ∷ 2 ∷ []) ∷ []
 unfolding inTicks
 ticks-shown = refl
 
@@ -89,10 +90,11 @@ ticks-shown = refl
 pub units-shown : unitsRow (ofTicks Seconds (for 1) (Given 0))
     ∷ unitsRow (ofTicks Seconds (for 1) (Given 1000001))
     ∷ unitsRow (ofTicks Seconds (for 4294967295) Standard)
-    ∷ unitsRow (ofTicks Seconds (for 1001) Standard)
+    ∷ unitsRow (ofTicks Seconds (for 10001) Standard)
+    ∷ unitsRow (ofTicks Seconds (for 10001) (Given 1000))
     ∷ unitsRow (ofTicks Microseconds (for 4294967294) (Given 1))
     ∷ []
-    ≡ (6 ∷ 0 ∷ []) ∷ (6 ∷ 0 ∷ []) ∷ (6 ∷ 0 ∷ []) ∷ (0 ∷ 2 ∷ []) ∷ (0 ∷ 4294967294000000 ∷ []) ∷ []
+    ≡ (6 ∷ 0 ∷ []) ∷ (6 ∷ 0 ∷ []) ∷ (6 ∷ 0 ∷ []) ∷ (0 ∷ 2 ∷ []) ∷ (0 ∷ 11 ∷ []) ∷ (0 ∷ 4294967294000000 ∷ []) ∷ []
 unfolding ofTicks
 units-shown = refl
 
@@ -122,6 +124,12 @@ pub made-codes-shown : made many (Given 0) .code ∷ made two (Given 0) .code �
     ≡ 14 ∷ 6 ∷ 6 ∷ 0 ∷ []
 unfolding allFrom sizesFit made
 made-codes-shown = refl
+
+-- the clock's frequency: where none is given, and as given
+pub made-frequencies-shown : made two Standard .clock .frequency ∷ made two (Given 1000) .clock .frequency ∷ made two (Given 1000000) .clock .frequency ∷ []
+    ≡ 10000 ∷ 1000 ∷ 1000000 ∷ []
+unfolding allFrom sizesFit made
+made-frequencies-shown = refl
 
 -- ---- reading
 
