@@ -2,42 +2,8 @@
 // with the rule, `data/` as traces, under their titles.
 // A line for each step: its number, code, running thread, woken mask, finished mask, message and datum.
 // `stdout` holds what the papers' words give.
-use libc::STDOUT_FILENO;
-use text::printing::print_trace;
+use text::files::show_all;
 use text::views::View;
-
-// A scene under its title, which is the file's name without its ending, `.trace`. A file that is not there shows as a line on standard error.
-fn show(path: &[u8]) {
-    if 6 <= path.len() {
-        let n = path.len() - 6;
-        io::write_all(STDOUT_FILENO, &path[..n]);
-        io::write_all(STDOUT_FILENO, b"\n");
-    }
-    let fd = os::open_read(path);
-    if fd < 0 {
-        os::fail(path);
-        return;
-    }
-    let mut bytes = io::large_buffer();
-    let n = io::read_full(fd, &mut bytes);
-    print_trace(&bytes[..n], View::Answers);
-    libc::close(fd);
-}
-
-// Each of some files, whose names have a line end after them.
-fn show_all(names: &[u8]) {
-    let mut from: usize = 0;
-    let mut i: usize = 0;
-    while i < names.len() {
-        if names[i] == b'\n' {
-            if from <= i {
-                show(&names[from..i]);
-            }
-            from = i + 1;
-        }
-        i += 1;
-    }
-}
 
 fn main() {
     show_all(
@@ -59,5 +25,6 @@ fn main() {
         post ahead and order.trace\n\
         binary signal.trace\n\
         signal at the top.trace\n",
+        View::Answers,
     );
 }

@@ -2,8 +2,8 @@
 use borrow.Author.Needs.{needs}
 use native.Mathlib.Omega.{arith}
 use Rattle.io.proofs.Counting.{front}
-use Rattle.scenes.proofs.show.Statement.{statement}
-use Rattle.scenes.proofs.show.Tie as tie
+use Rattle.text.proofs.files.show.Statement.{statement}
+use Rattle.text.proofs.files.show.Tie as tie
 
 pub show-spec : {M : Type 1} → statement M
 show-spec =

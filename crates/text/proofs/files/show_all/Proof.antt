@@ -2,8 +2,8 @@
 use Prim.Native.Nat.{_≤_, _-_}
 use native.Mathlib.Omega.{arith}
 use lib.ListN.{length}
-use Rattle.recorded.proofs.show_all.Statement.{statement}
-use Rattle.recorded.proofs.show_all.Tie as tie
+use Rattle.text.proofs.files.show_all.Statement.{statement}
+use Rattle.text.proofs.files.show_all.Tie as tie
 
 abbrev Inv-loop : tie.InvT-loop
 Inv-loop names view from₀ i₀ from i = i ≤ length names
@@ -26,4 +26,4 @@ show-all-spec =
     (λ c. omega arith)
     (λ c. omega arith)
     (λ c. omega arith)
-    (λ c. tt))
+    (λ c. omega arith))
