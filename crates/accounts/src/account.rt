@@ -1,6 +1,6 @@
 // An account, and what one finished call changes in it. Sums wrap; an object that is not there changes nothing.
 ghost use Rattle.std.specs.Prelude.{◌≡◌};
-ghost use Rattle.accounts.specs.Account.{freshAccount, isPost, objectPlace, raisedIf, setIf, entered};
+ghost use Rattle.accounts.specs.Account.{fresh_account, is_post, object_place, raised_if, set_if, entered};
 
 use kernel::kinds::{ADD, KEPT_ALLOC, KEPT_FETCH, KEPT_POST, KEPT_POST_AHEAD, MAILBOX_RESET};
 use library::logic::either;
@@ -29,7 +29,7 @@ pub struct Entry {
 
 // Nothing has happened yet.
 pub fn fresh_account() -> Account
-    ensures { result ≡ freshAccount }
+    ensures { result ≡ fresh_account }
 {
     let none = [0; 4];
     let takers = [0; 128];
@@ -45,14 +45,14 @@ pub fn fresh_account() -> Account
 }
 
 fn is_post(kind: u16) -> bool
-    ensures { result ≡ isPost kind }
+    ensures { result ≡ is_post kind }
 {
     either(kind == KEPT_POST, kind == KEPT_POST_AHEAD)
 }
 
 // Where an object of a pool stands; past the table for none.
 fn object_place(pool: u16, object: u32) -> u32
-    ensures { result ≡ objectPlace pool object }
+    ensures { result ≡ object_place pool object }
 {
     if object < 32 {
         pool as u32 * 32 + object
@@ -63,7 +63,7 @@ fn object_place(pool: u16, object: u32) -> u32
 
 // The sums, with n more at i where `so`.
 fn raise_if(so: bool, sums: [u32; 4], i: u16, n: u32) -> [u32; 4]
-    ensures { result ≡ raisedIf so sums i n }
+    ensures { result ≡ raised_if so sums i n }
 {
     let at = i as usize;
     let mut r = sums;
@@ -76,7 +76,7 @@ fn raise_if(so: bool, sums: [u32; 4], i: u16, n: u32) -> [u32; 4]
 }
 
 fn set_taker_if(so: bool, takers: [u16; 128], place: u32, who: u16) -> [u16; 128]
-    ensures { result ≡ setIf so takers place who }
+    ensures { result ≡ set_if so takers place who }
 {
     let at = place as usize;
     let mut r = takers;
@@ -89,7 +89,7 @@ fn set_taker_if(so: bool, takers: [u16; 128], place: u32, who: u16) -> [u16; 128
 }
 
 fn set_step_if(so: bool, steps: [u32; 128], place: u32, number: u32) -> [u32; 128]
-    ensures { result ≡ setIf so steps place number }
+    ensures { result ≡ set_if so steps place number }
 {
     let at = place as usize;
     let mut r = steps;

@@ -1,7 +1,7 @@
 // What a step enters into an account: an interrupt's own call, then the threads' calls that finished, in index order.
 // A call that finished is read from the step, its result and the tables before and after it.
 ghost use Rattle.std.specs.Prelude.{◌≡◌};
-ghost use Rattle.accounts.specs.Accounting.{value_of, kind_of, entry_of, ownCall, call_by, enteredIf, answer_in, interruptEntered, threadsEntered, accountedStep};
+ghost use Rattle.accounts.specs.Accounting.{value_of, kind_of, entry_of, own_call, call_by, entered_if, answer_in, interrupt_entered, threads_entered, accounted_step};
 
 use crate::account::{Account, Entry, enter};
 use kernel::kinds::{KEPT_ALLOC, KEPT_FETCH, KEPT_NONE, MAILBOX_RESET};
@@ -62,7 +62,7 @@ fn entry_of(mailboxes: [Mailbox; 4], who: u8, call: Call, answer: Answer) -> Ent
 
 // The step's own call.
 fn own_call(s: Step) -> Call
-    ensures { result ≡ ownCall s }
+    ensures { result ≡ own_call s }
 {
     Call {
         kind: s.kind as u16,
@@ -80,7 +80,7 @@ pub fn call_by(s: Step, i: u8, kept: Call) -> Call
 }
 
 fn enter_if(so: bool, a: Account, number: u32, e: Entry) -> Account
-    ensures { result ≡ enteredIf so a number e }
+    ensures { result ≡ entered_if so a number e }
 {
     if so { enter(a, number, e) } else { a }
 }
@@ -97,7 +97,7 @@ fn answer_in(o: Report) -> Answer
 
 // An interrupt's own call, with the answer in the step's result.
 fn enter_interrupt(a: Account, number: u32, mailboxes: [Mailbox; 4], s: Step, o: Report) -> Account
-    ensures { result ≡ interruptEntered a number mailboxes s o }
+    ensures { result ≡ interrupt_entered a number mailboxes s o }
 {
     let e = entry_of(mailboxes, NOBODY, own_call(s), answer_in(o));
     enter_if(s.caller == NOBODY, a, number, e)
@@ -113,7 +113,7 @@ fn enter_threads(
     finished: u16,
     new: [Thread; 16],
 ) -> Account
-    ensures { result ≡ threadsEntered a number mailboxes old s finished new }
+    ensures { result ≡ threads_entered a number mailboxes old s finished new }
 {
     let mut r = a;
     let mut i: u8 = 0;
@@ -138,7 +138,7 @@ pub fn account_step(
     o: Report,
     new: Tables,
 ) -> Account
-    ensures { result ≡ accountedStep a number old s o new }
+    ensures { result ≡ accounted_step a number old s o new }
 {
     if o.code != 0 {
         return a;

@@ -4,31 +4,31 @@ use mathlib.Core.Bool.{true, not, ◌&&◌}
 use lib.Dec.{T as Holds, eqb}
 use borrow.Author.Tests.{eqb-false}
 use Rattle.kernel.specs.declared.clock.Clock.{Clock}
-use Rattle.kernel.specs.Clock.{tickedClock}
+use Rattle.kernel.specs.Clock.{ticked_clock}
 use Rattle.kernel.proofs.Cases.{both-means}
 use Rattle.library.specs.declared.tables.Tables.{Tables}
-use Rattle.steps.specs.Stepping.{doneWith, stepped}
+use Rattle.steps.specs.Stepping.{done_with, stepped}
 use Rattle.steps.proofs.StepLaws.{Untouched, step-code, step-refused}
 use Rattle.host.specs.declared.request.Request.{Request}
 use Rattle.host.specs.declared.request.Answered.{Answered}
 use Rattle.host.proofs.Told.{told, told-not}
-use Rattle.host.specs.Request.{step_of, result_of, stepAnswered}
+use Rattle.host.specs.Request.{step_of, result_of, step_answered}
 
-module _ (t : Tables) (c : Clock) (q : Request) (r : Answered) (e : r ≡ stepAnswered t c q) where
+module _ (t : Tables) (c : Clock) (q : Request) (r : Answered) (e : r ≡ step_answered t c q) where
   accepted-is : r.accepted ≡ eqb (stepped t c (step_of q)).outcome.code 0
-  unfolding stepAnswered
+  unfolding step_answered
   accepted-is = ap (λ (z : Answered). z.accepted) e
 
   ticks-is : r.ticks ≡ eqb (stepped t c (step_of q)).outcome.code 0 && eqb q.kind 1
-  unfolding stepAnswered
+  unfolding step_answered
   ticks-is = ap (λ (z : Answered). z.ticks) e
 
   pub tables-is : r.tables ≡ (stepped t c (step_of q)).tables
-  unfolding stepAnswered
+  unfolding step_answered
   tables-is = ap (λ (z : Answered). z.tables) e
 
   pub result-is : r.result ≡ result_of (stepped t c (step_of q)).outcome
-  unfolding stepAnswered
+  unfolding step_answered
   result-is = ap (λ (z : Answered). z.result) e
 
   -- a refused step leaves both as they were
@@ -42,15 +42,15 @@ module _ (t : Tables) (c : Clock) (q : Request) (r : Answered) (e : r ≡ stepAn
   kept-clock n = sym (untouched n).clock
 
   -- an accepted tick advances the clock
-  pub ticked-clock : (w : Clock) → Holds r.ticks → w ≡ tickedClock c → w ≡ (stepped t c (step_of q)).clock
-  unfolding stepped doneWith
+  pub ticked-clock : (w : Clock) → Holds r.ticks → w ≡ ticked_clock c → w ≡ (stepped t c (step_of q)).clock
+  unfolding stepped done_with
   ticked-clock w y e' =
       let both = both-means (eqb (stepped t c (step_of q)).outcome.code 0) (eqb q.kind 1) (sym ticks-is ∙ told r.ticks y) in
       rw (rw (step-code t c (step_of q)) at both.0, both.1) e'
 
   -- any other accepted step leaves it
   pub other-clock : Holds r.accepted → Holds (not r.ticks) → c ≡ (stepped t c (step_of q)).clock
-  unfolding stepped doneWith
+  unfolding stepped done_with
   other-clock y n =
       let code : eqb (stepped t c (step_of q)).outcome.code 0 ≡ true = sym accepted-is ∙ told r.accepted y in
       let fails = sym ticks-is ∙ told-not r.ticks n in

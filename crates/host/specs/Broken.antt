@@ -6,5 +6,5 @@ use Rattle.library.specs.Tables.{opened}
 use Rattle.rules.specs.Finding.{broken}
 
 -- 256 times the rule, plus the row
-abbrev pub brokenNumber : Tables → Clock → ℕ
-brokenNumber t clock = (broken (opened t) clock).rule * 256 + (broken (opened t) clock).row
+abbrev pub broken_number : Tables → Clock → ℕ
+broken_number t clock = (broken (opened t) clock).rule * 256 + (broken (opened t) clock).row

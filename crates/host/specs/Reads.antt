@@ -3,41 +3,41 @@ use Rattle.std.specs.Prelude.{ℕ, List}
 use Rattle.library.specs.declared.calls.Step.{Step}
 use Rattle.trace.specs.declared.decoding.Found.{Found}
 use Rattle.trace.specs.declared.decoding.Found.TheVariants.{Opened, Stepped, Ended, Refused}
-use Rattle.trace.specs.Decoding.{foundCode, number_at, nextRead}
+use Rattle.trace.specs.Decoding.{found_code, number_at, next_read}
 use Rattle.host.specs.declared.request.Request.{Request}
 use Rattle.host.specs.declared.reads.ReadResult.{ReadResult}
 
 -- no step
-abbrev pub noRequest : Request
-noRequest = record { kind = 0; caller = 0; object = 0; unused = 0; a = 0; timeout = 0 }
+abbrev pub no_request : Request
+no_request = record { kind = 0; caller = 0; object = 0; unused = 0; a = 0; timeout = 0 }
 
 -- a step's five fields
-abbrev pub requestOf : Step → Request
-requestOf s =
+abbrev pub request_of : Step → Request
+request_of s =
     record { kind = s.kind; caller = s.caller; object = s.object; unused = 0; a = s.a; timeout = s.timeout }
 
 -- "A refused read gives .. no step"
-abbrev pub requestIn : Found → Request
-requestIn Opened = noRequest
-requestIn (Stepped s) = requestOf s
-requestIn Ended = noRequest
-requestIn (Refused code number) = noRequest
+abbrev pub request_in : Found → Request
+request_in Opened = no_request
+request_in (Stepped s) = request_of s
+request_in Ended = no_request
+request_in (Refused code number) = no_request
 
 -- 1 for sizes, 2 for a step, 0 for neither
-abbrev pub foundNumber : Found → ℕ
-foundNumber Opened = 1
-foundNumber (Stepped s) = 2
-foundNumber Ended = 0
-foundNumber (Refused code number) = 0
+abbrev pub found_number : Found → ℕ
+found_number Opened = 1
+found_number (Stepped s) = 2
+found_number Ended = 0
+found_number (Refused code number) = 0
 
 -- "the number, the record's number and no step, and moves no reader", or what stands at the place
-abbrev pub readAt : List ℕ → ℕ → ReadResult
-readAt s at =
+abbrev pub read_at : List ℕ → ℕ → ReadResult
+read_at s at =
     record {
-      next = (nextRead s at).next;
+      next = (next_read s at).next;
       number = number_at at;
-      step = requestIn (nextRead s at).found;
-      sizes = (nextRead s at).sizes;
-      found = foundNumber (nextRead s at).found;
-      code = foundCode (nextRead s at).found;
+      step = request_in (next_read s at).found;
+      sizes = (next_read s at).sizes;
+      found = found_number (next_read s at).found;
+      code = found_code (next_read s at).found;
     }

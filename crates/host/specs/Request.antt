@@ -26,8 +26,8 @@ result_of o =
     }
 
 -- what a step leaves of the tables, its result, whether it was accepted, and whether it was a tick's
-unfoldable pub stepAnswered : Tables → Clock → Request → Answered
-stepAnswered t c q =
+unfoldable pub step_answered : Tables → Clock → Request → Answered
+step_answered t c q =
     record {
       tables = (stepped t c (step_of q)).tables;
       result = result_of (stepped t c (step_of q)).outcome;

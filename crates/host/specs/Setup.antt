@@ -9,23 +9,23 @@ use Rattle.library.specs.Fresh.{made}
 use Rattle.host.specs.declared.setup.Prepared.{Prepared}
 
 -- "Fresh .. frequency as given"
-abbrev pub madeFor : Sizes → ℕ → Made
-madeFor z f = made z (Given f)
+abbrev pub made_for : Sizes → ℕ → Made
+made_for z f = made z (Given f)
 
 -- what is made, and whether it was
 abbrev pub prepared : Sizes → ℕ → Prepared
 prepared z f =
     record {
-      tables = (madeFor z f).tables;
-      clock = (madeFor z f).clock;
-      accepted = eqb (madeFor z f).code 0;
-      code = (madeFor z f).code;
+      tables = (made_for z f).tables;
+      clock = (made_for z f).clock;
+      accepted = eqb (made_for z f).code 0;
+      code = (made_for z f).code;
     }
 
 -- the tables that stand there in the end: at a refusal those that stood there
-abbrev pub tablesSet : Sizes → ℕ → Tables → Tables
-tablesSet z f t = cond (eqb (madeFor z f).code 0) (madeFor z f).tables t
+abbrev pub tables_set : Sizes → ℕ → Tables → Tables
+tables_set z f t = cond (eqb (made_for z f).code 0) (made_for z f).tables t
 
 -- and the clock
-abbrev pub clockSet : Sizes → ℕ → Clock → Clock
-clockSet z f c = cond (eqb (madeFor z f).code 0) (madeFor z f).clock c
+abbrev pub clock_set : Sizes → ℕ → Clock → Clock
+clock_set z f c = cond (eqb (made_for z f).code 0) (made_for z f).clock c

@@ -1,6 +1,6 @@
 // Which rule of "tables that hang together" the tables of a host break first. docs/RULES.md has the rules by their numbers.
 ghost use Rattle.std.specs.Prelude.{◌≡◌};
-ghost use Rattle.host.specs.Broken.{brokenNumber};
+ghost use Rattle.host.specs.Broken.{broken_number};
 
 use kernel::clock::Clock;
 use library::tables::Tables;
@@ -8,7 +8,7 @@ use rules::finding::find_broken;
 
 // The rule's number and the row, as one number: 256 times the rule, plus the row. 0 where no rule is broken.
 fn number_broken(tables: Tables, clock: Clock) -> u32
-    ensures { result ≡ brokenNumber tables clock }
+    ensures { result ≡ broken_number tables clock }
 {
     let found = find_broken(tables, clock);
     found.rule as u32 * 256 + found.row as u32
@@ -17,7 +17,7 @@ fn number_broken(tables: Tables, clock: Clock) -> u32
 // Says which rule is broken first, and in which row.
 #[unsafe(no_mangle)]
 pub extern "C" fn nil_broken(tables: &Tables, clock: &Clock) -> u32
-    ensures { result ≡ brokenNumber tables.now clock.now }
+    ensures { result ≡ broken_number tables.now clock.now }
 {
     let t = *tables;
     let c = *clock;

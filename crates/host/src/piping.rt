@@ -1,7 +1,7 @@
 // Byte pipes for a host: it keeps the table of pipes, and lends each call the pipe's buffer.
 ghost use Rattle.std.specs.Prelude.{◌≡◌, length};
-ghost use Rattle.pipes.specs.Opening.{pipesFresh, pipeReset, pipeResumed};
-ghost use Rattle.pipes.specs.Transfer.{writeAnswer, bufferWritten, readAnswer, targetRead};
+ghost use Rattle.pipes.specs.Opening.{pipes_fresh, pipe_reset, pipe_resumed};
+ghost use Rattle.pipes.specs.Transfer.{write_answer, buffer_written, read_answer, target_read};
 ghost use Rattle.host.specs.Piping.{answered};
 
 use pipes::opening::{Opened, make_pipes, reset_pipe, resume_pipe};
@@ -10,9 +10,9 @@ use pipes::transfer::{read_pipe, write_pipe};
 
 // A write with the table by value; the rest is lent on, and the number moved is stored.
 fn put_bytes(t: Pipes, pipe: u32, buffer: &mut [u8], offered: &[u8], moved: &mut i32) -> Opened
-    ensures { (result ≡ answered (writeAnswer t pipe (length buffer.old) (length offered.now)))
-        × (buffer.new ≡ bufferWritten t pipe buffer.old offered.now)
-        × (moved.new ≡ (writeAnswer t pipe (length buffer.old) (length offered.now)).moved) }
+    ensures { (result ≡ answered (write_answer t pipe (length buffer.old) (length offered.now)))
+        × (buffer.new ≡ buffer_written t pipe buffer.old offered.now)
+        × (moved.new ≡ (write_answer t pipe (length buffer.old) (length offered.now)).moved) }
 {
     let written = write_pipe(t, pipe, buffer, offered);
     let filled = written.pipes;
@@ -26,9 +26,9 @@ fn put_bytes(t: Pipes, pipe: u32, buffer: &mut [u8], offered: &[u8], moved: &mut
 
 // A read likewise. The slice that is written to stands before the other in both, so that one walk serves both.
 fn get_bytes(t: Pipes, pipe: u32, target: &mut [u8], buffer: &[u8], moved: &mut i32) -> Opened
-    ensures { (result ≡ answered (readAnswer t pipe (length buffer.now) (length target.old)))
-        × (target.new ≡ targetRead t pipe buffer.now target.old)
-        × (moved.new ≡ (readAnswer t pipe (length buffer.now) (length target.old)).moved) }
+    ensures { (result ≡ answered (read_answer t pipe (length buffer.now) (length target.old)))
+        × (target.new ≡ target_read t pipe buffer.now target.old)
+        × (moved.new ≡ (read_answer t pipe (length buffer.now) (length target.old)).moved) }
 {
     let read = read_pipe(t, pipe, buffer, target);
     let drained = read.pipes;
@@ -43,8 +43,8 @@ fn get_bytes(t: Pipes, pipe: u32, target: &mut [u8], buffer: &[u8], moved: &mut 
 // Sets so many empty pipes up, with code 0; or refuses with 14, and nothing changes.
 #[unsafe(no_mangle)]
 pub extern "C" fn nil_pipe_fresh(pipes: &mut Pipes, number: u32) -> u8
-    ensures { (result ≡ (pipesFresh pipes.old number).code)
-        × (pipes.new ≡ (pipesFresh pipes.old number).pipes) }
+    ensures { (result ≡ (pipes_fresh pipes.old number).code)
+        × (pipes.new ≡ (pipes_fresh pipes.old number).pipes) }
 {
     let t = *pipes;
     let done = make_pipes(t, number);
@@ -55,8 +55,8 @@ pub extern "C" fn nil_pipe_fresh(pipes: &mut Pipes, number: u32) -> u8
 // Empties a pipe and sets its reset state, with code 0; or refuses with 5 or 6, and nothing changes.
 #[unsafe(no_mangle)]
 pub extern "C" fn nil_pipe_reset(pipes: &mut Pipes, pipe: u32, length: usize) -> u8
-    ensures { (result ≡ (pipeReset pipes.old pipe length).code)
-        × (pipes.new ≡ (pipeReset pipes.old pipe length).pipes) }
+    ensures { (result ≡ (pipe_reset pipes.old pipe length).code)
+        × (pipes.new ≡ (pipe_reset pipes.old pipe length).pipes) }
 {
     let t = *pipes;
     let done = reset_pipe(t, pipe, length);
@@ -67,8 +67,8 @@ pub extern "C" fn nil_pipe_reset(pipes: &mut Pipes, pipe: u32, length: usize) ->
 // Ends a pipe's reset state, with code 0; or refuses with 5 or 6, and nothing changes.
 #[unsafe(no_mangle)]
 pub extern "C" fn nil_pipe_resume(pipes: &mut Pipes, pipe: u32, length: usize) -> u8
-    ensures { (result ≡ (pipeResumed pipes.old pipe length).code)
-        × (pipes.new ≡ (pipeResumed pipes.old pipe length).pipes) }
+    ensures { (result ≡ (pipe_resumed pipes.old pipe length).code)
+        × (pipes.new ≡ (pipe_resumed pipes.old pipe length).pipes) }
 {
     let t = *pipes;
     let done = resume_pipe(t, pipe, length);
@@ -86,10 +86,10 @@ pub extern "C" fn nil_pipe_write(
     offered: &[u8],
     moved: &mut i32,
 ) -> u8
-    ensures { (result ≡ (writeAnswer pipes.old pipe (length buffer.old) (length offered.now)).code)
-        × (pipes.new ≡ (writeAnswer pipes.old pipe (length buffer.old) (length offered.now)).pipes)
-        × (buffer.new ≡ bufferWritten pipes.old pipe buffer.old offered.now)
-        × (moved.new ≡ (writeAnswer pipes.old pipe (length buffer.old) (length offered.now)).moved) }
+    ensures { (result ≡ (write_answer pipes.old pipe (length buffer.old) (length offered.now)).code)
+        × (pipes.new ≡ (write_answer pipes.old pipe (length buffer.old) (length offered.now)).pipes)
+        × (buffer.new ≡ buffer_written pipes.old pipe buffer.old offered.now)
+        × (moved.new ≡ (write_answer pipes.old pipe (length buffer.old) (length offered.now)).moved) }
 {
     let t = *pipes;
     let done = put_bytes(t, pipe, buffer, offered, moved);
@@ -107,10 +107,10 @@ pub extern "C" fn nil_pipe_read(
     target: &mut [u8],
     moved: &mut i32,
 ) -> u8
-    ensures { (result ≡ (readAnswer pipes.old pipe (length buffer.now) (length target.old)).code)
-        × (pipes.new ≡ (readAnswer pipes.old pipe (length buffer.now) (length target.old)).pipes)
-        × (target.new ≡ targetRead pipes.old pipe buffer.now target.old)
-        × (moved.new ≡ (readAnswer pipes.old pipe (length buffer.now) (length target.old)).moved) }
+    ensures { (result ≡ (read_answer pipes.old pipe (length buffer.now) (length target.old)).code)
+        × (pipes.new ≡ (read_answer pipes.old pipe (length buffer.now) (length target.old)).pipes)
+        × (target.new ≡ target_read pipes.old pipe buffer.now target.old)
+        × (moved.new ≡ (read_answer pipes.old pipe (length buffer.now) (length target.old)).moved) }
 {
     let t = *pipes;
     let done = get_bytes(t, pipe, target, buffer, moved);

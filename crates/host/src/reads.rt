@@ -1,7 +1,7 @@
 // The trace reader for a host: the trace is lent, and the place in it is the host's number.
 ghost use Rattle.std.specs.Prelude.{◌≡◌};
-ghost use Rattle.trace.specs.Decoding.{foundCode};
-ghost use Rattle.host.specs.Reads.{noRequest, requestOf, requestIn, foundNumber, readAt};
+ghost use Rattle.trace.specs.Decoding.{found_code};
+ghost use Rattle.host.specs.Reads.{no_request, request_of, request_in, found_number, read_at};
 
 use crate::request::Request;
 use library::calls::Step;
@@ -30,7 +30,7 @@ pub struct ReadResult {
 }
 
 fn no_request() -> Request
-    ensures { result ≡ noRequest }
+    ensures { result ≡ no_request }
 {
     Request {
         kind: 0,
@@ -44,7 +44,7 @@ fn no_request() -> Request
 
 // A step in the form in which a host has one.
 fn request_of(s: Step) -> Request
-    ensures { result ≡ requestOf s }
+    ensures { result ≡ request_of s }
 {
     Request {
         kind: s.kind,
@@ -57,7 +57,7 @@ fn request_of(s: Step) -> Request
 }
 
 fn request_in(found: Found) -> Request
-    ensures { result ≡ requestIn found }
+    ensures { result ≡ request_in found }
 {
     match found {
         Found::Opened => no_request(),
@@ -68,7 +68,7 @@ fn request_in(found: Found) -> Request
 }
 
 fn found_number(found: Found) -> u32
-    ensures { result ≡ foundNumber found }
+    ensures { result ≡ found_number found }
 {
     match found {
         Found::Opened => SIZES,
@@ -79,7 +79,7 @@ fn found_number(found: Found) -> u32
 }
 
 fn found_code(found: Found) -> u32
-    ensures { result ≡ foundCode found }
+    ensures { result ≡ found_code found }
 {
     match found {
         Found::Opened => 0,
@@ -91,7 +91,7 @@ fn found_code(found: Found) -> u32
 
 // The read, by value.
 fn find(s: &[u8], at: usize) -> ReadResult
-    ensures { result ≡ readAt s.now at }
+    ensures { result ≡ read_at s.now at }
 {
     let read = read_at(s, at);
     let what = read.found;
@@ -113,7 +113,7 @@ fn find(s: &[u8], at: usize) -> ReadResult
 // Reads the record at a place of the trace.
 #[unsafe(no_mangle)]
 pub extern "C" fn nil_read(s: &[u8], at: usize, res: &mut ReadResult)
-    ensures { res.new ≡ readAt s.now at }
+    ensures { res.new ≡ read_at s.now at }
 {
     let done = find(s, at);
     *res = done;

@@ -1,7 +1,7 @@
 // One step on the tables and the clock that the host owns.
 ghost use Rattle.std.specs.Prelude.{◌≡◌};
 ghost use Rattle.steps.specs.Stepping.{stepped};
-ghost use Rattle.host.specs.Request.{step_of, result_of, stepAnswered};
+ghost use Rattle.host.specs.Request.{step_of, result_of, step_answered};
 
 use kernel::clock::{Clock, tick};
 use kernel::kinds::TICK;
@@ -70,7 +70,7 @@ fn result_of(o: Outcome) -> StepResult
 
 // The step, by value.
 fn answer(tables: Tables, clock: Clock, q: Request) -> Answered
-    ensures { result ≡ stepAnswered tables clock q }
+    ensures { result ≡ step_answered tables clock q }
 {
     let s = step_of(q);
     let done = step(tables, clock, s);

@@ -1,13 +1,13 @@
 // What an operators' screen asks: who is ready, and who waits at a place. The words alone are read, and no record.
 ghost use Rattle.std.specs.Prelude.{◌≡◌};
-ghost use Rattle.host.specs.Screen.{readyCount, readyFirst, waitersAt};
+ghost use Rattle.host.specs.Screen.{ready_count, ready_first, waiters_at};
 
 use kernel::words::{count_in, first_in, waiting_at};
 use library::tables::Tables;
 
 // How many threads are ready, by value.
 fn count_ready(t: Tables) -> u32
-    ensures { result ≡ readyCount t }
+    ensures { result ≡ ready_count t }
 {
     let kernel = t.kernel;
     let words = kernel.words;
@@ -16,7 +16,7 @@ fn count_ready(t: Tables) -> u32
 
 // The first of them, or 255, by value.
 fn find_ready(t: Tables) -> u32
-    ensures { result ≡ readyFirst t }
+    ensures { result ≡ ready_first t }
 {
     let kernel = t.kernel;
     let words = kernel.words;
@@ -25,7 +25,7 @@ fn find_ready(t: Tables) -> u32
 
 // The threads that wait at a place, by value.
 fn find_waiting(t: Tables, place: u32) -> u16
-    ensures { result ≡ waitersAt t place }
+    ensures { result ≡ waiters_at t place }
 {
     let kernel = t.kernel;
     let words = kernel.words;
@@ -35,7 +35,7 @@ fn find_waiting(t: Tables, place: u32) -> u16
 // How many threads are ready.
 #[unsafe(no_mangle)]
 pub extern "C" fn nil_ready_count(tables: &Tables) -> u32
-    ensures { result ≡ readyCount tables.now }
+    ensures { result ≡ ready_count tables.now }
 {
     let t = *tables;
     count_ready(t)
@@ -44,7 +44,7 @@ pub extern "C" fn nil_ready_count(tables: &Tables) -> u32
 // The first ready thread, the one that runs; 255 where the machine idles.
 #[unsafe(no_mangle)]
 pub extern "C" fn nil_first_ready(tables: &Tables) -> u32
-    ensures { result ≡ readyFirst tables.now }
+    ensures { result ≡ ready_first tables.now }
 {
     let t = *tables;
     find_ready(t)
@@ -53,7 +53,7 @@ pub extern "C" fn nil_first_ready(tables: &Tables) -> u32
 // The threads that wait at a place, bit i for thread i; none past all places.
 #[unsafe(no_mangle)]
 pub extern "C" fn nil_waiting(tables: &Tables, place: u32) -> u16
-    ensures { result ≡ waitersAt tables.now place }
+    ensures { result ≡ waiters_at tables.now place }
 {
     let t = *tables;
     find_waiting(t, place)

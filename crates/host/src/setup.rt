@@ -1,6 +1,6 @@
 // Fresh tables and a fresh clock where the host keeps them.
 ghost use Rattle.std.specs.Prelude.{◌≡◌};
-ghost use Rattle.host.specs.Setup.{prepared, tablesSet, clockSet};
+ghost use Rattle.host.specs.Setup.{prepared, tables_set, clock_set};
 
 use kernel::clock::Clock;
 use kernel::units::Rate;
@@ -41,8 +41,8 @@ pub extern "C" fn nil_fresh(
     frequency: u32,
 ) -> u8
     ensures { (result ≡ (prepared sizes.now frequency).code)
-        × (tables.new ≡ tablesSet sizes.now frequency tables.old)
-        × (clock.new ≡ clockSet sizes.now frequency clock.old) }
+        × (tables.new ≡ tables_set sizes.now frequency tables.old)
+        × (clock.new ≡ clock_set sizes.now frequency clock.old) }
 {
     let z = *sizes;
     let done = prepare(z, frequency);

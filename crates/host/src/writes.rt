@@ -1,15 +1,15 @@
 // The trace writer for a host, into a buffer that it lends.
 ghost use Rattle.std.specs.Prelude.{◌≡◌};
-ghost use Rattle.trace.specs.Writer.{writtenCode, sizesAnswer, sizesWritten, stepAnswer, stepWritten};
+ghost use Rattle.trace.specs.Writer.{written_code, sizes_answer, sizes_written, step_answer, step_written};
 ghost use Rattle.host.specs.Request.{step_of};
-ghost use Rattle.host.specs.Writes.{placeWritten};
+ghost use Rattle.host.specs.Writes.{place_written};
 
 use crate::request::{Request, step_of};
 use library::sizes::Sizes;
 use trace::writer::{Written, write_sizes, write_step};
 
 fn written_code(w: Written) -> u8
-    ensures { result ≡ writtenCode w }
+    ensures { result ≡ written_code w }
 {
     match w {
         Written::Upto(_) => 0,
@@ -18,7 +18,7 @@ fn written_code(w: Written) -> u8
 }
 
 fn place_after(w: Written, place: usize) -> usize
-    ensures { result ≡ placeWritten w place }
+    ensures { result ≡ place_written w place }
 {
     match w {
         Written::Upto(next) => next,
@@ -28,9 +28,9 @@ fn place_after(w: Written, place: usize) -> usize
 
 // Sizes by value; the rest is lent on.
 fn put_sizes(buf: &mut [u8], sizes: Sizes, next: &mut usize) -> u8
-    ensures { (result ≡ writtenCode (sizesAnswer sizes buf.old))
-        × (buf.new ≡ sizesWritten sizes buf.old)
-        × (next.new ≡ placeWritten (sizesAnswer sizes buf.old) next.old) }
+    ensures { (result ≡ written_code (sizes_answer sizes buf.old))
+        × (buf.new ≡ sizes_written sizes buf.old)
+        × (next.new ≡ place_written (sizes_answer sizes buf.old) next.old) }
 {
     let w = write_sizes(buf, sizes);
     let place = *next;
@@ -41,9 +41,9 @@ fn put_sizes(buf: &mut [u8], sizes: Sizes, next: &mut usize) -> u8
 
 // A step by value; the rest is lent on.
 fn put_step(buf: &mut [u8], at: usize, q: Request, next: &mut usize) -> u8
-    ensures { (result ≡ writtenCode (stepAnswer at buf.old))
-        × (buf.new ≡ stepWritten (step_of q) at buf.old)
-        × (next.new ≡ placeWritten (stepAnswer at buf.old) next.old) }
+    ensures { (result ≡ written_code (step_answer at buf.old))
+        × (buf.new ≡ step_written (step_of q) at buf.old)
+        × (next.new ≡ place_written (step_answer at buf.old) next.old) }
 {
     let s = step_of(q);
     let w = write_step(buf, at, s);
@@ -57,9 +57,9 @@ fn put_step(buf: &mut [u8], at: usize, q: Request, next: &mut usize) -> u8
 // or refuses with 14, 15 or 16, and nothing changes.
 #[unsafe(no_mangle)]
 pub extern "C" fn nil_write_sizes(buf: &mut [u8], sizes: &Sizes, next: &mut usize) -> u8
-    ensures { (result ≡ writtenCode (sizesAnswer sizes.now buf.old))
-        × (buf.new ≡ sizesWritten sizes.now buf.old)
-        × (next.new ≡ placeWritten (sizesAnswer sizes.now buf.old) next.old) }
+    ensures { (result ≡ written_code (sizes_answer sizes.now buf.old))
+        × (buf.new ≡ sizes_written sizes.now buf.old)
+        × (next.new ≡ place_written (sizes_answer sizes.now buf.old) next.old) }
 {
     let z = *sizes;
     put_sizes(buf, z, next)
@@ -74,9 +74,9 @@ pub extern "C" fn nil_write_step(
     request: &Request,
     next: &mut usize,
 ) -> u8
-    ensures { (result ≡ writtenCode (stepAnswer at buf.old))
-        × (buf.new ≡ stepWritten (step_of request.now) at buf.old)
-        × (next.new ≡ placeWritten (stepAnswer at buf.old) next.old) }
+    ensures { (result ≡ written_code (step_answer at buf.old))
+        × (buf.new ≡ step_written (step_of request.now) at buf.old)
+        × (next.new ≡ place_written (step_answer at buf.old) next.old) }
 {
     let q = *request;
     put_step(buf, at, q, next)

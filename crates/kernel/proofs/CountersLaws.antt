@@ -7,7 +7,7 @@ use Rattle.kernel.specs.declared.records.Kernel.{Kernel}
 use Rattle.kernel.specs.Numbers.{top}
 use Rattle.kernel.specs.Walk.{bit}
 use Rattle.kernel.specs.Counters.{up, down}
-use Rattle.kernel.specs.Tables.{counterAt, withCounter}
+use Rattle.kernel.specs.Tables.{counter_at, with_counter}
 use Rattle.kernel.proofs.Cases.{split, same_or, in-or-out, contrary}
 use Rattle.kernel.proofs.TablesLaws.{counter-same, counter-other, counter-zero}
 
@@ -94,37 +94,37 @@ down-above (negsuc n) e = contrary e refl
 
 module _ (k : Kernel) (p q : ℕ) where
   -- one more at p: one less owed there, no change elsewhere, in range or not
-  pub raised-debt : debt (counterAt (withCounter k p (up (counterAt k p))) q) ≡ debt (counterAt k q) - bit (eqb p q)
+  pub raised-debt : debt (counter_at (with_counter k p (up (counter_at k p))) q) ≡ debt (counter_at k q) - bit (eqb p q)
   raised-debt =
       same_or q p
       (λ e. rw (e, eq-eqb p p refl)
       (in-or-out p (length k.counters)
-      (λ h. rw (counter-same k p (up (counterAt k p)) h) (up-debt (counterAt k p)))
-      (λ h. rw (set_out k.counters p (up (counterAt k p)) h, counter-zero k p h))))
-      (λ n. rw (ne_eqb p q (λ e. n (sym e)), counter-other k p (up (counterAt k p)) q n) (omega arith))
+      (λ h. rw (counter-same k p (up (counter_at k p)) h) (up-debt (counter_at k p)))
+      (λ h. rw (set_out k.counters p (up (counter_at k p)) h, counter-zero k p h))))
+      (λ n. rw (ne_eqb p q (λ e. n (sym e)), counter-other k p (up (counter_at k p)) q n) (omega arith))
 
   -- one less at p, where the counter is not above 0: one more owed there, no change elsewhere
-  pub lowered-debt : p < length k.counters → lt_z (pos 0) (counterAt k p) ≡ false → debt (counterAt k p) < 2147483648
-      → debt (counterAt (withCounter k p (down (counterAt k p))) q) ≡ debt (counterAt k q) + bit (eqb p q)
+  pub lowered-debt : p < length k.counters → lt_z (pos 0) (counter_at k p) ≡ false → debt (counter_at k p) < 2147483648
+      → debt (counter_at (with_counter k p (down (counter_at k p))) q) ≡ debt (counter_at k q) + bit (eqb p q)
   lowered-debt h z l =
       same_or q p
-      (λ e. rw (e, eq-eqb p p refl, counter-same k p (down (counterAt k p)) h) (down-debt (counterAt k p) z l))
-      (λ n. rw (ne_eqb p q (λ e. n (sym e)), counter-other k p (down (counterAt k p)) q n) (omega arith))
+      (λ e. rw (e, eq-eqb p p refl, counter-same k p (down (counter_at k p)) h) (down-debt (counter_at k p) z l))
+      (λ n. rw (ne_eqb p q (λ e. n (sym e)), counter-other k p (down (counter_at k p)) q n) (omega arith))
 
   -- one more where nothing is owed changes no debt
-  pub raised-none : lt_z (counterAt k p) (pos 0) ≡ false
-      → debt (counterAt (withCounter k p (up (counterAt k p))) q) ≡ debt (counterAt k q)
+  pub raised-none : lt_z (counter_at k p) (pos 0) ≡ false
+      → debt (counter_at (with_counter k p (up (counter_at k p))) q) ≡ debt (counter_at k q)
   raised-none z =
       raised-debt
-      ∙ same_or q p (λ e. rw (e, debt-none (counterAt k p) z) (omega arith)) (λ n. rw (ne_eqb p q (λ e. n (sym e))) (omega arith))
+      ∙ same_or q p (λ e. rw (e, debt-none (counter_at k p) z) (omega arith)) (λ n. rw (ne_eqb p q (λ e. n (sym e))) (omega arith))
 
   -- one less where the counter is above 0 changes no debt
-  pub lowered_none : lt_z (pos 0) (counterAt k p) ≡ true
-      → debt (counterAt (withCounter k p (down (counterAt k p))) q) ≡ debt (counterAt k q)
+  pub lowered_none : lt_z (pos 0) (counter_at k p) ≡ true
+      → debt (counter_at (with_counter k p (down (counter_at k p))) q) ≡ debt (counter_at k q)
   lowered_none z =
       same_or q p
-      (λ e. rw (e, debt-none (counterAt k p) (above-not-below (counterAt k p) z))
+      (λ e. rw (e, debt-none (counter_at k p) (above-not-below (counter_at k p) z))
       (in-or-out p (length k.counters)
-      (λ h. rw (counter-same k p (down (counterAt k p)) h) (down-above (counterAt k p) z))
+      (λ h. rw (counter-same k p (down (counter_at k p)) h) (down-above (counter_at k p) z))
       (λ h. contrary z (rw (counter-zero k p h)))))
-      (λ n. rw (counter-other k p (down (counterAt k p)) q n))
+      (λ n. rw (counter-other k p (down (counter_at k p)) q n))

@@ -9,11 +9,11 @@ use Rattle.kernel.specs.declared.records.Kernel.{Kernel}
 use Rattle.kernel.specs.Numbers.{queued}
 use Rattle.kernel.specs.Records.{blank}
 use Rattle.kernel.specs.Walk.{each, bit}
-use Rattle.kernel.specs.Tables.{threadAt, counterAt}
-use Rattle.kernel.specs.Words.{hasBit, waitingAt}
+use Rattle.kernel.specs.Tables.{thread_at, counter_at}
+use Rattle.kernel.specs.Words.{has_bit, waiting_at}
 use Rattle.kernel.specs.Moves.{woken, slept}
-use Rattle.kernel.specs.Waiters.{queued_at, firstWaiter}
-use Rattle.kernel.specs.Queue.{releasedFirst, releasedOne, releasedAll}
+use Rattle.kernel.specs.Waiters.{queued_at, first_waiter}
+use Rattle.kernel.specs.Queue.{released_first, released_one, released_all}
 use Rattle.kernel.proofs.Cases.{split, in-or-out, chosen}
 use Rattle.kernel.proofs.WalkLaws.{None, count-change, each_keeps, each-agree, each-later}
 use Rattle.kernel.proofs.TablesLaws.{SameSizes, sizes-refl, sizes-trans, thread-blank, counter-zero}
@@ -25,7 +25,7 @@ use Rattle.kernel.proofs.MovesLaws.{wake-row, wake-others, wake-sizes, sleep-pas
 
 -- a place whose counter is not above 0, as a queue's never is
 abbrev pub Level : ℕ → Kernel → Type 0
-Level p k = lt_z (pos 0) (counterAt k p) ≡ false
+Level p k = lt_z (pos 0) (counter_at k p) ≡ false
 
 -- ---- a waking
 
@@ -52,7 +52,7 @@ sleep-level k i s p c q l =
     split (eqb s queued && eqb p q)
     (λ e. in-or-out i 16
     (λ h. in-or-out q (length k.counters)
-    (λ b. rw (sleep-counter k i s p c h q b, e) (down-not-above (counterAt k q) l))
+    (λ b. rw (sleep-counter k i s p c h q b, e) (down-not-above (counter_at k q) l))
     (λ b. rw (counter-zero (slept k i s p c) q (rw (sleep-sizes k i s p c).counters b))))
     (λ h. rw (sleep-past k i s p c h) l))
     (λ e. rw (sleep-counter-others k i s p c q e) l)
@@ -61,87 +61,87 @@ sleep-level k i s p c q l =
 
 module _ (k : Kernel) (p : ℕ) (m : ℤ) where
   -- nobody but the first waiter is touched
-  pub release-first-others : (j : ℕ) → j ≢ firstWaiter k p → threadAt (releasedFirst k p m) j ≡ threadAt k j
-  unfolding releasedFirst
-  release-first-others j d = wake-others k (firstWaiter k p) m j d
+  pub release-first-others : (j : ℕ) → j ≢ first_waiter k p → thread_at (released_first k p m) j ≡ thread_at k j
+  unfolding released_first
+  release-first-others j d = wake-others k (first_waiter k p) m j d
 
   -- the tables keep their lengths
-  pub release-first-sizes : SameSizes k (releasedFirst k p m)
-  unfolding releasedFirst
-  release-first-sizes = wake-sizes k (firstWaiter k p) m
+  pub release-first-sizes : SameSizes k (released_first k p m)
+  unfolding released_first
+  release-first-sizes = wake-sizes k (first_waiter k p) m
 
 -- ---- release of all
 
 -- of a walk over the records: a thread that waits at the place is made ready, any other is left
-abbrev pub walkedOne : ℕ → ℤ → ℕ → Kernel → Kernel
-walkedOne p m i k = cond (waits k p i) (woken k i m) k
+abbrev pub walked_one : ℕ → ℤ → ℕ → Kernel → Kernel
+walked_one p m i k = cond (waits k p i) (woken k i m) k
 
 -- .. which is a turn of a round in which everyone else's row is left
-as-turn : (p : ℕ) (m : ℤ) (i : ℕ) (k : Kernel) → walkedOne p m i k ≡ turn (queued_at p) (λ t. t) m i k
+as-turn : (p : ℕ) (m : ℤ) (i : ℕ) (k : Kernel) → walked_one p m i k ≡ turn (queued_at p) (λ t. t) m i k
 as-turn p m i k = split (waits k p i) (λ e. rw e) (λ e. rw (e, set-get_or k.threads i blank))
 
 module _ (k : Kernel) (p : ℕ) (m : ℤ) where
   abbrev w : ℕ
-  w = waitingAt k.words p
+  w = waiting_at k.words p
 
   -- the tables keep their lengths
-  pub release-all-sizes : SameSizes k (releasedAll k p m)
-  unfolding releasedAll
+  pub release-all-sizes : SameSizes k (released_all k p m)
+  unfolding released_all
   release-all-sizes =
-      each_keeps (SameSizes k) (releasedOne w m) 16
-      (λ i l h s. chosen (SameSizes k) (hasBit w i) (λ e. sizes-trans s (wake-sizes h i m)) (λ e. s)) k (sizes-refl k)
+      each_keeps (SameSizes k) (released_one w m) 16
+      (λ i l h s. chosen (SameSizes k) (has_bit w i) (λ e. sizes-trans s (wake-sizes h i m)) (λ e. s)) k (sizes-refl k)
 
   -- in the form in which code meets it: after i turns, by the word x and with y
-  pub release-all-turns : (x i : ℕ) (y : ℤ) → x ≡ w → i ≡ 16 → y ≡ m → each i (releasedOne x y) k ≡ releasedAll k p m
-  unfolding releasedAll
+  pub release-all-turns : (x i : ℕ) (y : ℤ) → x ≡ w → i ≡ 16 → y ≡ m → each i (released_one x y) k ≡ released_all k p m
+  unfolding released_all
   release-all-turns x i y e f g =
-      ap (λ (j : ℕ). each j (releasedOne x y) k) f
-      ∙ (ap (λ (v : ℕ). each 16 (releasedOne v y) k) e ∙ ap (λ (v : ℤ). each 16 (releasedOne w v) k) g)
+      ap (λ (j : ℕ). each j (released_one x y) k) f
+      ∙ (ap (λ (v : ℕ). each 16 (released_one v y) k) e ∙ ap (λ (v : ℤ). each 16 (released_one w v) k) g)
 
   -- a turn leaves every row but its own
-  one-others : (i j : ℕ) (h : Kernel) → j ≢ i → threadAt (releasedOne w m i h) j ≡ threadAt h j
-  one-others i j h d = chosen (λ (x : Kernel). threadAt x j ≡ threadAt h j) (hasBit w i) (λ e. wake-others h i m j d) (λ e. refl)
+  one-others : (i j : ℕ) (h : Kernel) → j ≢ i → thread_at (released_one w m i h) j ≡ thread_at h j
+  one-others i j h d = chosen (λ (x : Kernel). thread_at x j ≡ thread_at h j) (has_bit w i) (λ e. wake-others h i m j d) (λ e. refl)
 
   module _ (n : ℕ) (few : n ≤ 16) (told : TellsAt n k p) where
     -- the word names those of the first n who wait there, when their turn comes
-    named : (i : ℕ) → i < n → hasBit w i ≡ waits (each i (releasedOne w m) k) p i
+    named : (i : ℕ) → i < n → has_bit w i ≡ waits (each i (released_one w m) k) p i
     named i h =
         digit-test w i (waits k p i) (rw (lt-ltb i n h) at (told i))
-        ∙ sym (ap (queued_at p) (each-later threadAt (releasedOne w m) one-others i i k (le_refl i)))
+        ∙ sym (ap (queued_at p) (each-later thread_at (released_one w m) one-others i i k (le_refl i)))
 
-    walk-to : (i : ℕ) → i ≤ n → each i (releasedOne w m) k ≡ each i (walkedOne p m) k
+    walk-to : (i : ℕ) → i ≤ n → each i (released_one w m) k ≡ each i (walked_one p m) k
     walk-to zero h = refl
     walk-to (suc i) h =
-        ap (λ (b : Bool). cond b (woken (each i (releasedOne w m) k) i m) (each i (releasedOne w m) k)) (named i h)
-        ∙ ap (walkedOne p m i) (walk-to i (omega arith))
+        ap (λ (b : Bool). cond b (woken (each i (released_one w m) k) i m) (each i (released_one w m) k)) (named i h)
+        ∙ ap (walked_one p m i) (walk-to i (omega arith))
 
     -- and nobody from n on
-    walk-past : (d : ℕ) → each (d + n) (releasedOne w m) k ≡ each n (releasedOne w m) k
-    walk-past zero = let same : 0 + n ≡ n = omega arith in ap (λ (x : ℕ). each x (releasedOne w m) k) same
+    walk-past : (d : ℕ) → each (d + n) (released_one w m) k ≡ each n (released_one w m) k
+    walk-past zero = let same : 0 + n ≡ n = omega arith in ap (λ (x : ℕ). each x (released_one w m) k) same
     walk-past (suc d) =
         let next : suc d + n ≡ suc (d + n) = omega arith in
         let unnamed = digit-test w (d + n) false (rw (le-ltb (d + n) n (omega arith)) at (told (d + n))) in
-        ap (λ (x : ℕ). each x (releasedOne w m) k) next
-        ∙ (ap (λ (b : Bool). cond b (woken (each (d + n) (releasedOne w m) k) (d + n) m) (each (d + n) (releasedOne w m) k)) unnamed
+        ap (λ (x : ℕ). each x (released_one w m) k) next
+        ∙ (ap (λ (b : Bool). cond b (woken (each (d + n) (released_one w m) k) (d + n) m) (each (d + n) (released_one w m) k)) unnamed
         ∙ walk-past d)
 
     -- WHERE THE WORD AGREES, THE RELEASE IS THE WALK
-    pub release-all-walk : releasedAll k p m ≡ each n (walkedOne p m) k
-    unfolding releasedAll
+    pub release-all-walk : released_all k p m ≡ each n (walked_one p m) k
+    unfolding released_all
     release-all-walk =
         let whole : (16 - n) + n ≡ 16 = omega arith in
-        ap (λ (x : ℕ). each x (releasedOne w m) k) (sym whole) ∙ (walk-past (16 - n) ∙ walk-to n (le_refl n))
+        ap (λ (x : ℕ). each x (released_one w m) k) (sym whole) ∙ (walk-past (16 - n) ∙ walk-to n (le_refl n))
 
     -- nobody of the first n waits there any more
-    pub release-all-empties : None (waits (releasedAll k p m) p) n
+    pub release-all-empties : None (waits (released_all k p m) p) n
     release-all-empties j h =
-        ap (λ (x : Kernel). waits x p j) (release-all-walk ∙ each-agree (walkedOne p m) (turn (queued_at p) (λ t. t) m) n (as-turn p m) k)
+        ap (λ (x : Kernel). waits x p j) (release-all-walk ∙ each-agree (walked_one p m) (turn (queued_at p) (λ t. t) m) n (as-turn p m) k)
         ∙ (ap (queued_at p) (round-row (queued_at p) (λ t. t) m refl refl n j k h)
         ∙ chosen (λ (t : Thread). queued_at p t ≡ false) (waits k p j) (λ e. refl) (λ e. e))
 
     -- what every waking of one who waits there keeps, the release keeps
     pub release-all-keeps : (P : Kernel → Type 0) → ((i : ℕ) → i < n → (h : Kernel) → waits h p i ≡ true → P h → P (woken h i m)) → P k
-        → P (releasedAll k p m)
+        → P (released_all k p m)
     release-all-keeps P keeps g =
         rw release-all-walk
-        (each_keeps P (walkedOne p m) n (λ i l h t. chosen P (waits h p i) (λ e. keeps i l h e t) (λ e. t)) k g)
+        (each_keeps P (walked_one p m) n (λ i l h t. chosen P (waits h p i) (λ e. keeps i l h e t) (λ e. t)) k g)

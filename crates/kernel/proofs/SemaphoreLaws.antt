@@ -4,11 +4,11 @@ use Rattle.std.proofs.Common.{◌≡◌, ℕ, false, ℤ, pos}
 use lib.Seq.{set-get_or}
 use lib.Signed.{lt_z}
 use Rattle.kernel.specs.declared.records.Kernel.{Kernel}
-use Rattle.kernel.specs.Numbers.{ok, wasReset, top}
-use Rattle.kernel.specs.Tables.{counterAt}
+use Rattle.kernel.specs.Numbers.{ok, was_reset, top}
+use Rattle.kernel.specs.Tables.{counter_at}
 use Rattle.kernel.specs.Counters.{up}
-use Rattle.kernel.specs.Queue.{releasedAll}
-use Rattle.kernel.specs.Semaphore.{signalled, resetTo}
+use Rattle.kernel.specs.Queue.{released_all}
+use Rattle.kernel.specs.Semaphore.{signalled, reset_to}
 use Rattle.kernel.proofs.Cases.{chosen}
 use Rattle.kernel.proofs.CountersLaws.{top-not-below}
 use Rattle.kernel.proofs.TablesLaws.{SameSizes, sizes-trans, counter-sizes}
@@ -21,18 +21,18 @@ module _ (k : Kernel) (p : ℕ) where
   pub signal-sizes : SameSizes k (signalled k p).kernel
   unfolding signalled
   signal-sizes =
-      chosen (SameSizes k) (lt_z (counterAt k p) (pos 0)) (λ e. release-first-sizes k p ok)
-      (λ e. counter-sizes k p (up (counterAt k p)))
+      chosen (SameSizes k) (lt_z (counter_at k p) (pos 0)) (λ e. release-first-sizes k p ok)
+      (λ e. counter-sizes k p (up (counter_at k p)))
 
   -- at the top nothing changes
-  pub signal-top : lt_z (counterAt k p) top ≡ false → (signalled k p).kernel ≡ k
+  pub signal-top : lt_z (counter_at k p) top ≡ false → (signalled k p).kernel ≡ k
   unfolding signalled
-  signal-top e = rw (top-not-below (counterAt k p) e, e, set-get_or k.counters p (pos 0))
+  signal-top e = rw (top-not-below (counter_at k p) e, e, set-get_or k.counters p (pos 0))
 
 -- ---- reset
 
 module _ (k : Kernel) (p : ℕ) (c : ℤ) where
   -- the tables keep their lengths
-  pub reset-sizes : SameSizes k (resetTo k p c)
-  unfolding resetTo
-  reset-sizes = sizes-trans (release-all-sizes k p wasReset) (counter-sizes (releasedAll k p wasReset) p c)
+  pub reset-sizes : SameSizes k (reset_to k p c)
+  unfolding reset_to
+  reset-sizes = sizes-trans (release-all-sizes k p was_reset) (counter-sizes (released_all k p was_reset) p c)

@@ -1,7 +1,7 @@
 -- What a search finds, how a count changes, and what a walk leaves: by induction over the indexes, for any test and any number of them.
 use Rattle.std.proofs.Common.{◌≡◌, ℕ, zero, suc, ◌+◌, ◌<◌, ◌≤◌, Bool, true, false, ◌&&◌, ◌≢◌, ◌⊎◌, sym, refl, ap, ◌∙◌, inl, inr, le_refl, not-suc-le-zero, arith}
 use Rattle.kernel.specs.Numbers.{nobody}
-use Rattle.kernel.specs.Walk.{each, firstFrom, all_from, bit, count_of}
+use Rattle.kernel.specs.Walk.{each, first_from, all_from, bit, count_of}
 use Rattle.kernel.proofs.Cases.{split, same_or, both_true, both-means, same_tests}
 
 -- r is the least of the indexes below n that pass
@@ -24,16 +24,16 @@ one_more : (f : ℕ → Bool) (i n r : ℕ) → f i ≡ false → Found f (suc i
 one_more f i n r e (inl h) = inl (omega arith, omega arith, h.2, λ j a b. same_or j i (λ s. rw s e) (λ s. h.3 j (omega arith) b))
 one_more f i n r e (inr h) = inr (h.0, λ j a b. same_or j i (λ s. rw s e) (λ s. h.1 j (omega arith) (omega arith)))
 
-found : (f : ℕ → Bool) (i n : ℕ) → Found f i n (firstFrom f i n)
-unfolding firstFrom
+found : (f : ℕ → Bool) (i n : ℕ) → Found f i n (first_from f i n)
+unfolding first_from
 found f i zero = inr (refl, λ j a b. absurd (omega arith))
 found f i (suc n) =
     split (f i) (λ e. rw e (inl (le_refl i, omega arith, e, λ j a b. absurd (omega arith))))
-    (λ e. rw e (one_more f i n (firstFrom f (suc i) n) e (found f (suc i) n)))
+    (λ e. rw e (one_more f i n (first_from f (suc i) n) e (found f (suc i) n)))
 
 module _ (f : ℕ → Bool) (n : ℕ) where
   -- the first of n is the least that passes; or it is nobody, and none passes
-  pub first-cases : Least f n (firstFrom f 0 n) ⊎ ((firstFrom f 0 n ≡ nobody) × None f n)
+  pub first-cases : Least f n (first_from f 0 n) ⊎ ((first_from f 0 n ≡ nobody) × None f n)
   first-cases =
       elim (found f 0 n) [
         | inl h ↦ inl (record { below = omega arith; passes = h.2; least = λ i l. h.3 i (omega arith) l })
@@ -41,8 +41,8 @@ module _ (f : ℕ → Bool) (n : ℕ) where
       ]
 
 -- tests that agree find the same
-pub search-agree : (f g : ℕ → Bool) (i n : ℕ) → ((j : ℕ) → i ≤ j → j < i + n → f j ≡ g j) → firstFrom f i n ≡ firstFrom g i n
-unfolding firstFrom
+pub search-agree : (f g : ℕ → Bool) (i n : ℕ) → ((j : ℕ) → i ≤ j → j < i + n → f j ≡ g j) → first_from f i n ≡ first_from g i n
+unfolding first_from
 search-agree f g i zero h = refl
 search-agree f g i (suc n) h =
     rw (h i (le_refl i) (omega arith), search-agree f g (suc i) n (λ j a b. h j (omega arith) (omega arith)))
@@ -88,7 +88,7 @@ count_none f zero e = refl
 count_none f (suc n) e = rw (e n (omega arith), count_none f n (λ i l. e i (omega arith)))
 
 -- where any is counted there is a first
-pub counted-first : (f : ℕ → Bool) (n : ℕ) → 1 ≤ count_of f n → Least f n (firstFrom f 0 n)
+pub counted-first : (f : ℕ → Bool) (n : ℕ) → 1 ≤ count_of f n → Least f n (first_from f 0 n)
 counted-first f n h = elim (first-cases f n) [ inl c ↦ c | inr c ↦ absurd (omega (arith, count_none f n c.1)) ]
 
 -- all of the n indexes from i on pass: each does

@@ -8,8 +8,8 @@ use lib.Pow.{pow-lt}
 use borrow.Author.Tests.{eqb-false}
 use Rattle.kernel.specs.declared.records.Words.{Words}
 use Rattle.kernel.specs.Numbers.{nobody, queued}
-use Rattle.kernel.specs.Walk.{bit, count_of, firstFrom}
-use Rattle.kernel.specs.Words.{digit, hasBit, word_of, onesOf, first_of, bitValue, withBit, withoutBit, waitingAt, notedReady, notedAsleep}
+use Rattle.kernel.specs.Walk.{bit, count_of, first_from}
+use Rattle.kernel.specs.Words.{digit, has_bit, word_of, ones_of, first_of, bit_value, with_bit, without_bit, waiting_at, noted_ready, noted_asleep}
 use Rattle.kernel.proofs.Cases.{split, same_or, in-or-out, chosen}
 use Rattle.kernel.proofs.WalkLaws.{None, bit_le, count-le, count-agree, search-agree}
 
@@ -34,11 +34,11 @@ digit-past (suc n) w zero h g = absurd (omega arith)
 digit-past (suc n) w (suc i) h g = rw (digit-half w i) (digit-past n (w / 2) i (omega (arith, pow-suc 2 n)) (omega arith))
 
 -- a digit is 0 or 1
-pub digit-bit : (w i : ℕ) → digit w i ≡ bit (hasBit w i)
+pub digit-bit : (w i : ℕ) → digit w i ≡ bit (has_bit w i)
 digit-bit w i = same_or (digit w i) 1 (λ e. rw e) (λ n. rw (ne_eqb (digit w i) 1 n) (omega arith))
 
 -- what a digit is, its test says
-pub digit-test : (w i : ℕ) (b : Bool) → digit w i ≡ bit b → hasBit w i ≡ b
+pub digit-test : (w i : ℕ) (b : Bool) → digit w i ≡ bit b → has_bit w i ≡ b
 digit-test w i true e = eq-eqb (digit w i) 1 e
 digit-test w i false e = ne_eqb (digit w i) 1 (λ o. omega arith)
 
@@ -120,20 +120,20 @@ module _ (a b : ℕ) where
 
   module _ (i : ℕ) where
     -- two digits are their tests
-    as_bits : (f : ℕ → ℕ → ℕ) → f (digit a i) (digit b i) ≡ f (bit (hasBit a i)) (bit (hasBit b i))
-    as_bits f = ap (λ (x : ℕ). f x (digit b i)) (digit-bit a i) ∙ ap (f (bit (hasBit a i))) (digit-bit b i)
+    as_bits : (f : ℕ → ℕ → ℕ) → f (digit a i) (digit b i) ≡ f (bit (has_bit a i)) (bit (has_bit b i))
+    as_bits f = ap (λ (x : ℕ). f x (digit b i)) (digit-bit a i) ∙ ap (f (bit (has_bit a i))) (digit-bit b i)
 
-    pub or-test : hasBit (bit_or a b) i ≡ hasBit a i || hasBit b i
-    or-test = digit-test (bit_or a b) i (hasBit a i || hasBit b i) (or-digit a b i ∙ as_bits max ∙ or-bit (hasBit a i) (hasBit b i))
+    pub or-test : has_bit (bit_or a b) i ≡ has_bit a i || has_bit b i
+    or-test = digit-test (bit_or a b) i (has_bit a i || has_bit b i) (or-digit a b i ∙ as_bits max ∙ or-bit (has_bit a i) (has_bit b i))
 
-    pub and-test : hasBit (bit_and a b) i ≡ hasBit a i && hasBit b i
-    and-test = digit-test (bit_and a b) i (hasBit a i && hasBit b i) (and-digit a b i ∙ as_bits min ∙ and-bit (hasBit a i) (hasBit b i))
+    pub and-test : has_bit (bit_and a b) i ≡ has_bit a i && has_bit b i
+    and-test = digit-test (bit_and a b) i (has_bit a i && has_bit b i) (and-digit a b i ∙ as_bits min ∙ and-bit (has_bit a i) (has_bit b i))
 
-    pub less-test : hasBit (a - bit_and a b) i ≡ hasBit a i && not (hasBit b i)
+    pub less-test : has_bit (a - bit_and a b) i ≡ has_bit a i && not (has_bit b i)
     less-test =
-        digit-test (a - bit_and a b) i (hasBit a i && not (hasBit b i))
+        digit-test (a - bit_and a b) i (has_bit a i && not (has_bit b i))
         (ap (λ (x : ℕ). digit x i) less-differs ∙ xor-digit a (bit_and a b) i ∙ ap (differ (digit a i)) (and-digit a b i)
-        ∙ as_bits (λ x y. differ x (min x y)) ∙ less-bit (hasBit a i) (hasBit b i))
+        ∙ as_bits (λ x y. differ x (min x y)) ∙ less-bit (has_bit a i) (has_bit b i))
 
 -- ---- the bit of an index
 
@@ -153,10 +153,10 @@ power-other (suc i) (suc j) n =
     let half : 2 ^ suc i / 2 ≡ 2 ^ i = rw (pow-suc 2 i) (omega arith) in
     rw (digit-half (2 ^ suc i) j, half) (power-other i j (λ e. n (ap suc e)))
 
-pub value_same : (i : ℕ) → i < 16 → digit (bitValue i) i ≡ 1
+pub value_same : (i : ℕ) → i < 16 → digit (bit_value i) i ≡ 1
 value_same i h = rw (lt-ltb i 16 h) (power-same i)
 
-pub value-other : (i j : ℕ) → j ≢ i → digit (bitValue i) j ≡ 0
+pub value-other : (i j : ℕ) → j ≢ i → digit (bit_value i) j ≡ 0
 value-other i j n = in-or-out i 16 (λ h. rw (lt-ltb i 16 h) (power-other i j n)) (λ h. rw (le-ltb i 16 h) (digit-none j))
 
 differ_same : (p : ℕ) → p < 2 → differ p (min p 1) ≡ 0
@@ -173,69 +173,69 @@ module _ (w i : ℕ) where
   digit_lt j = omega arith
 
   -- a bit that was set is there
-  pub with-same : i < 16 → digit (withBit w i) i ≡ 1
-  with-same h = rw (or-digit w (bitValue i) i, value_same i h) (omega (arith, digit_lt i))
+  pub with-same : i < 16 → digit (with_bit w i) i ≡ 1
+  with-same h = rw (or-digit w (bit_value i) i, value_same i h) (omega (arith, digit_lt i))
 
   -- one that was taken off is not
-  pub without-same : i < 16 → digit (withoutBit w i) i ≡ 0
+  pub without-same : i < 16 → digit (without_bit w i) i ≡ 0
   without-same h =
-      rw (xor-digit w (bit_and w (bitValue i)) i, and-digit w (bitValue i) i, value_same i h) (differ_same (digit w i) (digit_lt i))
+      rw (xor-digit w (bit_and w (bit_value i)) i, and-digit w (bit_value i) i, value_same i h) (differ_same (digit w i) (digit_lt i))
 
   module _ (j : ℕ) (n : j ≢ i) where
     -- and the others stay
-    pub with-other : digit (withBit w i) j ≡ digit w j
-    with-other = rw (or-digit w (bitValue i) j, value-other i j n) (omega arith)
+    pub with-other : digit (with_bit w i) j ≡ digit w j
+    with-other = rw (or-digit w (bit_value i) j, value-other i j n) (omega arith)
 
-    pub without_other : digit (withoutBit w i) j ≡ digit w j
+    pub without_other : digit (without_bit w i) j ≡ digit w j
     without_other =
-        rw (xor-digit w (bit_and w (bitValue i)) j, and-digit w (bitValue i) j, value-other i j n) (differ-none (digit w j))
+        rw (xor-digit w (bit_and w (bit_value i)) j, and-digit w (bit_value i) j, value-other i j n) (differ-none (digit w j))
 
 -- there is no bit from 16 on
-pub with-past : (w i : ℕ) → 16 ≤ i → withBit w i ≡ w
+pub with-past : (w i : ℕ) → 16 ≤ i → with_bit w i ≡ w
 with-past w i h = rw (le-ltb i 16 h) (or_zero_r w)
 
 -- ---- the words of a kernel
 
 -- a word of the waiting, changed by g where b and at p
 changed-waiting : (w : Words) (g : ℕ → ℕ) (b : Bool) (p q : ℕ) → q < length w.waiting
-    → get_or (cond b (set w.waiting p (g (waitingAt w p))) w.waiting) q 0 ≡ cond (b && eqb p q) (g (waitingAt w q)) (waitingAt w q)
+    → get_or (cond b (set w.waiting p (g (waiting_at w p))) w.waiting) q 0 ≡ cond (b && eqb p q) (g (waiting_at w q)) (waiting_at w q)
 changed-waiting w g true p q h =
-    same_or q p (λ e. rw (e, eq-eqb p p refl) (get_or-set_same w.waiting p (g (waitingAt w p)) 0 (rw e at h)))
-    (λ n. rw (ne_eqb p q (λ e. n (sym e))) (get_or-set_other w.waiting p q (g (waitingAt w p)) 0 n))
+    same_or q p (λ e. rw (e, eq-eqb p p refl) (get_or-set_same w.waiting p (g (waiting_at w p)) 0 (rw e at h)))
+    (λ n. rw (ne_eqb p q (λ e. n (sym e))) (get_or-set_other w.waiting p q (g (waiting_at w p)) 0 n))
 changed-waiting w g false p q h = refl
 
 -- .. and the others stay
 other-waiting : (w : Words) (g : ℕ → ℕ) (b : Bool) (p q : ℕ) → b && eqb p q ≡ false
-    → get_or (cond b (set w.waiting p (g (waitingAt w p))) w.waiting) q 0 ≡ waitingAt w q
-other-waiting w g true p q z = get_or-set_other w.waiting p q (g (waitingAt w p)) 0 (λ e. eqb-false p q z (sym e))
+    → get_or (cond b (set w.waiting p (g (waiting_at w p))) w.waiting) q 0 ≡ waiting_at w q
+other-waiting w g true p q z = get_or-set_other w.waiting p q (g (waiting_at w p)) 0 (λ e. eqb-false p q z (sym e))
 other-waiting w g false p q z = refl
 
 module _ (w : Words) (i s p : ℕ) where
-  pub ready-length : length (notedReady w i s p).waiting ≡ length w.waiting
+  pub ready-length : length (noted_ready w i s p).waiting ≡ length w.waiting
   ready-length =
       chosen (λ (l : List ℕ). length l ≡ length w.waiting) (eqb s queued)
-      (λ e. length-set w.waiting p (withoutBit (waitingAt w p) i)) (λ e. refl)
+      (λ e. length-set w.waiting p (without_bit (waiting_at w p) i)) (λ e. refl)
 
-  pub asleep-length : length (notedAsleep w i s p).waiting ≡ length w.waiting
+  pub asleep-length : length (noted_asleep w i s p).waiting ≡ length w.waiting
   asleep-length =
       chosen (λ (l : List ℕ). length l ≡ length w.waiting) (eqb s queued)
-      (λ e. length-set w.waiting p (withBit (waitingAt w p) i)) (λ e. refl)
+      (λ e. length-set w.waiting p (with_bit (waiting_at w p) i)) (λ e. refl)
 
   module _ (q : ℕ) where
     -- only the word of its place changes
     pub ready-waiting : q < length w.waiting
-        → waitingAt (notedReady w i s p) q ≡ cond (eqb s queued && eqb p q) (withoutBit (waitingAt w q) i) (waitingAt w q)
-    ready-waiting = changed-waiting w (λ x. withoutBit x i) (eqb s queued) p q
+        → waiting_at (noted_ready w i s p) q ≡ cond (eqb s queued && eqb p q) (without_bit (waiting_at w q) i) (waiting_at w q)
+    ready-waiting = changed-waiting w (λ x. without_bit x i) (eqb s queued) p q
 
     pub asleep-waiting : q < length w.waiting
-        → waitingAt (notedAsleep w i s p) q ≡ cond (eqb s queued && eqb p q) (withBit (waitingAt w q) i) (waitingAt w q)
-    asleep-waiting = changed-waiting w (λ x. withBit x i) (eqb s queued) p q
+        → waiting_at (noted_asleep w i s p) q ≡ cond (eqb s queued && eqb p q) (with_bit (waiting_at w q) i) (waiting_at w q)
+    asleep-waiting = changed-waiting w (λ x. with_bit x i) (eqb s queued) p q
 
-    pub ready-elsewhere : eqb s queued && eqb p q ≡ false → waitingAt (notedReady w i s p) q ≡ waitingAt w q
-    ready-elsewhere = other-waiting w (λ x. withoutBit x i) (eqb s queued) p q
+    pub ready-elsewhere : eqb s queued && eqb p q ≡ false → waiting_at (noted_ready w i s p) q ≡ waiting_at w q
+    ready-elsewhere = other-waiting w (λ x. without_bit x i) (eqb s queued) p q
 
-    pub asleep-elsewhere : eqb s queued && eqb p q ≡ false → waitingAt (notedAsleep w i s p) q ≡ waitingAt w q
-    asleep-elsewhere = other-waiting w (λ x. withBit x i) (eqb s queued) p q
+    pub asleep-elsewhere : eqb s queued && eqb p q ≡ false → waiting_at (noted_asleep w i s p) q ≡ waiting_at w q
+    asleep-elsewhere = other-waiting w (λ x. with_bit x i) (eqb s queued) p q
 
 -- ---- the word of a walk
 
@@ -327,8 +327,8 @@ found-later i n z =
     (λ h. rw (le-ltb z n h, le-ltb (suc z) (suc n) (omega arith)))
 
 zeros-from : (f : ℕ → Bool) (n i w : ℕ) → ((j : ℕ) → j < n → digit w j ≡ bit (f (i + j)))
-    → found_from i n (count_trailing_zeros n w) ≡ firstFrom f i n
-unfolding firstFrom count_trailing_zeros
+    → found_from i n (count_trailing_zeros n w) ≡ first_from f i n
+unfolding first_from count_trailing_zeros
 zeros-from f zero i w e = refl
 zeros-from f (suc n) i w e =
     let here : i + 0 ≡ i = omega arith in
@@ -343,7 +343,7 @@ zeros-from f (suc n) i w e =
 
 -- THE TRAILING ZEROS ARE THE FIRST
 pub zeros-first : (f : ℕ → Bool) (n w : ℕ) → ((i : ℕ) → i < n → digit w i ≡ bit (f i))
-    → cond (ltb (count_trailing_zeros n w) n) (count_trailing_zeros n w) nobody ≡ firstFrom f 0 n
+    → cond (ltb (count_trailing_zeros n w) n) (count_trailing_zeros n w) nobody ≡ first_from f 0 n
 zeros-first f n w e =
     let whole : 0 + count_trailing_zeros n w ≡ count_trailing_zeros n w = omega arith in
     ap (λ (z : ℕ). cond (ltb (count_trailing_zeros n w) n) z nobody) (sym whole)
@@ -360,8 +360,8 @@ count_past f n (suc d) e =
     rw (next, e (d + n) (omega arith)) (omega (arith, count_past f n d e))
 
 -- and are not found
-first_past : (f : ℕ → Bool) (n d i : ℕ) → ((j : ℕ) → i + n ≤ j → f j ≡ false) → firstFrom f i (n + d) ≡ firstFrom f i n
-unfolding firstFrom
+first_past : (f : ℕ → Bool) (n d i : ℕ) → ((j : ℕ) → i + n ≤ j → f j ≡ false) → first_from f i (n + d) ≡ first_from f i n
+unfolding first_from
 first_past f zero zero i o = refl
 first_past f zero (suc d) i o =
     let last : 0 + suc d ≡ suc (0 + d) = omega arith in
@@ -373,35 +373,35 @@ first_past f (suc n) d i o =
 -- ---- in the form in which code meets them
 
 -- "the number of ready threads is the number of ones"
-pub ones-of : (w : ℕ) → w < 65536 → ones w ≡ onesOf w
-unfolding onesOf
-ones-of w h = ones-count (hasBit w) 16 w h (λ i l. digit-bit w i)
+pub ones-of : (w : ℕ) → w < 65536 → ones w ≡ ones_of w
+unfolding ones_of
+ones-of w h = ones-count (has_bit w) 16 w h (λ i l. digit-bit w i)
 
 -- .. of which there are 16 at most
 pub ones-le : (w : ℕ) → w < 65536 → ones w ≤ 16
-unfolding onesOf
-ones-le w h = rw (ones-of w h) (count-le (hasBit w) 16)
+unfolding ones_of
+ones-le w h = rw (ones-of w h) (count-le (has_bit w) 16)
 
 -- a word has no bit from 16 on
-pub bit_past : (w i : ℕ) → w < 65536 → 16 ≤ i → hasBit w i ≡ false
+pub bit_past : (w i : ℕ) → w < 65536 → 16 ≤ i → has_bit w i ≡ false
 bit_past w i h g = digit-test w i false (digit-past 16 w i h g)
 
 -- "the number of trailing zeros"
 pub first_some : (w : ℕ) → count_trailing_zeros 16 w < 16 → count_trailing_zeros 16 w ≡ first_of w
 unfolding first_of
-first_some w h = rw (lt-ltb (count_trailing_zeros 16 w) 16 h) at (zeros-first (hasBit w) 16 w (λ i l. digit-bit w i))
+first_some w h = rw (lt-ltb (count_trailing_zeros 16 w) 16 h) at (zeros-first (has_bit w) 16 w (λ i l. digit-bit w i))
 
 -- "an empty word means idle"
 pub first-none : (w : ℕ) → 16 ≤ count_trailing_zeros 16 w → nobody ≡ first_of w
 unfolding first_of
-first-none w h = rw (le-ltb (count_trailing_zeros 16 w) 16 h) at (zeros-first (hasBit w) 16 w (λ i l. digit-bit w i))
+first-none w h = rw (le-ltb (count_trailing_zeros 16 w) 16 h) at (zeros-first (has_bit w) 16 w (λ i l. digit-bit w i))
 
 -- a power of 2 below 2 ^ k is not cut to k digits
 pub power-fits : (k i : ℕ) → i < k → 1 * 2 ^ i % 2 ^ k ≡ 2 ^ i
 power-fits k i h = rw one-mul (mod-eq_of_lt (pow-lt h))
 
 -- what a bit counts, in range; v is what a callee gave
-pub value_in : (i v : ℕ) → v ≡ bitValue i → i < 16 → v ≡ 2 ^ i
+pub value_in : (i v : ℕ) → v ≡ bit_value i → i < 16 → v ≡ 2 ^ i
 value_in i v e h = e ∙ rw (lt-ltb i 16 h)
 
 -- n threads, all ready
@@ -414,22 +414,22 @@ all-fits e h = pow_mono h
 -- ---- what a screen shows: where a word has the digits of a test, its ones and its trailing zeros are the walk's
 
 module _ (f : ℕ → Bool) (n w : ℕ) (few : n ≤ 16) (told : (i : ℕ) → digit w i ≡ bit (ltb i n && f i)) where
-  inside : (i : ℕ) → i < n → hasBit w i ≡ f i
+  inside : (i : ℕ) → i < n → has_bit w i ≡ f i
   inside i l = digit-test w i (f i) (rw (lt-ltb i n l) at (told i))
 
-  outside : (i : ℕ) → n ≤ i → hasBit w i ≡ false
+  outside : (i : ℕ) → n ≤ i → has_bit w i ≡ false
   outside i l = digit-test w i false (rw (le-ltb i n l) at (told i))
 
-  pub ones-agree : onesOf w ≡ count_of f n
-  unfolding onesOf
+  pub ones-agree : ones_of w ≡ count_of f n
+  unfolding ones_of
   ones-agree =
       let whole : (16 - n) + n ≡ 16 = omega arith in
-      ap (count_of (hasBit w)) (sym whole) ∙ (count_past (hasBit w) n (16 - n) outside ∙ count-agree (hasBit w) f n inside)
+      ap (count_of (has_bit w)) (sym whole) ∙ (count_past (has_bit w) n (16 - n) outside ∙ count-agree (has_bit w) f n inside)
 
-  pub first-agree : first_of w ≡ firstFrom f 0 n
+  pub first-agree : first_of w ≡ first_from f 0 n
   unfolding first_of
   first-agree =
       let whole : n + (16 - n) ≡ 16 = omega arith in
-      ap (firstFrom (hasBit w) 0) (sym whole)
-      ∙ (first_past (hasBit w) n (16 - n) 0 (λ j a. outside j (omega arith))
-      ∙ search-agree (hasBit w) f 0 n (λ j a b. inside j (omega arith)))
+      ap (first_from (has_bit w) 0) (sym whole)
+      ∙ (first_past (has_bit w) n (16 - n) 0 (λ j a. outside j (omega arith))
+      ∙ search-agree (has_bit w) f 0 n (λ j a b. inside j (omega arith)))

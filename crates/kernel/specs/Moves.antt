@@ -10,25 +10,25 @@ use Rattle.kernel.specs.Numbers.{
   ready,
   suspended,
   queued,
-  timedOut,
+  timed_out,
   immediate,
   infinite,
-  eventWait,
+  event_wait,
 }
-use Rattle.kernel.specs.Records.{noCall, noAnswer}
+use Rattle.kernel.specs.Records.{no_call, no_answer}
 use Rattle.kernel.specs.Counters.{up, down}
 use Rattle.kernel.specs.Tables.{
-  threadAt,
-  counterAt,
-  withThread,
-  withCounter,
-  withHolder,
-  withWoken,
-  withFinished,
-  withAnswer,
+  thread_at,
+  counter_at,
+  with_thread,
+  with_counter,
+  with_holder,
+  with_woken,
+  with_finished,
+  with_answer,
   with_words,
 }
-use Rattle.kernel.specs.Words.{notedReady, notedAsleep}
+use Rattle.kernel.specs.Words.{noted_ready, noted_asleep}
 
 -- ""Made ready" stores the message and sets remaining ticks to 0"; it waits "nowhere if ready"; of document 02: "the cause of its last
 -- waking .. and the number of that step"
@@ -48,12 +48,12 @@ readied t m c n =
     }
 
 -- the ticks that a timeout leaves to count: "0 for .. an infinite timeout"
-abbrev pub ticksOf : ℕ → ℕ
-ticksOf timeout = cond (timeout == infinite) 0 timeout
+abbrev pub ticks_of : ℕ → ℕ
+ticks_of timeout = cond (timeout == infinite) 0 timeout
 
 -- "awaited flags (an unfinished 14's mask, else 0)"
-abbrev pub awaitedBy : Call → ℕ
-awaitedBy c = cond (c.kind == eventWait) c.operand 0
+abbrev pub awaited_by : Call → ℕ
+awaited_by c = cond (c.kind == event_wait) c.operand 0
 
 -- a call that sleeps keeps its fields, and "sets its last answer to 0 and 0"
 abbrev pub asleep : Thread → ℕ → ℕ → Call → Thread
@@ -61,12 +61,12 @@ asleep t state place call =
     record {
       state = state;
       place = place;
-      remaining = ticksOf call.timeout;
+      remaining = ticks_of call.timeout;
       pending = t.pending;
-      awaited = awaitedBy call;
+      awaited = awaited_by call;
       message = t.message;
       call = call;
-      answer = noAnswer;
+      answer = no_answer;
       cause = t.cause;
       step = t.step;
     }
@@ -81,50 +81,50 @@ answered t a =
       pending = t.pending;
       awaited = 0;
       message = t.message;
-      call = noCall;
+      call = no_call;
       answer = a;
       cause = t.cause;
       step = t.step;
     }
 
 -- "taken off its queue (counter +1) or reference (emptied)"
-unfoldable pub takenOff : Kernel → ℕ → ℕ → Kernel
-takenOff k state place =
-    cond (state == queued) (withCounter k place (up (counterAt k place)))
-    (cond (state == suspended) (withHolder k place nobody) k)
+unfoldable pub taken_off : Kernel → ℕ → ℕ → Kernel
+taken_off k state place =
+    cond (state == queued) (with_counter k place (up (counter_at k place)))
+    (cond (state == suspended) (with_holder k place nobody) k)
 
 -- "counter less 1 and sleep"; "Reference r holds i exactly if i is suspended on r"
-unfoldable pub putOn : Kernel → ℕ → ℕ → ℕ → Kernel
-putOn k i state place =
-    cond (state == queued) (withCounter k place (down (counterAt k place)))
-    (cond (state == suspended) (withHolder k place i) k)
+unfoldable pub put_on : Kernel → ℕ → ℕ → ℕ → Kernel
+put_on k i state place =
+    cond (state == queued) (with_counter k place (down (counter_at k place)))
+    (cond (state == suspended) (with_holder k place i) k)
 
 -- thread i is made ready with m, by the cause of the call at work, in the step at work
 unfoldable pub woken : Kernel → ℕ → ℤ → Kernel
 woken k i m =
     with_words
-    (withWoken
-    (withThread (takenOff k (threadAt k i).state (threadAt k i).place) i
-    (readied (threadAt k i) m k.cause k.steps))
+    (with_woken
+    (with_thread (taken_off k (thread_at k i).state (thread_at k i).place) i
+    (readied (thread_at k i) m k.cause k.steps))
     i)
-    (notedReady k.words i (threadAt k i).state (threadAt k i).place)
+    (noted_ready k.words i (thread_at k i).state (thread_at k i).place)
 
 -- thread i goes to sleep in a call; only a thread of the table sleeps
 unfoldable pub slept : Kernel → ℕ → ℕ → ℕ → Call → Kernel
 slept k i state place call =
     cond (nat_lt i 16)
     (with_words
-    (withThread (putOn k i state place) i (asleep (threadAt k i) state place call))
-    (notedAsleep k.words i state place))
+    (with_thread (put_on k i state place) i (asleep (thread_at k i) state place call))
+    (noted_asleep k.words i state place))
     k
 
 -- thread i's call is finished; an interrupt has no record and no finished bit, only its answer
 unfoldable pub finished : Kernel → ℕ → ℤ → ℕ → Kernel
 finished k i m d =
-    cond (i == nobody) (withAnswer k (record { message = m; datum = d }))
-    (withFinished (withThread k i (answered (threadAt k i) (record { message = m; datum = d }))) i)
+    cond (i == nobody) (with_answer k (record { message = m; datum = d }))
+    (with_finished (with_thread k i (answered (thread_at k i) (record { message = m; datum = d }))) i)
 
 -- "a timeout of 0 answers -1 at once, changing nothing else"; otherwise the thread sleeps
 unfoldable pub blocked : Kernel → ℕ → ℕ → ℕ → Call → Kernel
 blocked k i state place call =
-    cond (call.timeout == immediate) (finished k i timedOut 0) (slept k i state place call)
+    cond (call.timeout == immediate) (finished k i timed_out 0) (slept k i state place call)

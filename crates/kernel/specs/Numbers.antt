@@ -33,47 +33,47 @@ awaiting = 4
 abbrev pub ok : ℤ
 ok = pos 0
 
-abbrev pub timedOut : ℤ
-timedOut = negsuc 0
+abbrev pub timed_out : ℤ
+timed_out = negsuc 0
 
-abbrev pub wasReset : ℤ
-wasReset = negsuc 1
+abbrev pub was_reset : ℤ
+was_reset = negsuc 1
 
 -- what a signal answers that did not count
-abbrev pub notCounted : ℤ
-notCounted = pos 1
+abbrev pub not_counted : ℤ
+not_counted = pos 1
 
 -- causes of a waking: "none yet, signal, release, resume, event, post, fetch, reset or tick" (document 02)
-abbrev pub noCause : ℕ
-noCause = 0
+abbrev pub no_cause : ℕ
+no_cause = 0
 
-abbrev pub bySignal : ℕ
-bySignal = 1
+abbrev pub by_signal : ℕ
+by_signal = 1
 
-abbrev pub byRelease : ℕ
-byRelease = 2
+abbrev pub by_release : ℕ
+by_release = 2
 
-abbrev pub byResume : ℕ
-byResume = 3
+abbrev pub by_resume : ℕ
+by_resume = 3
 
-abbrev pub byEvent : ℕ
-byEvent = 4
+abbrev pub by_event : ℕ
+by_event = 4
 
-abbrev pub byPost : ℕ
-byPost = 5
+abbrev pub by_post : ℕ
+by_post = 5
 
-abbrev pub byFetch : ℕ
-byFetch = 6
+abbrev pub by_fetch : ℕ
+by_fetch = 6
 
-abbrev pub byReset : ℕ
-byReset = 7
+abbrev pub by_reset : ℕ
+by_reset = 7
 
-abbrev pub byTick : ℕ
-byTick = 8
+abbrev pub by_tick : ℕ
+by_tick = 8
 
 -- the last number of a step
-abbrev pub lastStep : ℕ
-lastStep = 4294967295
+abbrev pub last_step : ℕ
+last_step = 4294967295
 
 -- the top of a counter
 abbrev pub top : ℤ
@@ -81,8 +81,8 @@ top = pos 2147483647
 
 -- ticks a second where no frequency is given; neither the 1000 that is given where a trace is printed, nor that of a settings file of
 -- version 1 (document 02, 11/13)
-abbrev pub usualFrequency : ℕ
-usualFrequency = 10000
+abbrev pub usual_frequency : ℕ
+usual_frequency = 10000
 
 -- intervals
 abbrev pub immediate : ℕ
@@ -92,11 +92,11 @@ abbrev pub infinite : ℕ
 infinite = 4294967295
 
 -- kinds of step
-abbrev pub sleepFor : ℕ
-sleepFor = 11
+abbrev pub sleep_for : ℕ
+sleep_for = 11
 
-abbrev pub sleepUntil : ℕ
-sleepUntil = 12
+abbrev pub sleep_until : ℕ
+sleep_until = 12
 
-abbrev pub eventWait : ℕ
-eventWait = 14
+abbrev pub event_wait : ℕ
+event_wait = 14

@@ -8,30 +8,30 @@ use Rattle.kernel.specs.Numbers.{nobody}
 use Rattle.kernel.specs.Records.{blank}
 
 -- how many of n threads have a row
-abbrev pub usedRows : ℕ → ℕ
-usedRows n = cond (nat_lt n 16) n 16
+abbrev pub used_rows : ℕ → ℕ
+used_rows n = cond (nat_lt n 16) n 16
 
 abbrev pub row_in : List Thread → ℕ → Thread
 row_in threads i = slice_index_or threads i blank
 
-abbrev pub threadAt : Kernel → ℕ → Thread
-threadAt k i = row_in k.threads i
+abbrev pub thread_at : Kernel → ℕ → Thread
+thread_at k i = row_in k.threads i
 
-abbrev pub counterIn : List ℤ → ℕ → ℤ
-counterIn counters p = slice_index_or counters p (pos 0)
+abbrev pub counter_in : List ℤ → ℕ → ℤ
+counter_in counters p = slice_index_or counters p (pos 0)
 
-abbrev pub counterAt : Kernel → ℕ → ℤ
-counterAt k p = counterIn k.counters p
+abbrev pub counter_at : Kernel → ℕ → ℤ
+counter_at k p = counter_in k.counters p
 
 -- whom a reference holds
-abbrev pub holderIn : List ℕ → ℕ → ℕ
-holderIn references r = slice_index_or references r nobody
+abbrev pub holder_in : List ℕ → ℕ → ℕ
+holder_in references r = slice_index_or references r nobody
 
-abbrev pub holderAt : Kernel → ℕ → ℕ
-holderAt k r = holderIn k.references r
+abbrev pub holder_at : Kernel → ℕ → ℕ
+holder_at k r = holder_in k.references r
 
-abbrev pub withThread : Kernel → ℕ → Thread → Kernel
-withThread k i t =
+abbrev pub with_thread : Kernel → ℕ → Thread → Kernel
+with_thread k i t =
     record {
       threads = slice_set k.threads i t;
       counters = k.counters;
@@ -44,8 +44,8 @@ withThread k i t =
       cause = k.cause;
     }
 
-abbrev pub withCounter : Kernel → ℕ → ℤ → Kernel
-withCounter k p c =
+abbrev pub with_counter : Kernel → ℕ → ℤ → Kernel
+with_counter k p c =
     record {
       threads = k.threads;
       counters = slice_set k.counters p c;
@@ -58,8 +58,8 @@ withCounter k p c =
       cause = k.cause;
     }
 
-abbrev pub withHolder : Kernel → ℕ → ℕ → Kernel
-withHolder k r i =
+abbrev pub with_holder : Kernel → ℕ → ℕ → Kernel
+with_holder k r i =
     record {
       threads = k.threads;
       counters = k.counters;
@@ -72,8 +72,8 @@ withHolder k r i =
       cause = k.cause;
     }
 
-abbrev pub withWoken : Kernel → ℕ → Kernel
-withWoken k i =
+abbrev pub with_woken : Kernel → ℕ → Kernel
+with_woken k i =
     record {
       threads = k.threads;
       counters = k.counters;
@@ -86,8 +86,8 @@ withWoken k i =
       cause = k.cause;
     }
 
-abbrev pub withFinished : Kernel → ℕ → Kernel
-withFinished k i =
+abbrev pub with_finished : Kernel → ℕ → Kernel
+with_finished k i =
     record {
       threads = k.threads;
       counters = k.counters;
@@ -100,8 +100,8 @@ withFinished k i =
       cause = k.cause;
     }
 
-abbrev pub withAnswer : Kernel → Answer → Kernel
-withAnswer k a =
+abbrev pub with_answer : Kernel → Answer → Kernel
+with_answer k a =
     record {
       threads = k.threads;
       counters = k.counters;
@@ -129,8 +129,8 @@ with_words k w =
     }
 
 -- the call at work wakes with this cause
-abbrev pub withCause : Kernel → ℕ → Kernel
-withCause k c =
+abbrev pub with_cause : Kernel → ℕ → Kernel
+with_cause k c =
     record {
       threads = k.threads;
       counters = k.counters;

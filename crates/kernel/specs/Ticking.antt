@@ -2,14 +2,14 @@
 use Rattle.std.specs.Prelude.{ℕ, ◌-◌, cond, ◌==◌}
 use Rattle.kernel.specs.declared.records.Thread.{Thread}
 use Rattle.kernel.specs.declared.records.Kernel.{Kernel}
-use Rattle.kernel.specs.Numbers.{timedOut}
+use Rattle.kernel.specs.Numbers.{timed_out}
 use Rattle.kernel.specs.Walk.{each}
-use Rattle.kernel.specs.Tables.{usedRows, threadAt, withThread}
+use Rattle.kernel.specs.Tables.{used_rows, thread_at, with_thread}
 use Rattle.kernel.specs.Moves.{woken}
 
 -- one tick less; none stays none
-abbrev pub countedOff : Thread → Thread
-countedOff t =
+abbrev pub counted_off : Thread → Thread
+counted_off t =
     record {
       state = t.state;
       place = t.place;
@@ -24,9 +24,9 @@ countedOff t =
     }
 
 -- the last tick of a wait makes its thread ready
-abbrev pub tickedOne : ℕ → Kernel → Kernel
-tickedOne i k =
-    cond ((threadAt k i).remaining == 1) (woken k i timedOut) (withThread k i (countedOff (threadAt k i)))
+abbrev pub ticked_one : ℕ → Kernel → Kernel
+ticked_one i k =
+    cond ((thread_at k i).remaining == 1) (woken k i timed_out) (with_thread k i (counted_off (thread_at k i)))
 
 unfoldable pub ticked : Kernel → ℕ → Kernel
-ticked k n = each (usedRows n) tickedOne k
+ticked k n = each (used_rows n) ticked_one k

@@ -8,9 +8,9 @@ each zero f a = a
 each (suc n) f a = f n (each n f a)
 
 -- the first of the n indexes from i on that passes, or nobody
-unfoldable pub firstFrom : (ℕ → Bool) → ℕ → ℕ → ℕ
-firstFrom f i zero = nobody
-firstFrom f i (suc n) = cond (f i) i (firstFrom f (suc i) n)
+unfoldable pub first_from : (ℕ → Bool) → ℕ → ℕ → ℕ
+first_from f i zero = nobody
+first_from f i (suc n) = cond (f i) i (first_from f (suc i) n)
 
 -- all of the n indexes from i on pass
 unfoldable pub all_from : (ℕ → Bool) → ℕ → ℕ → Bool

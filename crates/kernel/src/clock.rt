@@ -1,7 +1,7 @@
 // The clock record that the host owns: system time and frequency.
 ghost use Rattle.std.specs.Prelude.{◌≡◌};
 ghost use Rattle.kernel.specs.Time.{advanced};
-ghost use Rattle.kernel.specs.Clock.{tickedClock};
+ghost use Rattle.kernel.specs.Clock.{ticked_clock};
 
 use crate::time::{Interval, SystemTime};
 
@@ -21,7 +21,7 @@ pub fn advance(t: SystemTime) -> SystemTime
 
 // The clock advanced by one tick where it lies.
 pub fn tick(clock: &mut Clock)
-    ensures { clock.new ≡ tickedClock clock.old }
+    ensures { clock.new ≡ ticked_clock clock.old }
 {
     let t = clock.time;
     let next = advance(t);

@@ -1,6 +1,6 @@
 // Plain sleeps: for an interval, and until a time.
 ghost use Rattle.std.specs.Prelude.{◌≡◌};
-ghost use Rattle.kernel.specs.Delay.{sleptFor, sleptUntil};
+ghost use Rattle.kernel.specs.Delay.{slept_for, slept_until};
 
 use crate::kinds::{KEPT_SLEEP_FOR, KEPT_SLEEP_UNTIL};
 use crate::moves::sleep;
@@ -10,7 +10,7 @@ use crate::time::{Interval, SystemTime, difference};
 
 // Thread i sleeps for an interval: chThdSleep. A step refuses 0 and infinite before they get here.
 pub fn sleep_for(k: Kernel, i: u8, d: Interval) -> Kernel
-    ensures { result ≡ sleptFor k i d }
+    ensures { result ≡ slept_for k i d }
 {
     let call = Call {
         kind: KEPT_SLEEP_FOR,
@@ -23,7 +23,7 @@ pub fn sleep_for(k: Kernel, i: u8, d: Interval) -> Kernel
 
 // Thread i sleeps from `now` until a time; its full timeout is the interval slept: chThdSleepUntil.
 pub fn sleep_until(k: Kernel, i: u8, now: SystemTime, until: SystemTime) -> Kernel
-    ensures { result ≡ sleptUntil k i now until }
+    ensures { result ≡ slept_until k i now until }
 {
     let d = difference(now, until);
     let call = Call {

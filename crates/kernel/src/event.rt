@@ -1,6 +1,6 @@
 // Event flags of a thread: signalled by anyone, taken by the thread that waits for them, when it goes on.
 ghost use Rattle.std.specs.Prelude.{◌≡◌};
-ghost use Rattle.kernel.specs.Event.{flagged, isMet, tookFlags, eventSignalled, eventWaited};
+ghost use Rattle.kernel.specs.Event.{flagged, is_met, took_flags, event_signalled, event_waited};
 
 use crate::moves::{block, finish, wake};
 use crate::numbers::{AWAITING, NOWHERE, OK};
@@ -18,14 +18,14 @@ fn flag(t: Thread, mask: u32) -> Thread
 
 // Whether the thread awaits any of the flags that are pending for it.
 fn is_met(t: Thread) -> bool
-    ensures { result ≡ isMet t }
+    ensures { result ≡ is_met t }
 {
     t.state == AWAITING && t.pending & t.awaited != 0
 }
 
 // Thread i takes its pending flags in `mask`: they are cleared, and are the datum of its call.
 pub fn take_flags(k: Kernel, i: u8, mask: u32) -> Kernel
-    ensures { result ≡ tookFlags k i mask }
+    ensures { result ≡ took_flags k i mask }
 {
     let threads = k.threads;
     let mut t = thread_at(threads, i);
@@ -37,7 +37,7 @@ pub fn take_flags(k: Kernel, i: u8, mask: u32) -> Kernel
 // The flags of `mask` are signalled to thread i; if it awaits any of those now pending it is made ready. They stay pending until
 // it goes on, and so do flags that come in between: chEvtSignalI.
 pub fn signal_events(k: Kernel, i: u8, mask: u32) -> Kernel
-    ensures { result ≡ eventSignalled k i mask }
+    ensures { result ≡ event_signalled k i mask }
 {
     let threads = k.threads;
     let t = flag(thread_at(threads, i), mask);
@@ -47,7 +47,7 @@ pub fn signal_events(k: Kernel, i: u8, mask: u32) -> Kernel
 
 // Thread i waits for any flag of the call's mask; those pending are taken at once: chEvtWaitAnyTimeout.
 pub fn wait_events(k: Kernel, i: u8, call: Call) -> Kernel
-    ensures { result ≡ eventWaited k i call }
+    ensures { result ≡ event_waited k i call }
 {
     let threads = k.threads;
     let t = thread_at(threads, i);

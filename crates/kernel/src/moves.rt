@@ -2,7 +2,7 @@
 // every operation finds a thread and makes one of these moves, so a wait begins and ends here and nowhere else.
 // They store what they change where it lies: each further call over whole tables would copy them, and a tick may make 16 moves.
 ghost use Rattle.std.specs.Prelude.{◌≡◌};
-ghost use Rattle.kernel.specs.Moves.{readied, ticksOf, awaitedBy, asleep, answered, woken, slept, finished, blocked};
+ghost use Rattle.kernel.specs.Moves.{readied, ticks_of, awaited_by, asleep, answered, woken, slept, finished, blocked};
 
 use crate::counters::{count_down, count_up};
 use crate::kinds::KEPT_EVENT_WAIT;
@@ -26,14 +26,14 @@ fn ready_row(t: Thread, m: i32, cause: u32, step: u32) -> Thread
 
 // The ticks that a timeout leaves to count: none for an infinite one.
 fn ticks_of(timeout: u32) -> u32
-    ensures { result ≡ ticksOf timeout }
+    ensures { result ≡ ticks_of timeout }
 {
     if timeout == INFINITE { 0 } else { timeout }
 }
 
 // The flags that a call waits for: the mask of an event wait.
 fn awaited_by(call: Call) -> u32
-    ensures { result ≡ awaitedBy call }
+    ensures { result ≡ awaited_by call }
 {
     if call.kind == KEPT_EVENT_WAIT {
         call.operand

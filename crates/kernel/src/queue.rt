@@ -1,6 +1,6 @@
 // Threads queues, at any place: a plain queue, a semaphore's or pool's waiters, one side of a mailbox.
 ghost use Rattle.std.specs.Prelude.{◌≡◌};
-ghost use Rattle.kernel.specs.Queue.{enqueued, releasedFirst, releasedAll};
+ghost use Rattle.kernel.specs.Queue.{enqueued, released_first, released_all};
 
 use crate::moves::{block, wake};
 use crate::numbers::{QUEUED, THREADS};
@@ -17,14 +17,14 @@ pub fn enqueue(k: Kernel, i: u8, place: u16, call: Call) -> Kernel
 
 // The first thread that waits at the place is made ready with m; with nobody there nothing changes: chThdDequeueNextI.
 pub fn release_first(k: Kernel, place: u16, m: i32) -> Kernel
-    ensures { result ≡ releasedFirst k place m }
+    ensures { result ≡ released_first k place m }
 {
     wake(k, first_waiter(k, place), m)
 }
 
 // All threads that wait at the place are made ready with m, in index order: chThdDequeueAllI.
 pub fn release_all(k: Kernel, place: u16, m: i32) -> Kernel
-    ensures { result ≡ releasedAll k place m }
+    ensures { result ≡ released_all k place m }
 {
     let words = k.words;
     let word = waiting_at(words, place as u32);

@@ -1,8 +1,8 @@
 // The kernel part's records. Plain numbers only, so that any bytes a host hands over are legal values.
 // What a host owns has C's layout and no padding: every byte belongs to a field.
 ghost use Rattle.std.specs.Prelude.{◌≡◌};
-ghost use Rattle.kernel.specs.Records.{noCall, noAnswer, blank, freshRecords, raised, begun, ended};
-ghost use Rattle.kernel.specs.Tables.{withCause};
+ghost use Rattle.kernel.specs.Records.{no_call, no_answer, blank, fresh_records, raised, begun, ended};
+ghost use Rattle.kernel.specs.Tables.{with_cause};
 
 use crate::kinds::KEPT_NONE;
 use crate::numbers::{CAUSE_NONE, LAST_STEP, NOBODY, NOWHERE, READY};
@@ -80,7 +80,7 @@ pub struct Kernel {
 }
 
 pub fn no_call() -> Call
-    ensures { result ≡ noCall }
+    ensures { result ≡ no_call }
 {
     Call {
         kind: KEPT_NONE,
@@ -91,7 +91,7 @@ pub fn no_call() -> Call
 }
 
 pub fn no_answer() -> Answer
-    ensures { result ≡ noAnswer }
+    ensures { result ≡ no_answer }
 {
     Answer {
         message: 0,
@@ -121,7 +121,7 @@ pub fn blank_thread() -> Thread
 
 // All threads ready, all references empty, all else 0; the words are those of so many threads as there are.
 pub fn fresh(words: Words) -> Records
-    ensures { result ≡ freshRecords words }
+    ensures { result ≡ fresh_records words }
 {
     let t = blank_thread();
     let threads = [t; 16];
@@ -145,7 +145,7 @@ fn raise(n: u32) -> u32
 
 // A step begins, whose wakings have this cause: it has its number, nobody is woken yet, and no call has finished.
 pub fn begin(r: Records, cause: u32) -> Kernel
-    ensures { result ≡ withCause (begun r) cause }
+    ensures { result ≡ with_cause (begun r) cause }
 {
     let threads = r.threads;
     let counters = r.counters;

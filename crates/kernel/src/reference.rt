@@ -1,6 +1,6 @@
 // Thread references: one thread may be suspended on each.
 ghost use Rattle.std.specs.Prelude.{◌≡◌};
-ghost use Rattle.kernel.specs.Reference.{suspendedOn, resumed};
+ghost use Rattle.kernel.specs.Reference.{suspended_on, resumed};
 
 use crate::moves::{block, wake};
 use crate::numbers::SUSPENDED;
@@ -9,7 +9,7 @@ use crate::tables::holder_at;
 
 // Thread i is suspended on a reference: chThdSuspendTimeoutS. A step refuses a held reference before it gets here.
 pub fn suspend(k: Kernel, i: u8, reference: u16, call: Call) -> Kernel
-    ensures { result ≡ suspendedOn k i reference call }
+    ensures { result ≡ suspended_on k i reference call }
 {
     block(k, i, SUSPENDED, reference, call)
 }

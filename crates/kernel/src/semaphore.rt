@@ -1,6 +1,6 @@
 // Counting semaphores, at any place: a semaphore's own, or the one beside a pool.
 ghost use Rattle.std.specs.Prelude.{◌≡◌};
-ghost use Rattle.kernel.specs.Semaphore.{taken, waited, signalled, resetTo};
+ghost use Rattle.kernel.specs.Semaphore.{taken, waited, signalled, reset_to};
 
 use crate::counters::{count_down, count_up};
 use crate::moves::finish;
@@ -57,7 +57,7 @@ pub fn signal(k: Kernel, place: u16) -> Signalled
 
 // All waiters are made ready with -2, and the counter becomes c: chSemResetI.
 pub fn reset(k: Kernel, place: u16, c: i32) -> Kernel
-    ensures { result ≡ resetTo k place c }
+    ensures { result ≡ reset_to k place c }
 {
     set_counter(release_all(k, place, WAS_RESET), place, c)
 }

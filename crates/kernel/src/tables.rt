@@ -1,14 +1,14 @@
 // A reader of each table, which is handed that table alone, and writers. Past a table's end a read gives the blank, and a write changes
 // nothing; so no caller ever meets a length. Outside this file only loops over rows and the moves index a table.
 ghost use Rattle.std.specs.Prelude.{◌≡◌};
-ghost use Rattle.kernel.specs.Tables.{usedRows, row_in, counterIn, holderIn, withThread, withCounter};
+ghost use Rattle.kernel.specs.Tables.{used_rows, row_in, counter_in, holder_in, with_thread, with_counter};
 
 use crate::numbers::{NOBODY, THREADS};
 use crate::records::{Kernel, Thread, blank_thread};
 
 // How many of n threads have a row.
 pub fn used_rows(n: u16) -> u8
-    ensures { result ≡ usedRows n }
+    ensures { result ≡ used_rows n }
 {
     if n < 16 { n as u8 } else { THREADS }
 }
@@ -21,7 +21,7 @@ pub fn thread_at(threads: [Thread; 16], i: u8) -> Thread
 }
 
 pub fn set_thread(k: Kernel, i: u8, t: Thread) -> Kernel
-    ensures { result ≡ withThread k i t }
+    ensures { result ≡ with_thread k i t }
 {
     let at = i as usize;
     let mut r = k;
@@ -32,14 +32,14 @@ pub fn set_thread(k: Kernel, i: u8, t: Thread) -> Kernel
 }
 
 pub fn counter_at(counters: [i32; 36], place: u16) -> i32
-    ensures { result ≡ counterIn counters place }
+    ensures { result ≡ counter_in counters place }
 {
     let at = place as usize;
     if at < 36 { counters[at] } else { 0 }
 }
 
 pub fn set_counter(k: Kernel, place: u16, c: i32) -> Kernel
-    ensures { result ≡ withCounter k place c }
+    ensures { result ≡ with_counter k place c }
 {
     let at = place as usize;
     let mut r = k;
@@ -51,7 +51,7 @@ pub fn set_counter(k: Kernel, place: u16, c: i32) -> Kernel
 
 // Whom a reference holds.
 pub fn holder_at(references: [u8; 8], reference: u16) -> u8
-    ensures { result ≡ holderIn references reference }
+    ensures { result ≡ holder_in references reference }
 {
     let at = reference as usize;
     if at < 8 { references[at] } else { NOBODY }

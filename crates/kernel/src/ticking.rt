@@ -1,7 +1,7 @@
 // The system tick over all threads: chSysTimerHandlerI. Rows are read and stored where they lie,
 // and whole tables change hands only where a thread is made ready.
 ghost use Rattle.std.specs.Prelude.{◌≡◌};
-ghost use Rattle.kernel.specs.Ticking.{countedOff, ticked};
+ghost use Rattle.kernel.specs.Ticking.{counted_off, ticked};
 
 use crate::moves::wake;
 use crate::numbers::TIMED_OUT;
@@ -10,7 +10,7 @@ use crate::tables::used_rows;
 
 // The row with one tick less, if it has any left.
 fn count_off(t: Thread) -> Thread
-    ensures { result ≡ countedOff t }
+    ensures { result ≡ counted_off t }
 {
     let mut r = t;
     if 0 < t.remaining {

@@ -2,7 +2,7 @@
 // TIME_I2US, one function each way over the unit. All round upward, so that no wait ends too soon.
 // A refused conversion has the code 6 and the value 0.
 ghost use Rattle.std.specs.Prelude.{◌≡◌};
-ghost use Rattle.kernel.specs.Units.{perSecond, frequencyOf, frequencyFits, roundedUp, inTicks, ofTicks};
+ghost use Rattle.kernel.specs.Units.{per_second, frequency_of, frequency_fits, rounded_up, in_ticks, of_ticks};
 
 use crate::numbers::{INFINITE, USUAL_FREQUENCY};
 use crate::time::Interval;
@@ -35,7 +35,7 @@ pub struct Units {
 
 // How many of a unit make a second.
 pub fn per_second(u: Unit) -> u64
-    ensures { result ≡ perSecond u }
+    ensures { result ≡ per_second u }
 {
     match u {
         Unit::Seconds => 1,
@@ -46,7 +46,7 @@ pub fn per_second(u: Unit) -> u64
 
 // The frequency in ticks a second: the usual one where none is given.
 pub fn frequency_of(r: Rate) -> u32
-    ensures { result ≡ frequencyOf r }
+    ensures { result ≡ frequency_of r }
 {
     match r {
         Rate::Given(f) => f,
@@ -56,14 +56,14 @@ pub fn frequency_of(r: Rate) -> u32
 
 // Whether a frequency is within 1 to 1,000,000.
 pub fn frequency_fits(f: u32) -> bool
-    ensures { result ≡ frequencyFits f }
+    ensures { result ≡ frequency_fits f }
 {
     1 <= f && f <= 1000000
 }
 
 // a / b, rounded upward; 0 where b is 0, which no caller here has.
 fn round_up(a: u64, b: u64) -> u64
-    ensures { result ≡ roundedUp a b }
+    ensures { result ≡ rounded_up a b }
 {
     if b == 0 {
         return 0;
@@ -73,7 +73,7 @@ fn round_up(a: u64, b: u64) -> u64
 
 // `x` of a unit as ticks; refused where the frequency is out of its range, or the ticks exceed the longest interval.
 pub fn to_ticks(u: Unit, x: u32, rate: Rate) -> Ticks
-    ensures { result ≡ inTicks u x rate }
+    ensures { result ≡ in_ticks u x rate }
 {
     let f = frequency_of(rate);
     if frequency_fits(f) {
@@ -93,7 +93,7 @@ pub fn to_ticks(u: Unit, x: u32, rate: Rate) -> Ticks
 
 // Ticks as a number of a unit; refused where the frequency is out of its range, or the interval is infinite.
 pub fn from_ticks(u: Unit, d: Interval, rate: Rate) -> Units
-    ensures { result ≡ ofTicks u d rate }
+    ensures { result ≡ of_ticks u d rate }
 {
     let f = frequency_of(rate);
     let n = d.0;

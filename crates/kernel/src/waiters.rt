@@ -1,7 +1,7 @@
 // Who is first: the running thread among the ready ones, the highest waiter of a place. Index 0 is highest in priority.
 // The words say it, and no record is read.
 ghost use Rattle.std.specs.Prelude.{◌≡◌};
-ghost use Rattle.kernel.specs.Waiters.{isReady, firstReady, callFree, runningFree, firstWaiter};
+ghost use Rattle.kernel.specs.Waiters.{is_ready, first_ready, call_free, running_free, first_waiter};
 
 use crate::kinds::KEPT_NONE;
 use crate::numbers::READY;
@@ -9,14 +9,14 @@ use crate::records::{Kernel, Thread};
 use crate::words::{first_in, waiting_at};
 
 pub fn is_ready(t: Thread) -> bool
-    ensures { result ≡ isReady t }
+    ensures { result ≡ is_ready t }
 {
     t.state == READY
 }
 
 // The running thread: the first that is ready, or NOBODY for idle.
 pub fn first_ready(k: Kernel) -> u8
-    ensures { result ≡ firstReady k }
+    ensures { result ≡ first_ready k }
 {
     let words = k.words;
     first_in(words.ready)
@@ -24,7 +24,7 @@ pub fn first_ready(k: Kernel) -> u8
 
 // Whether thread i has no unfinished call; NOBODY has none.
 pub fn is_free(threads: [Thread; 16], i: u8) -> bool
-    ensures { result ≡ callFree threads i }
+    ensures { result ≡ call_free threads i }
 {
     let at = i as usize;
     if at < 16 {
@@ -38,7 +38,7 @@ pub fn is_free(threads: [Thread; 16], i: u8) -> bool
 
 // Whether the running thread has no unfinished call.
 pub fn running_free(k: Kernel) -> bool
-    ensures { result ≡ runningFree k }
+    ensures { result ≡ running_free k }
 {
     let i = first_ready(k);
     let threads = k.threads;
@@ -47,7 +47,7 @@ pub fn running_free(k: Kernel) -> bool
 
 // The first thread that is queued at a place, or NOBODY.
 pub fn first_waiter(k: Kernel, place: u16) -> u8
-    ensures { result ≡ firstWaiter k place }
+    ensures { result ≡ first_waiter k place }
 {
     let words = k.words;
     first_in(waiting_at(words, place as u32))

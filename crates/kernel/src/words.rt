@@ -1,7 +1,7 @@
 // Words beside the records: bit i of a word stands for thread i. One word says who is ready, and one for each place who waits there.
 // The two moves keep them, by `note_ready` and `note_asleep`; nothing else writes a word.
 ghost use Rattle.std.specs.Prelude.{◌≡◌};
-ghost use Rattle.kernel.specs.Words.{hasBit, onesOf, first_of, bitValue, withBit, withoutBit, allReady, freshWords, waitingAt, notedReady, notedAsleep};
+ghost use Rattle.kernel.specs.Words.{has_bit, ones_of, first_of, bit_value, with_bit, without_bit, all_ready, fresh_words, waiting_at, noted_ready, noted_asleep};
 
 use crate::numbers::{NOBODY, QUEUED, THREADS};
 use crate::records::Words;
@@ -9,26 +9,26 @@ use crate::tables::used_rows;
 
 // What bit i counts; a word has no bit from 16 on.
 pub fn bit_value(i: u8) -> u16
-    ensures { result ≡ bitValue i }
+    ensures { result ≡ bit_value i }
 {
     if i < THREADS { 1u16 << i } else { 0 }
 }
 
 fn with_bit(w: u16, i: u8) -> u16
-    ensures { result ≡ withBit w i }
+    ensures { result ≡ with_bit w i }
 {
     w | bit_value(i)
 }
 
 fn without_bit(w: u16, i: u8) -> u16
-    ensures { result ≡ withoutBit w i }
+    ensures { result ≡ without_bit w i }
 {
     w ^ (w & bit_value(i))
 }
 
 // Whether a word names thread i.
 pub fn has_bit(w: u16, i: u8) -> bool
-    ensures { result ≡ hasBit w i }
+    ensures { result ≡ has_bit w i }
 {
     if i < THREADS {
         (w >> i) % 2 == 1
@@ -39,7 +39,7 @@ pub fn has_bit(w: u16, i: u8) -> bool
 
 // How many threads a word names.
 pub fn count_in(w: u16) -> u8
-    ensures { result ≡ onesOf w }
+    ensures { result ≡ ones_of w }
 {
     u16::count_ones(w) as u8
 }
@@ -54,7 +54,7 @@ pub fn first_in(w: u16) -> u8
 
 // The ready word of n threads that are all ready.
 fn all_ready(n: u16) -> u16
-    ensures { result ≡ allReady n }
+    ensures { result ≡ all_ready n }
 {
     let end = used_rows(n);
     let past = 1u32 << end;
@@ -63,7 +63,7 @@ fn all_ready(n: u16) -> u16
 
 // All of n threads ready, nobody waiting.
 pub fn fresh_words(n: u16) -> Words
-    ensures { result ≡ freshWords n }
+    ensures { result ≡ fresh_words n }
 {
     let ready = all_ready(n);
     let waiting = [0; 36];
@@ -76,7 +76,7 @@ pub fn fresh_words(n: u16) -> Words
 
 // Who waits at a place; nobody past all places.
 pub fn waiting_at(w: Words, place: u32) -> u16
-    ensures { result ≡ waitingAt w place }
+    ensures { result ≡ waiting_at w place }
 {
     let at = place as usize;
     if at < 36 { w.waiting[at] } else { 0 }
@@ -84,7 +84,7 @@ pub fn waiting_at(w: Words, place: u32) -> u16
 
 // Thread i was in a state at a place, and is ready.
 pub fn note_ready(w: Words, i: u8, state: u16, place: u16) -> Words
-    ensures { result ≡ notedReady w i state place }
+    ensures { result ≡ noted_ready w i state place }
 {
     let at = place as usize;
     let mut r = w;
@@ -100,7 +100,7 @@ pub fn note_ready(w: Words, i: u8, state: u16, place: u16) -> Words
 
 // Thread i is in a state at a place, and no more ready.
 pub fn note_asleep(w: Words, i: u8, state: u16, place: u16) -> Words
-    ensures { result ≡ notedAsleep w i state place }
+    ensures { result ≡ noted_asleep w i state place }
 {
     let at = place as usize;
     let mut r = w;

@@ -4,9 +4,9 @@ use native.Mathlib.Omega.{arith}
 use mathlib.Core.Bool.{◌||◌}
 use lib.Dec.{eqb}
 use Rattle.kernel.proofs.Cases.{chosen}
-use Rattle.library.specs.Causes.{signals, causeOf}
+use Rattle.library.specs.Causes.{signals, cause_of}
 
-pub cause-listed : (kind : ℕ) → causeOf kind ≤ 8
+pub cause-listed : (kind : ℕ) → cause_of kind ≤ 8
 cause-listed kind =
     let P : ℕ → Type 0 = λ c. c ≤ 8 in
     chosen P (signals kind) (λ e. omega arith)

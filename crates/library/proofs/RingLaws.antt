@@ -7,7 +7,7 @@ use lib.Dec.{eqb, leb, ltb}
 use borrow.Author.Tests.{eqb-true, eq-eqb, ltb-true, lt-ltb, leb-true, le-leb}
 use Rattle.kernel.proofs.Cases.{both_true, both-means}
 use Rattle.library.specs.declared.ring.Positions.{Positions}
-use Rattle.library.specs.Ring.{inRing, follows, positionsFit}
+use Rattle.library.specs.Ring.{in_ring, follows, positions_fit}
 
 -- the rules, for a ring of so many slots
 pub record Fitting (q : Positions) (slots : ℕ) : Type 0 where
@@ -19,10 +19,10 @@ pub record Fitting (q : Positions) (slots : ℕ) : Type 0 where
   pub follows : q.write ≡ (q.read + q.count) % slots
 
 module _ (q : Positions) (slots : ℕ) where
-  pub fit-means : positionsFit q slots ≡ true → Fitting q slots
-  unfolding positionsFit
+  pub fit-means : positions_fit q slots ≡ true → Fitting q slots
+  unfolding positions_fit
   fit-means e =
-      let a = both-means (inRing q slots) (follows q slots) e in
+      let a = both-means (in_ring q slots) (follows q slots) e in
       let b = both-means (leb q.count slots) (ltb q.read slots && ltb q.write slots) a.0 in
       let c = both-means (ltb q.read slots) (ltb q.write slots) b.1 in
       let d = both-means (ltb 0 slots) (eqb q.write ((q.read + q.count) % slots)) a.1 in
@@ -33,8 +33,8 @@ module _ (q : Positions) (slots : ℕ) where
         follows = eqb-true q.write ((q.read + q.count) % slots) d.1;
       }
 
-  pub fit_of : Fitting q slots → positionsFit q slots ≡ true
-  unfolding positionsFit
+  pub fit_of : Fitting q slots → positions_fit q slots ≡ true
+  unfolding positions_fit
   fit_of g =
       both_true
       (both_true (le-leb q.count slots g.count)

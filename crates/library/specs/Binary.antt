@@ -2,8 +2,8 @@
 use Rattle.std.specs.Prelude.{ℕ, cond, pos}
 use Rattle.std.specs.Int.Signed.{lt_z}
 use Rattle.kernel.specs.declared.records.Kernel.{Kernel}
-use Rattle.kernel.specs.Tables.{counterAt}
+use Rattle.kernel.specs.Tables.{counter_at}
 use Rattle.kernel.specs.Semaphore.{signalled}
 
-unfoldable pub binarySignalled : Kernel → ℕ → Kernel
-binarySignalled k p = cond (lt_z (counterAt k p) (pos 1)) (signalled k p).kernel k
+unfoldable pub binary_signalled : Kernel → ℕ → Kernel
+binary_signalled k p = cond (lt_z (counter_at k p) (pos 1)) (signalled k p).kernel k

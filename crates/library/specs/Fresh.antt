@@ -2,36 +2,36 @@
 use Rattle.std.specs.Prelude.{ℕ, cond, replicate}
 use Rattle.kernel.specs.declared.clock.Clock.{Clock}
 use Rattle.kernel.specs.declared.units.Rate.{Rate}
-use Rattle.kernel.specs.Records.{freshRecords}
-use Rattle.kernel.specs.Units.{frequencyOf, frequencyFits}
-use Rattle.kernel.specs.Words.{freshWords}
+use Rattle.kernel.specs.Records.{fresh_records}
+use Rattle.kernel.specs.Units.{frequency_of, frequency_fits}
+use Rattle.kernel.specs.Words.{fresh_words}
 use Rattle.library.specs.declared.sizes.Sizes.{Sizes}
 use Rattle.library.specs.declared.tables.Tables.{Tables}
 use Rattle.library.specs.declared.fresh.Made.{Made}
-use Rattle.library.specs.Sizes.{sizesFit, noSizes}
-use Rattle.library.specs.Tables.{blankMailbox, blankPool}
+use Rattle.library.specs.Sizes.{sizes_fit, no_sizes}
+use Rattle.library.specs.Tables.{blank_mailbox, blank_pool}
 
-abbrev pub freshTables : Sizes → Tables
-freshTables z =
+abbrev pub fresh_tables : Sizes → Tables
+fresh_tables z =
     record {
-      kernel = freshRecords (freshWords z.threads);
-      mailboxes = replicate 4 blankMailbox;
-      pools = replicate 4 blankPool;
+      kernel = fresh_records (fresh_words z.threads);
+      mailboxes = replicate 4 blank_mailbox;
+      pools = replicate 4 blank_pool;
       sizes = z;
     }
 
-abbrev pub freshClock : ℕ → Clock
-freshClock f = record { time = record { 0 = 0 }; frequency = f }
+abbrev pub fresh_clock : ℕ → Clock
+fresh_clock f = record { time = record { 0 = 0 }; frequency = f }
 
 -- a refusal gives the tables of no sizes
-abbrev pub notMade : ℕ → Made
-notMade code = record { code = code; tables = freshTables noSizes; clock = freshClock 0 }
+abbrev pub not_made : ℕ → Made
+not_made code = record { code = code; tables = fresh_tables no_sizes; clock = fresh_clock 0 }
 
 -- 14 for "a size out of its limits", then 6 for "a frequency outside its range"
 unfoldable pub made : Sizes → Rate → Made
 made z r =
-    cond (sizesFit z)
-    (cond (frequencyFits (frequencyOf r))
-    (record { code = 0; tables = freshTables z; clock = freshClock (frequencyOf r) })
-    (notMade 6))
-    (notMade 14)
+    cond (sizes_fit z)
+    (cond (frequency_fits (frequency_of r))
+    (record { code = 0; tables = fresh_tables z; clock = fresh_clock (frequency_of r) })
+    (not_made 6))
+    (not_made 14)

@@ -4,27 +4,27 @@ use Rattle.library.specs.declared.ring.Positions.{Positions}
 use Rattle.library.specs.declared.ring.Placed.{Placed}
 
 -- "places, counts (a mailbox's 0 to its slots) .. are in range"
-abbrev pub inRing : Positions → ℕ → Bool
-inRing q slots = leb q.count slots && (ltb q.read slots && ltb q.write slots)
+abbrev pub in_ring : Positions → ℕ → Bool
+in_ring q slots = leb q.count slots && (ltb q.read slots && ltb q.write slots)
 
 -- "A mailbox's write place is its read place plus its count, modulo slots"; there are slots
 abbrev pub follows : Positions → ℕ → Bool
 follows q slots = ltb 0 slots && eqb q.write ((q.read + q.count) % slots)
 
 -- both rules of the positions
-unfoldable pub positionsFit : Positions → ℕ → Bool
-positionsFit q slots = inRing q slots && follows q slots
+unfoldable pub positions_fit : Positions → ℕ → Bool
+positions_fit q slots = in_ring q slots && follows q slots
 
 -- no slot: no room, or no message
 abbrev pub no_slot : ℕ
 no_slot = 255
 
 -- the next place in a ring, and the one before
-abbrev pub placeAfter : ℕ → ℕ → ℕ
-placeAfter p slots = cond (ltb (p + 1) slots) (p + 1) 0
+abbrev pub place_after : ℕ → ℕ → ℕ
+place_after p slots = cond (ltb (p + 1) slots) (p + 1) 0
 
-abbrev pub placeBefore : ℕ → ℕ → ℕ
-placeBefore p slots = cond (ltb 0 p) (p - 1) (slots - 1)
+abbrev pub place_before : ℕ → ℕ → ℕ
+place_before p slots = cond (ltb 0 p) (p - 1) (slots - 1)
 
 -- "With room, post writes at the write place"
 unfoldable pub posted : Positions → ℕ → Placed
@@ -32,17 +32,17 @@ posted q slots =
     cond (ltb q.count slots)
     (record {
       slot = q.write;
-      positions = record { read = q.read; write = placeAfter q.write slots; count = q.count + 1 };
+      positions = record { read = q.read; write = place_after q.write slots; count = q.count + 1 };
     })
     (record { slot = no_slot; positions = q })
 
 -- "ahead steps the read place back and writes there"
-unfoldable pub postedAhead : Positions → ℕ → Placed
-postedAhead q slots =
+unfoldable pub posted_ahead : Positions → ℕ → Placed
+posted_ahead q slots =
     cond (ltb q.count slots)
     (record {
-      slot = placeBefore q.read slots;
-      positions = record { read = placeBefore q.read slots; write = q.write; count = q.count + 1 };
+      slot = place_before q.read slots;
+      positions = record { read = place_before q.read slots; write = q.write; count = q.count + 1 };
     })
     (record { slot = no_slot; positions = q })
 
@@ -52,7 +52,7 @@ fetched q slots =
     cond (ltb 0 q.count)
     (record {
       slot = q.read;
-      positions = record { read = placeAfter q.read slots; write = q.write; count = q.count - 1 };
+      positions = record { read = place_after q.read slots; write = q.write; count = q.count - 1 };
     })
     (record { slot = no_slot; positions = q })
 

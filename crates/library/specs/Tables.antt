@@ -8,13 +8,13 @@ use Rattle.library.specs.declared.tables.Tables.{Tables}
 use Rattle.library.specs.declared.tables.Plant.{Plant}
 
 -- "mailboxes empty"
-abbrev pub blankMailbox : Mailbox
-blankMailbox =
+abbrev pub blank_mailbox : Mailbox
+blank_mailbox =
     record { positions = record { read = 0; write = 0; count = 0 }; reset = 0; messages = replicate 16 0 }
 
 -- "pool objects absent"
-abbrev pub blankPool : Pool
-blankPool = record { length = 0; list = replicate 32 0; marks = replicate 32 0 }
+abbrev pub blank_pool : Pool
+blank_pool = record { length = 0; list = replicate 32 0; marks = replicate 32 0 }
 
 -- a step begins
 abbrev pub opened : Tables → Plant
@@ -36,23 +36,23 @@ closed p =
       sizes = p.sizes;
     }
 
-abbrev pub mailboxIn : List Mailbox → ℕ → Mailbox
-mailboxIn mailboxes i = get_or mailboxes i blankMailbox
+abbrev pub mailbox_in : List Mailbox → ℕ → Mailbox
+mailbox_in mailboxes i = get_or mailboxes i blank_mailbox
 
-abbrev pub mailboxAt : Plant → ℕ → Mailbox
-mailboxAt p i = mailboxIn p.mailboxes i
+abbrev pub mailbox_at : Plant → ℕ → Mailbox
+mailbox_at p i = mailbox_in p.mailboxes i
 
-abbrev pub poolIn : List Pool → ℕ → Pool
-poolIn pools i = get_or pools i blankPool
+abbrev pub pool_in : List Pool → ℕ → Pool
+pool_in pools i = get_or pools i blank_pool
 
-abbrev pub poolAt : Plant → ℕ → Pool
-poolAt p i = poolIn p.pools i
+abbrev pub pool_at : Plant → ℕ → Pool
+pool_at p i = pool_in p.pools i
 
-abbrev pub withKernel : Plant → Kernel → Plant
-withKernel p k = record { kernel = k; mailboxes = p.mailboxes; pools = p.pools; sizes = p.sizes }
+abbrev pub with_kernel : Plant → Kernel → Plant
+with_kernel p k = record { kernel = k; mailboxes = p.mailboxes; pools = p.pools; sizes = p.sizes }
 
-abbrev pub withMailbox : Plant → ℕ → Mailbox → Plant
-withMailbox p i b =
+abbrev pub with_mailbox : Plant → ℕ → Mailbox → Plant
+with_mailbox p i b =
     record {
       kernel = p.kernel;
       mailboxes = set p.mailboxes i b;
@@ -60,8 +60,8 @@ withMailbox p i b =
       sizes = p.sizes;
     }
 
-abbrev pub withPool : Plant → ℕ → Pool → Plant
-withPool p i x =
+abbrev pub with_pool : Plant → ℕ → Pool → Plant
+with_pool p i x =
     record {
       kernel = p.kernel;
       mailboxes = p.mailboxes;

@@ -1,6 +1,6 @@
 // What an accepted step does before settling: each kind either finishes the caller's call or puts it to sleep.
 ghost use Rattle.std.specs.Prelude.{◌≡◌};
-ghost use Rattle.library.specs.Acting.{signalMessage, signalActed, callMade, effected, kernelWaits, answersItself, actedOnKernel, boxEffected, actedOnBox};
+ghost use Rattle.library.specs.Acting.{signal_message, signal_acted, call_made, effected, kernel_waits, answers_itself, acted_on_kernel, box_effected, acted_on_box};
 
 use crate::binary::binary_signal;
 use crate::calls::{Step, as_signed, call_of};
@@ -27,14 +27,14 @@ use kernel::time::{Interval, SystemTime};
 
 // What a plain signal answers, by whether it counted.
 fn signal_message(counted: bool) -> i32
-    ensures { result ≡ signalMessage counted }
+    ensures { result ≡ signal_message counted }
 {
     if counted { OK } else { NOT_COUNTED }
 }
 
 // 3: a signal at the top is answered with 1, any other with 0: chSemSignal, chSemSignalI.
 fn act_signal(k: Kernel, i: u8, place: u16) -> Kernel
-    ensures { result ≡ signalActed k i place }
+    ensures { result ≡ signal_acted k i place }
 {
     let done = signal(k, place);
     finish(done.kernel, i, signal_message(done.counted), 0)
@@ -42,7 +42,7 @@ fn act_signal(k: Kernel, i: u8, place: u16) -> Kernel
 
 // The kernel part's calls that have an answer of their own: 2, 3, 6, 9, 11, 12 and 14. All but 3 may sleep.
 fn make_call(k: Kernel, now: SystemTime, s: Step) -> Kernel
-    ensures { result ≡ callMade k now s }
+    ensures { result ≡ call_made k now s }
 {
     let kind = s.kind;
     let object = s.object as u16;
@@ -77,7 +77,7 @@ fn effect(k: Kernel, n: u16, s: Step) -> Kernel
 
 // Whether a kind of 1 to 14 is one that may sleep.
 pub fn is_kernel_wait(kind: u8) -> bool
-    ensures { result ≡ kernelWaits kind }
+    ensures { result ≡ kernel_waits kind }
 {
     let late = either(
         kind == SLEEP_FOR,
@@ -91,14 +91,14 @@ pub fn is_kernel_wait(kind: u8) -> bool
 
 // Whether a kind of 1 to 14 has an answer of its own.
 fn answers_itself(kind: u8) -> bool
-    ensures { result ≡ answersItself kind }
+    ensures { result ≡ answers_itself kind }
 {
     either(kind == SIGNAL, is_kernel_wait(kind))
 }
 
 // An accepted step of kinds 1 to 14 acts. `now` is the time before the step.
 pub fn act_on_kernel(k: Kernel, n: u16, now: SystemTime, s: Step) -> Kernel
-    ensures { result ≡ actedOnKernel k n now s }
+    ensures { result ≡ acted_on_kernel k n now s }
 {
     if answers_itself(s.kind) {
         make_call(k, now, s)
@@ -109,7 +109,7 @@ pub fn act_on_kernel(k: Kernel, n: u16, now: SystemTime, s: Step) -> Kernel
 
 // The library part's calls that never sleep: 18, 19, 21 and 22.
 fn effect_on_box(p: Plant, s: Step) -> Plant
-    ensures { result ≡ boxEffected p s }
+    ensures { result ≡ box_effected p s }
 {
     let kind = s.kind;
     let object = s.object as u16;
@@ -122,7 +122,7 @@ fn effect_on_box(p: Plant, s: Step) -> Plant
 
 // An accepted step of kinds 15 to 22 acts.
 pub fn act_on_box(p: Plant, s: Step) -> Plant
-    ensures { result ≡ actedOnBox p s }
+    ensures { result ≡ acted_on_box p s }
 {
     let kind = s.kind;
     let call = call_of(s);

@@ -2,7 +2,7 @@
 ghost use Rattle.std.specs.Prelude.{◌≡◌};
 ghost use Rattle.std.specs.Int.{w32};
 ghost use Rattle.std.proofs.Common.{to_z};
-ghost use Rattle.library.specs.Calls.{keepsOperand, objectOf, operandOf, call_of};
+ghost use Rattle.library.specs.Calls.{keeps_operand, object_of, operand_of, call_of};
 
 use crate::logic::either;
 use kernel::kinds::{KEPT_EVENT_WAIT, KEPT_POST, KEPT_POST_AHEAD, KEPT_SLEEP_UNTIL};
@@ -31,7 +31,7 @@ pub fn as_signed(a: u32) -> i32
 
 // Whether a call of this kind keeps its operand: a sleep's time, an event wait's mask, a post's message.
 pub fn keeps_operand(kind: u16) -> bool
-    ensures { result ≡ keepsOperand kind }
+    ensures { result ≡ keeps_operand kind }
 {
     let post = either(kind == KEPT_POST, kind == KEPT_POST_AHEAD);
     either(
@@ -42,7 +42,7 @@ pub fn keeps_operand(kind: u16) -> bool
 
 // The object that a call keeps: none for an event wait.
 fn object_of(s: Step) -> u16
-    ensures { result ≡ objectOf s }
+    ensures { result ≡ object_of s }
 {
     if s.kind as u16 == KEPT_EVENT_WAIT {
         0
@@ -53,7 +53,7 @@ fn object_of(s: Step) -> u16
 
 // The operand that a call keeps.
 fn operand_of(s: Step) -> u32
-    ensures { result ≡ operandOf s }
+    ensures { result ≡ operand_of s }
 {
     if keeps_operand(s.kind as u16) { s.a } else { 0 }
 }

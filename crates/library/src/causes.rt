@@ -1,6 +1,6 @@
 // Why a thread woke: the cause that a call has for whomever it wakes, by its kind. `wake` stores it.
 ghost use Rattle.std.specs.Prelude.{◌≡◌};
-ghost use Rattle.library.specs.Causes.{causeOf};
+ghost use Rattle.library.specs.Causes.{cause_of};
 
 use kernel::kinds::{
     ADD_CALL, BINARY_SIGNAL_CALL, EVENT_SIGNAL_CALL, FREE_CALL, KEPT_FETCH, KEPT_POST,
@@ -15,7 +15,7 @@ use kernel::numbers::{
 // The cause by the kind of a step or of a call that is continued. A pool's free and add count as signals; the kinds that wake nobody
 // have none.
 pub fn cause_of(kind: u16) -> u32
-    ensures { result ≡ causeOf kind }
+    ensures { result ≡ cause_of kind }
 {
     match kind {
         TICK_CALL => CAUSE_TICK,

@@ -1,6 +1,6 @@
 // Fresh tables: all threads ready, as the ready word says; references and mailboxes empty, pool objects absent, all else 0.
 ghost use Rattle.std.specs.Prelude.{◌≡◌};
-ghost use Rattle.library.specs.Fresh.{freshTables, freshClock, notMade, made};
+ghost use Rattle.library.specs.Fresh.{fresh_tables, fresh_clock, not_made, made};
 
 use crate::sizes::{Sizes, no_sizes, sizes_fit};
 use crate::tables::{Tables, blank_mailbox, blank_pool};
@@ -18,7 +18,7 @@ pub struct Made {
 }
 
 fn tables_of(sizes: Sizes) -> Tables
-    ensures { result ≡ freshTables sizes }
+    ensures { result ≡ fresh_tables sizes }
 {
     let words = fresh_words(sizes.threads);
     let kernel = kernel::records::fresh(words);
@@ -35,7 +35,7 @@ fn tables_of(sizes: Sizes) -> Tables
 }
 
 fn clock_of(frequency: u32) -> Clock
-    ensures { result ≡ freshClock frequency }
+    ensures { result ≡ fresh_clock frequency }
 {
     Clock {
         time: SystemTime(0),
@@ -44,7 +44,7 @@ fn clock_of(frequency: u32) -> Clock
 }
 
 fn refuse(code: u8) -> Made
-    ensures { result ≡ notMade code }
+    ensures { result ≡ not_made code }
 {
     let tables = tables_of(no_sizes());
     let clock = clock_of(0);

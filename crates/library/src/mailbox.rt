@@ -2,18 +2,18 @@
 // A thread's own call and its continuation after a waking run the same function, so a retry sleeps with its full timeout.
 ghost use Rattle.std.specs.Prelude.{◌≡◌};
 ghost use Rattle.library.specs.Mailbox.{
-  messageAt,
-  withMessage,
-  withPositions,
-  withReset,
-  placedFor,
-  bothReleased,
-  postDone,
-  postTried,
-  fetchDone,
-  fetchTried,
-  mailboxReset,
-  mailboxResumed,
+  message_at,
+  with_message,
+  with_positions,
+  with_reset,
+  placed_for,
+  both_released,
+  post_done,
+  post_tried,
+  fetch_done,
+  fetch_tried,
+  mailbox_reset,
+  mailbox_resumed,
 };
 
 use crate::numbers::NO_SLOT;
@@ -29,14 +29,14 @@ use kernel::records::{Call, Kernel};
 
 // The message in a slot; 0 past the slots.
 pub fn message_at(b: Mailbox, slot: u16) -> u32
-    ensures { result ≡ messageAt b slot }
+    ensures { result ≡ message_at b slot }
 {
     let at = slot as usize;
     if at < 16 { b.messages[at] } else { 0 }
 }
 
 fn set_message(b: Mailbox, slot: u16, x: u32) -> Mailbox
-    ensures { result ≡ withMessage b slot x }
+    ensures { result ≡ with_message b slot x }
 {
     let at = slot as usize;
     let mut r = b;
@@ -47,7 +47,7 @@ fn set_message(b: Mailbox, slot: u16, x: u32) -> Mailbox
 }
 
 fn set_positions(b: Mailbox, q: Positions) -> Mailbox
-    ensures { result ≡ withPositions b q }
+    ensures { result ≡ with_positions b q }
 {
     let mut r = b;
     r.positions = q;
@@ -55,7 +55,7 @@ fn set_positions(b: Mailbox, q: Positions) -> Mailbox
 }
 
 fn set_reset(b: Mailbox, state: u16) -> Mailbox
-    ensures { result ≡ withReset b state }
+    ensures { result ≡ with_reset b state }
 {
     let mut r = b;
     r.reset = state;
@@ -64,7 +64,7 @@ fn set_reset(b: Mailbox, state: u16) -> Mailbox
 
 // Where a message goes: at the write place, or ahead of the read place.
 fn place_for(b: Mailbox, kind: u16, slots: u16) -> Placed
-    ensures { result ≡ placedFor b kind slots }
+    ensures { result ≡ placed_for b kind slots }
 {
     let q = b.positions;
     if kind == KEPT_POST_AHEAD {
@@ -76,7 +76,7 @@ fn place_for(b: Mailbox, kind: u16, slots: u16) -> Placed
 
 // The post of a call has a slot: the message goes in, and the first reader is released.
 fn end_post(p: Plant, i: u8, call: Call, placed: Placed) -> Plant
-    ensures { result ≡ postDone p i call placed }
+    ensures { result ≡ post_done p i call placed }
 {
     let mailboxes = p.mailboxes;
     let b = mailbox_at(mailboxes, call.object);
@@ -91,7 +91,7 @@ fn end_post(p: Plant, i: u8, call: Call, placed: Placed) -> Plant
 
 // Thread i, or an interrupt, posts the operand of a call: chMBPostTimeoutS, chMBPostAheadTimeoutS.
 pub fn try_post(p: Plant, i: u8, call: Call) -> Plant
-    ensures { result ≡ postTried p i call }
+    ensures { result ≡ post_tried p i call }
 {
     let mailboxes = p.mailboxes;
     let b = mailbox_at(mailboxes, call.object);
@@ -107,7 +107,7 @@ pub fn try_post(p: Plant, i: u8, call: Call) -> Plant
 
 // The fetch of a call has a slot: the message comes out, and the first writer is released.
 fn end_fetch(p: Plant, i: u8, call: Call, placed: Placed) -> Plant
-    ensures { result ≡ fetchDone p i call placed }
+    ensures { result ≡ fetch_done p i call placed }
 {
     let mailboxes = p.mailboxes;
     let b = mailbox_at(mailboxes, call.object);
@@ -119,7 +119,7 @@ fn end_fetch(p: Plant, i: u8, call: Call, placed: Placed) -> Plant
 
 // Thread i, or an interrupt, fetches a message, which is the datum of its call: chMBFetchTimeoutS.
 pub fn try_fetch(p: Plant, i: u8, call: Call) -> Plant
-    ensures { result ≡ fetchTried p i call }
+    ensures { result ≡ fetch_tried p i call }
 {
     let mailboxes = p.mailboxes;
     let b = mailbox_at(mailboxes, call.object);
@@ -136,7 +136,7 @@ pub fn try_fetch(p: Plant, i: u8, call: Call) -> Plant
 
 // Both queues of a mailbox are released with -2, writers first.
 fn release_both(k: Kernel, number: u16) -> Kernel
-    ensures { result ≡ bothReleased k number }
+    ensures { result ≡ both_released k number }
 {
     let writers = release_all(k, writers_place(number), WAS_RESET);
     release_all(writers, readers_place(number), WAS_RESET)
@@ -144,7 +144,7 @@ fn release_both(k: Kernel, number: u16) -> Kernel
 
 // A mailbox is emptied and goes into reset state; all who wait on it are made ready with -2: chMBResetI.
 pub fn reset_mailbox(p: Plant, number: u16) -> Plant
-    ensures { result ≡ mailboxReset p number }
+    ensures { result ≡ mailbox_reset p number }
 {
     let mailboxes = p.mailboxes;
     let b = mailbox_at(mailboxes, number);
@@ -157,7 +157,7 @@ pub fn reset_mailbox(p: Plant, number: u16) -> Plant
 
 // A mailbox leaves reset state: chMBResumeX.
 pub fn resume_mailbox(p: Plant, number: u16) -> Plant
-    ensures { result ≡ mailboxResumed p number }
+    ensures { result ≡ mailbox_resumed p number }
 {
     let mailboxes = p.mailboxes;
     set_mailbox(p, number, set_reset(mailbox_at(mailboxes, number), 0))

@@ -1,7 +1,7 @@
 // Guarded pools: a semaphore beside a last-in first-out list of free objects.
 // Alloc goes by the counter and never by the list: an object that is promised to a woken thread is still listed, and is not given away.
 ghost use Rattle.std.specs.Prelude.{◌≡◌};
-ghost use Rattle.library.specs.Pool.{listed_at, markAt, withListed, withMark, withLength, top_of, popped, pushed, handedOver, allocTried, put_back};
+ghost use Rattle.library.specs.Pool.{listed_at, mark_at, with_listed, with_mark, with_length, top_of, popped, pushed, handed_over, alloc_tried, put_back};
 
 use crate::numbers::{FREE_MARK, OUT};
 use crate::tables::{Plant, Pool, pool_at, set_kernel, set_pool};
@@ -22,7 +22,7 @@ pub fn listed_at(x: Pool, i: u16) -> u8
 }
 
 fn set_listed(x: Pool, i: u16, o: u8) -> Pool
-    ensures { result ≡ withListed x i o }
+    ensures { result ≡ with_listed x i o }
 {
     let at = i as usize;
     let mut r = x;
@@ -34,14 +34,14 @@ fn set_listed(x: Pool, i: u16, o: u8) -> Pool
 
 // An object's mark; absent past the objects.
 pub fn mark_at(x: Pool, o: u8) -> u8
-    ensures { result ≡ markAt x o }
+    ensures { result ≡ mark_at x o }
 {
     let at = o as usize;
     if at < 32 { x.marks[at] } else { 0 }
 }
 
 fn set_mark(x: Pool, o: u8, mark: u8) -> Pool
-    ensures { result ≡ withMark x o mark }
+    ensures { result ≡ with_mark x o mark }
 {
     let at = o as usize;
     let mut r = x;
@@ -52,7 +52,7 @@ fn set_mark(x: Pool, o: u8, mark: u8) -> Pool
 }
 
 fn set_length(x: Pool, length: u16) -> Pool
-    ensures { result ≡ withLength x length }
+    ensures { result ≡ with_length x length }
 {
     let mut r = x;
     r.length = length;
@@ -98,7 +98,7 @@ fn push(x: Pool, o: u8) -> Pool
 
 // Thread i, or an interrupt, takes the top of a pool as the datum of its call.
 pub fn hand_over(p: Plant, i: u8, number: u16) -> Plant
-    ensures { result ≡ handedOver p i number }
+    ensures { result ≡ handed_over p i number }
 {
     let pools = p.pools;
     let x = pool_at(pools, number);
@@ -108,7 +108,7 @@ pub fn hand_over(p: Plant, i: u8, number: u16) -> Plant
 
 // Thread i, or an interrupt, waits for an object: chGuardedPoolAllocTimeoutS.
 pub fn try_alloc(p: Plant, i: u8, call: Call) -> Plant
-    ensures { result ≡ allocTried p i call }
+    ensures { result ≡ alloc_tried p i call }
 {
     let k = p.kernel;
     let place = pool_place(call.object);

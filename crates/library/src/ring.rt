@@ -2,13 +2,13 @@
 // The slot is NO_SLOT where there is no room, or no message.
 ghost use Rattle.std.specs.Prelude.{◌≡◌};
 ghost use Rattle.library.specs.Ring.{
-  inRing,
+  in_ring,
   follows,
-  positionsFit,
-  placeAfter,
-  placeBefore,
+  positions_fit,
+  place_after,
+  place_before,
   posted,
-  postedAhead,
+  posted_ahead,
   fetched,
   emptied,
 };
@@ -31,7 +31,7 @@ pub struct Placed {
 
 // Whether the count and both places are in range for a ring of `slots`.
 fn in_ring(q: Positions, slots: u16) -> bool
-    ensures { result ≡ inRing q slots }
+    ensures { result ≡ in_ring q slots }
 {
     q.count <= slots && (q.read < slots && q.write < slots)
 }
@@ -45,14 +45,14 @@ fn follows(q: Positions, slots: u16) -> bool
 
 // Whether the positions hang together: both of these.
 pub fn positions_fit(q: Positions, slots: u16) -> bool
-    ensures { result ≡ positionsFit q slots }
+    ensures { result ≡ positions_fit q slots }
 {
     in_ring(q, slots) && follows(q, slots)
 }
 
 // The place after p in a ring of `slots`.
 fn place_after(p: u16, slots: u16) -> u16
-    ensures { result ≡ placeAfter p slots }
+    ensures { result ≡ place_after p slots }
 {
     if p < slots {
         let q = p + 1;
@@ -64,7 +64,7 @@ fn place_after(p: u16, slots: u16) -> u16
 
 // The place before p in a ring of `slots`.
 fn place_before(p: u16, slots: u16) -> u16
-    ensures { result ≡ placeBefore p slots }
+    ensures { result ≡ place_before p slots }
 {
     if 0 < p {
         p - 1
@@ -101,7 +101,7 @@ impl Positions {
 
     // A message goes in before the read place.
     pub fn post_ahead(self, slots: u16) -> Placed
-        ensures { result ≡ postedAhead self slots }
+        ensures { result ≡ posted_ahead self slots }
     {
         if self.count < slots {
             let read = place_before(self.read, slots);

@@ -4,7 +4,7 @@
 // a step needs grows with the logarithm of the budget, and not with the budget.
 ghost use Rattle.std.specs.Prelude.{◌≡◌};
 ghost use Rattle.kernel.specs.Moves.{finished};
-ghost use Rattle.library.specs.Settling.{isBoxCall, doesMore, answeredOnly, continued, settled};
+ghost use Rattle.library.specs.Settling.{is_box_call, does_more, answered_only, continued, settled};
 
 use crate::causes::cause_of;
 use crate::logic::either;
@@ -21,7 +21,7 @@ use kernel::waiters::{first_ready, running_free};
 
 // Whether a kind is a mailbox's or a pool's.
 pub fn is_box_call(kind: u16) -> bool
-    ensures { result ≡ isBoxCall kind }
+    ensures { result ≡ is_box_call kind }
 {
     either(
         kind == KEPT_POST,
@@ -34,14 +34,14 @@ pub fn is_box_call(kind: u16) -> bool
 
 // Whether a kind's call, woken with 0, does more than answer: an event wait, a mailbox's call or a pool's.
 fn does_more(kind: u16) -> bool
-    ensures { result ≡ doesMore kind }
+    ensures { result ≡ does_more kind }
 {
     either(kind == KEPT_EVENT_WAIT, is_box_call(kind))
 }
 
 // Whether the call is answered by its wake message alone: any other, and any that was not woken with 0.
 fn is_answered_only(t: Thread) -> bool
-    ensures { result ≡ answeredOnly t }
+    ensures { result ≡ answered_only t }
 {
     if does_more(t.call.kind) {
         !is_same(t.message, 0)

@@ -1,6 +1,6 @@
 // The configuration: how many threads and objects there are, and each mailbox's slots.
 ghost use Rattle.std.specs.Prelude.{◌≡◌};
-ghost use Rattle.library.specs.Sizes.{slotsAt, slotsFit, sizesFit, noSizes};
+ghost use Rattle.library.specs.Sizes.{slots_at, slots_fit, sizes_fit, no_sizes};
 
 use crate::logic::{both, either};
 
@@ -18,7 +18,7 @@ pub struct Sizes {
 
 // The slots of mailbox i; 0 past the table.
 pub fn slots_at(s: Sizes, i: u16) -> u16
-    ensures { result ≡ slotsAt s i }
+    ensures { result ≡ slots_at s i }
 {
     let at = i as usize;
     if at < 4 { s.slots[at] } else { 0 }
@@ -26,7 +26,7 @@ pub fn slots_at(s: Sizes, i: u16) -> u16
 
 // Whether mailbox i, if there is one, has 1 to 16 slots.
 fn slots_fit(s: Sizes, i: u16) -> bool
-    ensures { result ≡ slotsFit s i }
+    ensures { result ≡ slots_fit s i }
 {
     let n = slots_at(s, i);
     either(s.mailboxes <= i, both(1 <= n, n <= 16))
@@ -34,7 +34,7 @@ fn slots_fit(s: Sizes, i: u16) -> bool
 
 // Whether every size is within its limits.
 pub fn sizes_fit(s: Sizes) -> bool
-    ensures { result ≡ sizesFit s }
+    ensures { result ≡ sizes_fit s }
 {
     let slots = both(
         slots_fit(s, 0),
@@ -50,7 +50,7 @@ pub fn sizes_fit(s: Sizes) -> bool
 
 // No threads and no objects.
 pub fn no_sizes() -> Sizes
-    ensures { result ≡ noSizes }
+    ensures { result ≡ no_sizes }
 {
     let slots = [0; 4];
     Sizes {

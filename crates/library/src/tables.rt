@@ -2,7 +2,7 @@
 // Past a table's end a read gives the blank, and a write changes nothing.
 ghost use Rattle.std.specs.Prelude.{◌≡◌};
 ghost use Rattle.library.specs.Causes.{caused};
-ghost use Rattle.library.specs.Tables.{blankMailbox, blankPool, opened, closed, mailboxIn, poolIn, withKernel, withMailbox, withPool};
+ghost use Rattle.library.specs.Tables.{blank_mailbox, blank_pool, opened, closed, mailbox_in, pool_in, with_kernel, with_mailbox, with_pool};
 
 use crate::causes::cause_of;
 use crate::ring::Positions;
@@ -80,7 +80,7 @@ pub fn close(p: Plant) -> Tables
 }
 
 pub fn blank_mailbox() -> Mailbox
-    ensures { result ≡ blankMailbox }
+    ensures { result ≡ blank_mailbox }
 {
     let positions = Positions {
         read: 0,
@@ -97,7 +97,7 @@ pub fn blank_mailbox() -> Mailbox
 
 // A pool of which every object is absent.
 pub fn blank_pool() -> Pool
-    ensures { result ≡ blankPool }
+    ensures { result ≡ blank_pool }
 {
     let list = [0; 32];
     let marks = [0; 32];
@@ -109,7 +109,7 @@ pub fn blank_pool() -> Pool
 }
 
 pub fn set_kernel(p: Plant, k: Kernel) -> Plant
-    ensures { result ≡ withKernel p k }
+    ensures { result ≡ with_kernel p k }
 {
     let mut r = p;
     r.kernel = k;
@@ -117,7 +117,7 @@ pub fn set_kernel(p: Plant, k: Kernel) -> Plant
 }
 
 pub fn mailbox_at(mailboxes: [Mailbox; 4], i: u16) -> Mailbox
-    ensures { result ≡ mailboxIn mailboxes i }
+    ensures { result ≡ mailbox_in mailboxes i }
 {
     let at = i as usize;
     if at < 4 {
@@ -128,7 +128,7 @@ pub fn mailbox_at(mailboxes: [Mailbox; 4], i: u16) -> Mailbox
 }
 
 pub fn set_mailbox(p: Plant, i: u16, b: Mailbox) -> Plant
-    ensures { result ≡ withMailbox p i b }
+    ensures { result ≡ with_mailbox p i b }
 {
     let at = i as usize;
     let mut r = p;
@@ -139,14 +139,14 @@ pub fn set_mailbox(p: Plant, i: u16, b: Mailbox) -> Plant
 }
 
 pub fn pool_at(pools: [Pool; 4], i: u16) -> Pool
-    ensures { result ≡ poolIn pools i }
+    ensures { result ≡ pool_in pools i }
 {
     let at = i as usize;
     if at < 4 { pools[at] } else { blank_pool() }
 }
 
 pub fn set_pool(p: Plant, i: u16, x: Pool) -> Plant
-    ensures { result ≡ withPool p i x }
+    ensures { result ≡ with_pool p i x }
 {
     let at = i as usize;
     let mut r = p;

@@ -13,13 +13,13 @@ use lib.ListN.{length, get_or, set, length-set}
 use lib.Seq.{get_or-set_same, get_or-set_other}
 use borrow.Author.Tests.{lt-ltb, le-ltb, ltb-true, lt-leb, le-leb, leb-true}
 use Rattle.kernel.proofs.Cases.{same_or, in-or-out, both-means}
-use Rattle.pipes.specs.Carrying.{smallerOf, ringPlace, carried, carriedBetween, runCarried}
+use Rattle.pipes.specs.Carrying.{smaller_of, ring_place, carried, carried_between, run_carried}
 
 pub length-carried : (k : ℕ) (s : List ℕ) (q : ℕ) (d : List ℕ) (p : ℕ) → length (carried k s q d p) ≡ length d
 unfolding carried
 length-carried zero s q d p = refl
 length-carried (suc k) s q d p =
-    length-set (carried k s q d p) (ringPlace (length d) p k) (get_or s (ringPlace (length s) q k) 0) ∙ length-carried k s q d p
+    length-set (carried k s q d p) (ring_place (length d) p k) (get_or s (ring_place (length s) q k) 0) ∙ length-carried k s q d p
 
 -- one byte more, where neither ring ends
 pub carried-next : (k : ℕ) (s : List ℕ) (q : ℕ) (d : List ℕ) (p : ℕ) (e : List ℕ) → p + k < length d → q + k < length s → e ≡ carried k s q d p
@@ -28,23 +28,23 @@ unfolding carried
 carried-next k s q d p e hp hq h = rw (add-one k, mod-eq_of_lt hp, mod-eq_of_lt hq, h)
 
 -- a place some places on, and some more
-pub place-on : (n p a b : ℕ) → ringPlace n (ringPlace n p a) b ≡ ringPlace n p (a + b)
+pub place-on : (n p a b : ℕ) → ring_place n (ring_place n p a) b ≡ ring_place n p (a + b)
 place-on n p a b = mod-add-mod (p + a) n b ∙ ap (λ (x : ℕ). x % n) (add_assoc p a b)
 
 -- more bytes go on from the places where the first ended
 pub carried-more : (a k : ℕ) (s : List ℕ) (q : ℕ) (d : List ℕ) (p : ℕ)
-    → carried (a + k) s q d p ≡ carried k s (ringPlace (length s) q a) (carried a s q d p) (ringPlace (length d) p a)
+    → carried (a + k) s q d p ≡ carried k s (ring_place (length s) q a) (carried a s q d p) (ring_place (length d) p a)
 unfolding carried
 carried-more a zero s q d p = rw (add-zero a)
 carried-more a (suc k) s q d p =
     rw (add-suc a k, length-carried a s q d p, place-on (length d) p a k, place-on (length s) q a k, carried-more a k s q d p)
 
 -- two places less than the ring apart are not the same
-pub places-apart : (n p a b : ℕ) → a < b → b < n → ringPlace n p a ≢ ringPlace n p b
+pub places-apart : (n p a b : ℕ) → a < b → b < n → ring_place n p a ≢ ring_place n p b
 places-apart n p a b l h e =
     let some : 0 < n = omega arith in
-    let x = ringPlace n p a in
-    let on : ringPlace n x (b - a) ≡ ringPlace n p b = place-on n p a (b - a) ∙ ap (ringPlace n p) (omega arith) in
+    let x = ring_place n p a in
+    let on : ring_place n x (b - a) ≡ ring_place n p b = place-on n p a (b - a) ∙ ap (ring_place n p) (omega arith) in
     let same : (x + (b - a)) % n ≡ x = on ∙ sym e in
     in-or-out (x + (b - a)) n (λ w. absurd (omega (arith, sym same ∙ mod-eq_of_lt w)))
     (λ w.
@@ -54,27 +54,27 @@ places-apart n p a b l h e =
 
 -- byte j of what is carried lies j places on
 pub carried-at : (k : ℕ) (s : List ℕ) (q : ℕ) (d : List ℕ) (p : ℕ) → k ≤ length d → (j : ℕ) → j < k
-    → get_or (carried k s q d p) (ringPlace (length d) p j) 0 ≡ get_or s (ringPlace (length s) q j) 0
+    → get_or (carried k s q d p) (ring_place (length d) p j) 0 ≡ get_or s (ring_place (length s) q j) 0
 unfolding carried
 carried-at zero s q d p h j l = absurd (omega arith)
 carried-at (suc k) s q d p h j l =
     let e = carried k s q d p in
-    let v = get_or s (ringPlace (length s) q k) 0 in
+    let v = get_or s (ring_place (length s) q k) 0 in
     same_or j k
     (λ w.
-    let inside : ringPlace (length d) p k < length e = rw (length-carried k s q d p) (mod-lt (p + k) (omega arith)) in
-    rw w (get_or-set_same e (ringPlace (length d) p k) v 0 inside))
+    let inside : ring_place (length d) p k < length e = rw (length-carried k s q d p) (mod-lt (p + k) (omega arith)) in
+    rw w (get_or-set_same e (ring_place (length d) p k) v 0 inside))
     (λ w.
-    get_or-set_other e (ringPlace (length d) p k) (ringPlace (length d) p j) v 0 (places-apart (length d) p j k (omega arith) (omega arith))
+    get_or-set_other e (ring_place (length d) p k) (ring_place (length d) p j) v 0 (places-apart (length d) p j k (omega arith) (omega arith))
     ∙ carried-at k s q d p (omega arith) j (omega arith))
 
 -- and where none lies, all is as it was
-pub carried-off : (k : ℕ) (s : List ℕ) (q : ℕ) (d : List ℕ) (p : ℕ) (x : ℕ) → ((j : ℕ) → j < k → x ≢ ringPlace (length d) p j)
+pub carried-off : (k : ℕ) (s : List ℕ) (q : ℕ) (d : List ℕ) (p : ℕ) (x : ℕ) → ((j : ℕ) → j < k → x ≢ ring_place (length d) p j)
     → get_or (carried k s q d p) x 0 ≡ get_or d x 0
 unfolding carried
 carried-off zero s q d p x h = refl
 carried-off (suc k) s q d p x h =
-    get_or-set_other (carried k s q d p) (ringPlace (length d) p k) x (get_or s (ringPlace (length s) q k) 0) 0 (h k (omega arith))
+    get_or-set_other (carried k s q d p) (ring_place (length d) p k) x (get_or s (ring_place (length s) q k) 0) 0 (h k (omega arith))
     ∙ carried-off k s q d p x (λ j l. h j (omega arith))
 
 -- whether a run ends within a length, asked of what is left behind its place
@@ -85,7 +85,7 @@ room-behind n p k h =
     (λ l. rw (le-leb k (n - p) l, le-leb (p + k) n (omega arith)))
 
 -- a run that ends within a ring ends at a place of it, or at its end, which is its start
-pub place_after : (n p k : ℕ) → p + k ≤ n → p < n → cond (ltb (p + k) n) (p + k) 0 ≡ ringPlace n p k
+pub place_after : (n p k : ℕ) → p + k ≤ n → p < n → cond (ltb (p + k) n) (p + k) 0 ≡ ring_place n p k
 place_after n p k h l =
     in-or-out (p + k) n (λ w. rw (lt-ltb (p + k) n w) (sym (mod-eq_of_lt w)))
     (λ w. let end : p + k ≡ n = omega arith in rw (le-ltb (p + k) n w, end) (sym (mod_self n)))
@@ -123,13 +123,13 @@ module _ (n : ℕ) (s : List ℕ) (q : ℕ) (d : List ℕ) (p : ℕ) where
         so_far = carried-next j s q d p e (omega (arith, o.into)) (omega (arith, o.out_of)) o.so_far;
       }
 
-  pub run_ends : (j : ℕ) (e : List ℕ) → OnRun n j s q d p e → n ≤ j → e ≡ runCarried n s q d p
+  pub run_ends : (j : ℕ) (e : List ℕ) → OnRun n j s q d p e → n ≤ j → e ≡ run_carried n s q d p
   run_ends j e o l =
       let end : j ≡ n = omega (arith, o.upto) in
       rw (le-leb (p + n) (length d) o.into, le-leb (q + n) (length s) o.out_of, ← end) o.so_far
 
   -- the run passes an end
-  pub run-refused : (x y r : Bool) → r ≡ x && y → x ≡ leb (p + n) (length d) → y ≡ leb (q + n) (length s) → r ≡ false → d ≡ runCarried n s q d p
+  pub run-refused : (x y r : Bool) → r ≡ x && y → x ≡ leb (p + n) (length d) → y ≡ leb (q + n) (length s) → r ≡ false → d ≡ run_carried n s q d p
   run-refused x y r e a b f = rw (← a, ← b, ← e, f)
 
 -- the smaller of two is at most each, and above 0 where both are
@@ -138,7 +138,7 @@ pub record Least (a b r : ℕ) : Type 0 where
   pub second : r ≤ b
   pub some : 0 < a → 0 < b → 0 < r
 
-pub least : (a b r : ℕ) → r ≡ smallerOf a b → Least a b r
+pub least : (a b r : ℕ) → r ≡ smaller_of a b → Least a b r
 least a b r e =
     in-or-out b a
     (λ l. let x : r ≡ b = rw (lt-leb a b l) at e in record { first = omega arith; second = omega arith; some = λ h k. omega arith })
@@ -149,8 +149,8 @@ pub record OnWay (n k : ℕ) (s : List ℕ) (q : ℕ) (d : List ℕ) (p : ℕ) (
   pub upto : k ≤ n
   pub inside-to : x < length d
   pub inside-from : y < length s
-  pub into : x ≡ ringPlace (length d) p k
-  pub out_of : y ≡ ringPlace (length s) q k
+  pub into : x ≡ ring_place (length d) p k
+  pub out_of : y ≡ ring_place (length s) q k
   pub so_far : e ≡ carried k s q d p
 
 module _ (n : ℕ) (s : List ℕ) (q : ℕ) (d : List ℕ) (p : ℕ) where
@@ -174,7 +174,7 @@ module _ (n : ℕ) (s : List ℕ) (q : ℕ) (d : List ℕ) (p : ℕ) where
     way-length = ap length o.so_far ∙ length-carried k s q d p
 
     -- the bytes of a turn: up to the nearer end, and no more than are left
-    module _ (a r : ℕ) (ea : a ≡ smallerOf (length e - x) (length s - y)) (er : r ≡ smallerOf (n - k) a) where
+    module _ (a r : ℕ) (ea : a ≡ smaller_of (length e - x) (length s - y)) (er : r ≡ smaller_of (n - k) a) where
       pub turn-fits : k < n → (0 < r) × (r ≤ n - k) × (x + r ≤ length e) × (y + r ≤ length s)
       turn-fits l =
           let ends = least (length e - x) (length s - y) a ea in
@@ -189,7 +189,7 @@ module _ (n : ℕ) (s : List ℕ) (q : ℕ) (d : List ℕ) (p : ℕ) where
             omega (arith, all.second, ends.second),
           )
 
-      pub way-goes-on : k < n → (e2 : List ℕ) → e2 ≡ runCarried r s y e x → (x2 : ℕ) → x2 ≡ cond (ltb (x + r) (length e2)) (x + r) 0
+      pub way-goes-on : k < n → (e2 : List ℕ) → e2 ≡ run_carried r s y e x → (x2 : ℕ) → x2 ≡ cond (ltb (x + r) (length e2)) (x + r) 0
           → (y2 : ℕ) → y2 ≡ cond (ltb (y + r) (length s)) (y + r) 0 → OnWay n (k + r) s q d p e2 x2 y2
       way-goes-on l e2 h2 x2 hx y2 hy =
           let f = turn-fits l in
@@ -197,8 +197,8 @@ module _ (n : ℕ) (s : List ℕ) (q : ℕ) (d : List ℕ) (p : ℕ) where
           let long : length e2 ≡ length d = ap length run ∙ length-carried r s y e x ∙ way-length in
           let within : x + r ≤ length d = omega (arith, f.2, way-length) in
           let hx2 : x2 ≡ cond (ltb (x + r) (length d)) (x + r) 0 = rw long at hx in
-          let xr : x2 ≡ ringPlace (length d) p (k + r) = hx2 ∙ place_after (length d) x r within o.inside-to ∙ rw o.into (place-on (length d) p k r) in
-          let yr : y2 ≡ ringPlace (length s) q (k + r) = hy ∙ place_after (length s) y r f.3 o.inside-from ∙ rw o.out_of (place-on (length s) q k r) in
+          let xr : x2 ≡ ring_place (length d) p (k + r) = hx2 ∙ place_after (length d) x r within o.inside-to ∙ rw o.into (place-on (length d) p k r) in
+          let yr : y2 ≡ ring_place (length s) q (k + r) = hy ∙ place_after (length s) y r f.3 o.inside-from ∙ rw o.out_of (place-on (length s) q k r) in
           record {
             upto = omega (arith, f.1, o.upto);
             inside-to = rw xr (mod-lt (p + (k + r)) (omega (arith, o.inside-to)));
@@ -208,11 +208,11 @@ module _ (n : ℕ) (s : List ℕ) (q : ℕ) (d : List ℕ) (p : ℕ) where
             so_far = run ∙ rw (o.so_far, o.into, o.out_of) (sym (carried-more k r s q d p));
           }
 
-    pub way-ends : n ≤ k → p < length d → q < length s → e ≡ carriedBetween n s q d p
+    pub way-ends : n ≤ k → p < length d → q < length s → e ≡ carried_between n s q d p
     way-ends l h g =
         let end : k ≡ n = omega (arith, o.upto) in
         rw (lt-ltb p (length d) h, lt-ltb q (length s) g, ← end) o.so_far
 
   -- there is no such place
-  pub way-refused : (r : Bool) → r ≡ ltb p (length d) && ltb q (length s) → r ≡ false → d ≡ carriedBetween n s q d p
+  pub way-refused : (r : Bool) → r ≡ ltb p (length d) && ltb q (length s) → r ≡ false → d ≡ carried_between n s q d p
   way-refused r e f = rw (← e, f)

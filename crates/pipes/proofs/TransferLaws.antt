@@ -8,15 +8,15 @@ use lib.Dec.{eqb, leb, ltb}
 use lib.ListN.{length}
 use borrow.Author.Tests.{eqb-true, ltb-true, leb-true, lt-ltb, le-ltb, not-true, not-false}
 use Rattle.kernel.proofs.Cases.{split, in-or-out, both-means}
-use Rattle.library.specs.Ring.{positionsFit}
+use Rattle.library.specs.Ring.{positions_fit}
 use Rattle.library.proofs.RingLaws.{Fitting, fit-means}
 use Rattle.pipes.specs.declared.table.Pipe.{Pipe}
 use Rattle.pipes.specs.declared.table.Pipes.{Pipes}
 use Rattle.pipes.specs.declared.transfer.Moved.{Moved}
-use Rattle.pipes.specs.Table.{pipeAt}
-use Rattle.pipes.specs.Carrying.{smallerOf, carried, carriedBetween}
-use Rattle.pipes.specs.Judging.{isThere, lengthFits, pipeRefusal}
-use Rattle.pipes.specs.Transfer.{goesAhead, stopped, goneOn, filled, drained, writeAnswer, bufferWritten, readAnswer, targetRead}
+use Rattle.pipes.specs.Table.{pipe_at}
+use Rattle.pipes.specs.Carrying.{smaller_of, carried, carried_between}
+use Rattle.pipes.specs.Judging.{is_there, length_fits, pipe_refusal}
+use Rattle.pipes.specs.Transfer.{goes_ahead, stopped, gone_on, filled, drained, write_answer, buffer_written, read_answer, target_read}
 use Rattle.pipes.proofs.CarryingLaws.{least}
 
 -- a call that nothing refuses
@@ -25,16 +25,16 @@ pub record Unrefused (t : Pipes) (i n : ℕ) : Type 0 where
   pub there : i < t.number
   pub some : 1 ≤ n
   pub long : n ≤ 256
-  pub fits : Fitting (pipeAt t i).positions n
+  pub fits : Fitting (pipe_at t i).positions n
 
-pub unrefused : (t : Pipes) (i n : ℕ) → pipeRefusal t i n ≡ 0 → Unrefused t i n
-unfolding pipeRefusal
+pub unrefused : (t : Pipes) (i n : ℕ) → pipe_refusal t i n ≡ 0 → Unrefused t i n
+unfolding pipe_refusal
 unrefused t i n e =
-    split (isThere t i)
+    split (is_there t i)
     (λ x.
-    split (lengthFits n)
+    split (length_fits n)
     (λ y.
-    split (positionsFit (pipeAt t i).positions n)
+    split (positions_fit (pipe_at t i).positions n)
     (λ z.
     let a = both-means (leb t.number 4) (ltb i t.number) x in
     let b = both-means (leb 1 n) (leb n 256) y in
@@ -43,27 +43,27 @@ unrefused t i n e =
       there = ltb-true i t.number a.1;
       some = leb-true 1 n b.0;
       long = leb-true n 256 b.1;
-      fits = fit-means (pipeAt t i).positions n z;
+      fits = fit-means (pipe_at t i).positions n z;
     })
     (λ z. absurd (omega (arith, rw (x, y, z) at e))))
     (λ y. absurd (omega (arith, rw (x, y) at e))))
     (λ x. absurd (omega (arith, rw x at e)))
 
 -- nothing refuses a transfer that goes ahead, and the pipe is not in reset state
-pub goes-means : (t : Pipes) (i n : ℕ) → goesAhead t i n ≡ true → Unrefused t i n × ((pipeAt t i).reset ≡ 0)
-unfolding goesAhead
+pub goes-means : (t : Pipes) (i n : ℕ) → goes_ahead t i n ≡ true → Unrefused t i n × ((pipe_at t i).reset ≡ 0)
+unfolding goes_ahead
 goes-means t i n e =
-    let a = both-means (eqb (pipeRefusal t i n) 0) (eqb (pipeAt t i).reset 0) e in
-    (unrefused t i n (eqb-true (pipeRefusal t i n) 0 a.0), eqb-true (pipeAt t i).reset 0 a.1)
+    let a = both-means (eqb (pipe_refusal t i n) 0) (eqb (pipe_at t i).reset 0) e in
+    (unrefused t i n (eqb-true (pipe_refusal t i n) 0 a.0), eqb-true (pipe_at t i).reset 0 a.1)
 
 -- bytes of a slice that has them are carried, though the slice may be empty
-pub carried-out : (k : ℕ) (s d : List ℕ) (p : ℕ) → k ≤ length s → p < length d → carriedBetween k s 0 d p ≡ carried k s 0 d p
+pub carried-out : (k : ℕ) (s d : List ℕ) (p : ℕ) → k ≤ length s → p < length d → carried_between k s 0 d p ≡ carried k s 0 d p
 unfolding carried
 carried-out k s d p h l =
     in-or-out 0 (length s) (λ w. rw (lt-ltb p (length d) l, lt-ltb 0 (length s) w))
     (λ w. let none : k ≡ 0 = omega arith in rw (lt-ltb p (length d) l, le-ltb 0 (length s) w, none))
 
-pub carried-in : (k : ℕ) (s d : List ℕ) (q : ℕ) → k ≤ length d → q < length s → carriedBetween k s q d 0 ≡ carried k s q d 0
+pub carried-in : (k : ℕ) (s d : List ℕ) (q : ℕ) → k ≤ length d → q < length s → carried_between k s q d 0 ≡ carried k s q d 0
 unfolding carried
 carried-in k s d q h l =
     in-or-out 0 (length d) (λ w. rw (lt-ltb q (length s) l, lt-ltb 0 (length d) w))
@@ -71,38 +71,38 @@ carried-in k s d q h l =
 
 -- ---- in the form in which code meets them: r is the code's test
 
-pub goes_on : (t : Pipes) (i n : ℕ) (r : Bool) → r ≡ goesAhead t i n → not r ≡ false → goesAhead t i n ≡ true
+pub goes_on : (t : Pipes) (i n : ℕ) (r : Bool) → r ≡ goes_ahead t i n → not r ≡ false → goes_ahead t i n ≡ true
 goes_on t i n r e h = sym e ∙ not-false r h
 
-pub at-work : (t : Pipes) (i n : ℕ) → goesAhead t i n ≡ true → (p : Pipe) → p ≡ pipeAt t i → Fitting p.positions n × (1 ≤ n) × (n ≤ 256)
+pub at-work : (t : Pipes) (i n : ℕ) → goes_ahead t i n ≡ true → (p : Pipe) → p ≡ pipe_at t i → Fitting p.positions n × (1 ≤ n) × (n ≤ 256)
 at-work t i n h p e = let g = (goes-means t i n h).0 in rw e (g.fits, g.some, g.long)
 
 -- a transfer that does not go ahead leaves all
-module _ (t : Pipes) (i : ℕ) (b l : List ℕ) (r : Bool) (er : r ≡ goesAhead t i (length b)) (h : not r ≡ true) (m : Moved) (em : m ≡ stopped t i (length b)) where
-  halted : goesAhead t i (length b) ≡ false
+module _ (t : Pipes) (i : ℕ) (b l : List ℕ) (r : Bool) (er : r ≡ goes_ahead t i (length b)) (h : not r ≡ true) (m : Moved) (em : m ≡ stopped t i (length b)) where
+  halted : goes_ahead t i (length b) ≡ false
   halted = sym er ∙ not-true r h
 
-  pub write-stops : (m ≡ writeAnswer t i (length b) (length l)) × (b ≡ bufferWritten t i b l)
-  unfolding writeAnswer bufferWritten
+  pub write-stops : (m ≡ write_answer t i (length b) (length l)) × (b ≡ buffer_written t i b l)
+  unfolding write_answer buffer_written
   write-stops = (rw halted em, rw halted)
 
-  pub read-stops : (m ≡ readAnswer t i (length b) (length l)) × (l ≡ targetRead t i b l)
-  unfolding readAnswer targetRead
+  pub read-stops : (m ≡ read_answer t i (length b) (length l)) × (l ≡ target_read t i b l)
+  unfolding read_answer target_read
   read-stops = (rw halted em, rw halted)
 
 -- one that does, with k bytes, leaves e of what it writes to
-module _ (t : Pipes) (i : ℕ) (b l : List ℕ) (h : goesAhead t i (length b) ≡ true) (p : Pipe) (ep : p ≡ pipeAt t i) (k : ℕ) (e : List ℕ) (m : Moved) where
-  pub write_goes : k ≡ smallerOf (length l) (length b - p.positions.count) → e ≡ carriedBetween k l 0 b p.positions.write
-      → m ≡ goneOn t i (filled p.positions (length b) k) k → (m ≡ writeAnswer t i (length b) (length l)) × (e ≡ bufferWritten t i b l)
-  unfolding writeAnswer bufferWritten
+module _ (t : Pipes) (i : ℕ) (b l : List ℕ) (h : goes_ahead t i (length b) ≡ true) (p : Pipe) (ep : p ≡ pipe_at t i) (k : ℕ) (e : List ℕ) (m : Moved) where
+  pub write_goes : k ≡ smaller_of (length l) (length b - p.positions.count) → e ≡ carried_between k l 0 b p.positions.write
+      → m ≡ gone_on t i (filled p.positions (length b) k) k → (m ≡ write_answer t i (length b) (length l)) × (e ≡ buffer_written t i b l)
+  unfolding write_answer buffer_written
   write_goes ek ee em =
       let few = (least (length l) (length b - p.positions.count) k ek).first in
       let bytes = ee ∙ carried-out k l b p.positions.write few (at-work t i (length b) h p ep).0.write in
       (rw h (em ∙ rw (ek, ep)), rw h (bytes ∙ rw (ek, ep)))
 
-  pub read_goes : k ≡ smallerOf (length l) p.positions.count → e ≡ carriedBetween k b p.positions.read l 0
-      → m ≡ goneOn t i (drained p.positions (length b) k) k → (m ≡ readAnswer t i (length b) (length l)) × (e ≡ targetRead t i b l)
-  unfolding readAnswer targetRead
+  pub read_goes : k ≡ smaller_of (length l) p.positions.count → e ≡ carried_between k b p.positions.read l 0
+      → m ≡ gone_on t i (drained p.positions (length b) k) k → (m ≡ read_answer t i (length b) (length l)) × (e ≡ target_read t i b l)
+  unfolding read_answer target_read
   read_goes ek ee em =
       let few = (least (length l) p.positions.count k ek).first in
       let bytes = ee ∙ carried-in k b l p.positions.read few (at-work t i (length b) h p ep).0.read in

@@ -4,16 +4,16 @@ use Rattle.pipes.specs.declared.table.Pipe.{Pipe}
 use Rattle.pipes.specs.declared.table.Pipes.{Pipes}
 
 -- an empty pipe
-abbrev pub blankPipe : Pipe
-blankPipe = record { positions = record { read = 0; write = 0; count = 0 }; reset = 0 }
+abbrev pub blank_pipe : Pipe
+blank_pipe = record { positions = record { read = 0; write = 0; count = 0 }; reset = 0 }
 
 -- the record of pipe i
-abbrev pub pipeIn : List Pipe → ℕ → Pipe
-pipeIn pipes i = get_or pipes i blankPipe
+abbrev pub pipe_in : List Pipe → ℕ → Pipe
+pipe_in pipes i = get_or pipes i blank_pipe
 
-abbrev pub pipeAt : Pipes → ℕ → Pipe
-pipeAt t i = pipeIn t.pipes i
+abbrev pub pipe_at : Pipes → ℕ → Pipe
+pipe_at t i = pipe_in t.pipes i
 
 -- the table with pipe i's record anew
-abbrev pub withPipe : Pipes → ℕ → Pipe → Pipes
-withPipe t i p = record { pipes = set t.pipes i p; number = t.number }
+abbrev pub with_pipe : Pipes → ℕ → Pipe → Pipes
+with_pipe t i p = record { pipes = set t.pipes i p; number = t.number }

@@ -1,12 +1,12 @@
 // Bytes carried from one ring to another. Both are slices that go on at their start where they end, so that one function serves a write
 // into a pipe's buffer and a read out of it. It copies in runs, up to the nearer end each.
 ghost use Rattle.std.specs.Prelude.{◌≡◌, cond, leb, ltb, ◌+◌};
-ghost use Rattle.pipes.specs.Carrying.{smallerOf, carriedBetween, runCarried};
+ghost use Rattle.pipes.specs.Carrying.{smaller_of, carried_between, run_carried};
 
 use library::logic::both;
 
 pub fn smaller(a: usize, b: usize) -> usize
-    ensures { result ≡ smallerOf a b }
+    ensures { result ≡ smaller_of a b }
 {
     if a <= b { a } else { b }
 }
@@ -28,7 +28,7 @@ fn wrap(p: usize, len: usize) -> usize
 
 // One run, which passes neither end; nothing where it would.
 fn copy_run(to: &mut [u8], at: usize, from: &[u8], start: usize, n: usize)
-    ensures { to.new ≡ runCarried n from.now start to.old at }
+    ensures { to.new ≡ run_carried n from.now start to.old at }
 {
     if both(run_fits(to.len(), at, n), run_fits(from.len(), start, n)) {
         let mut j: usize = 0;
@@ -41,7 +41,7 @@ fn copy_run(to: &mut [u8], at: usize, from: &[u8], start: usize, n: usize)
 
 // Carries n bytes, from a place of the one ring to a place of the other; nothing where there is no such place.
 pub fn carry(to: &mut [u8], at: usize, from: &[u8], start: usize, n: usize)
-    ensures { to.new ≡ carriedBetween n from.now start to.old at }
+    ensures { to.new ≡ carried_between n from.now start to.old at }
 {
     if both(at < to.len(), start < from.len()) {
         let mut p = at;

@@ -1,7 +1,7 @@
 // Whether a call on a pipe is refused: "5 for a pipe that isn't there or a buffer length outside 1 to 256; then 6 if its places or count
 // don't fit the buffer as a mailbox's fit its slots". All four calls are judged so.
 ghost use Rattle.std.specs.Prelude.{◌≡◌};
-ghost use Rattle.pipes.specs.Judging.{isThere, lengthFits, pipeRefusal};
+ghost use Rattle.pipes.specs.Judging.{is_there, length_fits, pipe_refusal};
 
 use crate::table::{Pipes, pipe_at};
 use library::ring::positions_fit;
@@ -12,20 +12,20 @@ pub const LONGEST_BUFFER: usize = 256;
 
 // Whether the table has pipe i. One that says that it has more than four has none.
 fn is_there(t: Pipes, i: u32) -> bool
-    ensures { result ≡ isThere t i }
+    ensures { result ≡ is_there t i }
 {
     t.number <= MOST_PIPES && i < t.number as u32
 }
 
 fn length_fits(n: usize) -> bool
-    ensures { result ≡ lengthFits n }
+    ensures { result ≡ length_fits n }
 {
     1 <= n && n <= LONGEST_BUFFER
 }
 
 // The refusal of a call on pipe i with a buffer of n bytes, or 0.
 pub fn judge(t: Pipes, i: u32, n: usize) -> u8
-    ensures { result ≡ pipeRefusal t i n }
+    ensures { result ≡ pipe_refusal t i n }
 {
     if !is_there(t, i) {
         return 5;

@@ -1,6 +1,6 @@
 // Pipes set up fresh, reset and resumed: what changes the records alone.
 ghost use Rattle.std.specs.Prelude.{◌≡◌};
-ghost use Rattle.pipes.specs.Opening.{pipesFresh, pipeReset, pipeResumed};
+ghost use Rattle.pipes.specs.Opening.{pipes_fresh, pipe_reset, pipe_resumed};
 
 use crate::judging::{MOST_PIPES, judge};
 use crate::table::{Pipe, Pipes, blank_pipe, pipe_at, set_pipe};
@@ -14,7 +14,7 @@ pub struct Opened {
 
 // So many empty pipes: chPipeObjectInit. Refused with 14 above four.
 pub fn make_pipes(t: Pipes, number: u32) -> Opened
-    ensures { result ≡ pipesFresh t number }
+    ensures { result ≡ pipes_fresh t number }
 {
     if (MOST_PIPES as u32) < number {
         return Opened { pipes: t, code: 14 };
@@ -31,7 +31,7 @@ pub fn make_pipes(t: Pipes, number: u32) -> Opened
 
 // Empties a pipe, returns both places to 0 and sets its reset state: chPipeReset.
 pub fn reset_pipe(t: Pipes, i: u32, n: usize) -> Opened
-    ensures { result ≡ pipeReset t i n }
+    ensures { result ≡ pipe_reset t i n }
 {
     let code = judge(t, i, n);
     if code != 0 {
@@ -50,7 +50,7 @@ pub fn reset_pipe(t: Pipes, i: u32, n: usize) -> Opened
 
 // Ends a pipe's reset state: chPipeResume.
 pub fn resume_pipe(t: Pipes, i: u32, n: usize) -> Opened
-    ensures { result ≡ pipeResumed t i n }
+    ensures { result ≡ pipe_resumed t i n }
 {
     let code = judge(t, i, n);
     if code != 0 {

@@ -1,7 +1,7 @@
 // The pipes of a host: up to four records. Each has the positions of a ring, as a mailbox's, and a reset state; its buffer, and with it
 // the ring's length, is lent at each call.
 ghost use Rattle.std.specs.Prelude.{◌≡◌};
-ghost use Rattle.pipes.specs.Table.{blankPipe, pipeIn, withPipe};
+ghost use Rattle.pipes.specs.Table.{blank_pipe, pipe_in, with_pipe};
 
 use library::ring::Positions;
 
@@ -23,7 +23,7 @@ pub struct Pipes {
 
 // An empty pipe.
 pub fn blank_pipe() -> Pipe
-    ensures { result ≡ blankPipe }
+    ensures { result ≡ blank_pipe }
 {
     let positions = Positions {
         read: 0,
@@ -38,7 +38,7 @@ pub fn blank_pipe() -> Pipe
 
 // The record of a pipe; an empty one past the table.
 pub fn pipe_at(pipes: [Pipe; 4], i: u32) -> Pipe
-    ensures { result ≡ pipeIn pipes i }
+    ensures { result ≡ pipe_in pipes i }
 {
     let at = i as usize;
     if at < 4 { pipes[at] } else { blank_pipe() }
@@ -46,7 +46,7 @@ pub fn pipe_at(pipes: [Pipe; 4], i: u32) -> Pipe
 
 // The table with a pipe's record anew.
 pub fn set_pipe(t: Pipes, i: u32, p: Pipe) -> Pipes
-    ensures { result ≡ withPipe t i p }
+    ensures { result ≡ with_pipe t i p }
 {
     let at = i as usize;
     let mut r = t;

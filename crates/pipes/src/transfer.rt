@@ -1,13 +1,13 @@
 // The two transfers, both immediate: chPipeWriteTimeout and chPipeReadTimeout with TIME_IMMEDIATE. They wake nobody.
 ghost use Rattle.std.specs.Prelude.{◌≡◌, length};
 ghost use Rattle.pipes.specs.Transfer.{
-  goesAhead,
+  goes_ahead,
   stopped,
-  goneOn,
-  writeAnswer,
-  bufferWritten,
-  readAnswer,
-  targetRead,
+  gone_on,
+  write_answer,
+  buffer_written,
+  read_answer,
+  target_read,
 };
 
 use crate::carrying::{carry, smaller};
@@ -26,7 +26,7 @@ pub struct Moved {
 
 // Whether bytes may move: nothing refuses it, and the pipe is not in reset state.
 fn goes_ahead(t: Pipes, i: u32, n: usize) -> bool
-    ensures { result ≡ goesAhead t i n }
+    ensures { result ≡ goes_ahead t i n }
 {
     let pipes = t.pipes;
     let p = pipe_at(pipes, i);
@@ -47,7 +47,7 @@ fn stop(t: Pipes, i: u32, n: usize) -> Moved
 
 // The answer where k bytes moved and pipe i stands at these positions then.
 fn go_on(t: Pipes, i: u32, q: Positions, k: u16) -> Moved
-    ensures { result ≡ goneOn t i q k }
+    ensures { result ≡ gone_on t i q k }
 {
     let p = Pipe {
         positions: q,
@@ -63,8 +63,8 @@ fn go_on(t: Pipes, i: u32, q: Positions, k: u16) -> Moved
 
 // Copies what is offered, as far as there is room, from the write place on.
 pub fn write_pipe(t: Pipes, i: u32, buffer: &mut [u8], offered: &[u8]) -> Moved
-    ensures answer { result ≡ writeAnswer t i (length buffer.old) (length offered.now) }
-    ensures buffer { buffer.new ≡ bufferWritten t i buffer.old offered.now }
+    ensures answer { result ≡ write_answer t i (length buffer.old) (length offered.now) }
+    ensures buffer { buffer.new ≡ buffer_written t i buffer.old offered.now }
 {
     let n = buffer.len();
     if !goes_ahead(t, i, n) {
@@ -86,8 +86,8 @@ pub fn write_pipe(t: Pipes, i: u32, buffer: &mut [u8], offered: &[u8]) -> Moved
 
 // Copies what is there, as far as the target goes, from the read place on.
 pub fn read_pipe(t: Pipes, i: u32, buffer: &[u8], target: &mut [u8]) -> Moved
-    ensures answer { result ≡ readAnswer t i (length buffer.now) (length target.old) }
-    ensures target { target.new ≡ targetRead t i buffer.now target.old }
+    ensures answer { result ≡ read_answer t i (length buffer.now) (length target.old) }
+    ensures target { target.new ≡ target_read t i buffer.now target.old }
 {
     let n = buffer.len();
     if !goes_ahead(t, i, n) {

@@ -10,53 +10,53 @@ use Rattle.kernel.specs.declared.clock.Clock.{Clock}
 use Rattle.kernel.specs.declared.records.Thread.{Thread}
 use Rattle.kernel.specs.Numbers.{nobody}
 use Rattle.kernel.specs.Records.{blank}
-use Rattle.kernel.specs.Tables.{usedRows, threadAt}
-use Rattle.kernel.specs.Units.{frequencyFits}
-use Rattle.kernel.specs.Waiters.{firstReady, callFree, runningFree}
+use Rattle.kernel.specs.Tables.{used_rows, thread_at}
+use Rattle.kernel.specs.Units.{frequency_fits}
+use Rattle.kernel.specs.Waiters.{first_ready, call_free, running_free}
 use Rattle.kernel.specs.Words.{first_of}
-use Rattle.kernel.specs.Walk.{firstFrom, all_from}
+use Rattle.kernel.specs.Walk.{first_from, all_from}
 use Rattle.kernel.proofs.Cases.{split, both-means, contrary, same_tests}
 use Rattle.kernel.proofs.Lengths.{read_past}
 use Rattle.kernel.proofs.Loops.{used_le}
 use Rattle.library.specs.declared.tables.Plant.{Plant}
 use Rattle.rules.specs.declared.finding.Broken.{Broken}
-use Rattle.library.specs.Sizes.{sizesFit}
-use Rattle.rules.specs.RowRules.{callFits, waitFits, ticksFit, awaitedFit, nonePending, flagsFit, causeFits, rowFits, rowsFit}
-use Rattle.rules.specs.PlaceRules.{placeAgrees, countersFit}
-use Rattle.rules.specs.ReferenceRules.{holderFits, referencesFit}
-use Rattle.rules.specs.MailboxRules.{mailboxFits, mailboxesFit}
-use Rattle.rules.specs.PoolRules.{poolAgrees, poolsFit}
-use Rattle.rules.specs.WordRules.{readyWord, readyFits, wordAgrees, waitingFits, wordsFit}
-use Rattle.rules.specs.Hanging.{hangsTogether}
-use Rattle.rules.specs.Finding.{wholly, rowKeeps, badRow, badRunning, badAt, isKept, brokenAs, broken, badCause, or_else, orRow}
+use Rattle.library.specs.Sizes.{sizes_fit}
+use Rattle.rules.specs.RowRules.{call_fits, wait_fits, ticks_fit, awaited_fit, none_pending, flags_fit, cause_fits, row_fits, rows_fit}
+use Rattle.rules.specs.PlaceRules.{place_agrees, counters_fit}
+use Rattle.rules.specs.ReferenceRules.{holder_fits, references_fit}
+use Rattle.rules.specs.MailboxRules.{mailbox_fits, mailboxes_fit}
+use Rattle.rules.specs.PoolRules.{pool_agrees, pools_fit}
+use Rattle.rules.specs.WordRules.{ready_word, ready_fits, word_agrees, waiting_fits, words_fit}
+use Rattle.rules.specs.Hanging.{hangs_together}
+use Rattle.rules.specs.Finding.{wholly, row_keeps, bad_row, bad_running, bad_at, is_kept, broken_as, broken, bad_cause, or_else, or_row}
 use Rattle.rules.proofs.HangingLaws.{none-fails, none-bad, used-of-le}
 
 -- whether a rule is broken
 abbrev pub breaks : Plant → Clock → ℕ → Bool
-breaks p clock rule = not (isKept p clock rule)
+breaks p clock rule = not (is_kept p clock rule)
 
 -- nothing found
 abbrev pub nothing : Broken
 nothing = record { rule = 0; row = 0 }
 
 -- what has been found of the rules 1 to n
-unfoldable pub foundTo : Plant → Clock → ℕ → Broken
-foundTo p clock zero = nothing
-foundTo p clock (suc n) = or_else (foundTo p clock n) (suc n) (badAt p clock (suc n))
+unfoldable pub found_to : Plant → Clock → ℕ → Broken
+found_to p clock zero = nothing
+found_to p clock (suc n) = or_else (found_to p clock n) (suc n) (bad_at p clock (suc n))
 
 -- one rule more: found is what the code had, row what it found of the rule
-pub found_none : (p : Plant) (clock : Clock) → nothing ≡ foundTo p clock 0
-unfolding foundTo
+pub found_none : (p : Plant) (clock : Clock) → nothing ≡ found_to p clock 0
+unfolding found_to
 found_none p clock = refl
 
-pub found-next : (p : Plant) (clock : Clock) (n : ℕ) (found : Broken) (row : ℕ) → found ≡ foundTo p clock n → row ≡ badAt p clock (suc n)
-    → or_else found (suc n) row ≡ foundTo p clock (suc n)
-unfolding foundTo
+pub found-next : (p : Plant) (clock : Clock) (n : ℕ) (found : Broken) (row : ℕ) → found ≡ found_to p clock n → row ≡ bad_at p clock (suc n)
+    → or_else found (suc n) row ≡ found_to p clock (suc n)
+unfolding found_to
 found-next p clock n found row e f = rw (e, f)
 
 -- a search finds nothing before the place where it begins
-at_least : (f : ℕ → Bool) (i n : ℕ) → i ≤ 255 → i + n ≤ 255 → i ≤ firstFrom f i n
-unfolding firstFrom
+at_least : (f : ℕ → Bool) (i n : ℕ) → i ≤ 255 → i + n ≤ 255 → i ≤ first_from f i n
+unfolding first_from
 at_least f i zero h l = h
 at_least f i (suc n) h l =
     split (f i) (λ e. rw e (omega arith))
@@ -64,28 +64,28 @@ at_least f i (suc n) h l =
 
 -- a search that goes one index further
 first-last : (f : ℕ → Bool) (i n : ℕ) → i + n ≤ 255
-    → firstFrom f i (suc n) ≡ cond (eqb (firstFrom f i n) nobody) (cond (f (i + n)) (i + n) nobody) (firstFrom f i n)
-unfolding firstFrom
+    → first_from f i (suc n) ≡ cond (eqb (first_from f i n) nobody) (cond (f (i + n)) (i + n) nobody) (first_from f i n)
+unfolding first_from
 first-last f i zero h = let same : i + 0 ≡ i = omega arith in rw same
 first-last f i (suc n) h =
     let next : i + suc n ≡ suc i + n = omega arith in
     split (f i) (λ e. rw (e, ne_eqb i nobody (λ q. omega arith))) (λ e. rw (e, next) (first-last f (suc i) n (omega arith)))
 
 -- so what has been found is the first that is broken
-found_first : (p : Plant) (clock : Clock) (n : ℕ) → n ≤ 15 → foundTo p clock n ≡ brokenAs p clock (firstFrom (breaks p clock) 1 n)
-unfolding foundTo or_else firstFrom
+found_first : (p : Plant) (clock : Clock) (n : ℕ) → n ≤ 15 → found_to p clock n ≡ broken_as p clock (first_from (breaks p clock) 1 n)
+unfolding found_to or_else first_from
 found_first p clock zero h = refl
 found_first p clock (suc n) h =
-    let first = firstFrom (breaks p clock) 1 n in
+    let first = first_from (breaks p clock) 1 n in
     let here : 1 + n ≡ suc n = omega arith in
     let least : 1 ≤ first = at_least (breaks p clock) 1 n (omega arith) (omega arith) in
     rw (found_first p clock n (omega arith), first-last (breaks p clock) 1 n (omega arith), here)
     (split (eqb first nobody)
     (λ e. rw e
-    (split (eqb (badAt p clock (suc n)) nobody) (λ t. rw t) (λ t. rw (t, ne_eqb (suc n) nobody (λ q. omega arith)))))
+    (split (eqb (bad_at p clock (suc n)) nobody) (λ t. rw t) (λ t. rw (t, ne_eqb (suc n) nobody (λ q. omega arith)))))
     (λ e. rw (e, ne_eqb first 0 (λ q. omega (arith, least))) (rw e)))
 
-pub found_all : (p : Plant) (clock : Clock) → foundTo p clock 15 ≡ broken p clock
+pub found_all : (p : Plant) (clock : Clock) → found_to p clock 15 ≡ broken p clock
 unfolding broken
 found_all p clock = found_first p clock 15 (omega arith)
 
@@ -102,20 +102,20 @@ all_both f g i (suc n) = rw (all_both f g (suc i) n) (swap (f i) (g i) (all_from
     swap false b c d = refl
 
 -- no rule is found broken exactly if each is kept
-none-broken : (p : Plant) (clock : Clock) → eqb (broken p clock).rule 0 ≡ all_from (isKept p clock) 1 15
+none-broken : (p : Plant) (clock : Clock) → eqb (broken p clock).rule 0 ≡ all_from (is_kept p clock) 1 15
 unfolding broken
 none-broken p clock =
-    let first = firstFrom (breaks p clock) 1 15 in
+    let first = first_from (breaks p clock) 1 15 in
     let least : 1 ≤ first = at_least (breaks p clock) 1 15 (omega arith) (omega arith) in
     split (eqb first nobody)
-    (λ e. rw e (sym e ∙ none-fails (isKept p clock) 1 15 (omega arith)))
-    (λ e. rw e (ne_eqb first 0 (λ q. omega arith) ∙ sym e ∙ none-fails (isKept p clock) 1 15 (omega arith)))
+    (λ e. rw e (sym e ∙ none-fails (is_kept p clock) 1 15 (omega arith)))
+    (λ e. rw e (ne_eqb first 0 (λ q. omega arith) ∙ sym e ∙ none-fails (is_kept p clock) 1 15 (omega arith)))
 
 -- no rule has no row
 pub no-rule-no-row : (p : Plant) (clock : Clock) → (broken p clock).rule ≡ 0 → (broken p clock).row ≡ 0
 unfolding broken
 no-rule-no-row p clock =
-    let first = firstFrom (breaks p clock) 1 15 in
+    let first = first_from (breaks p clock) 1 15 in
     let least : 1 ≤ first = at_least (breaks p clock) 1 15 (omega arith) (omega arith) in
     split (eqb first nobody) (λ e. rw e (λ none. refl)) (λ e. rw e (λ none. absurd (omega arith)))
 
@@ -126,36 +126,36 @@ module _ (p : Plant) (clock : Clock) where
 
   -- all threads' records keep a rule
   all_keep : ℕ → Bool
-  all_keep rule = all_from (λ i. rowKeeps p.sizes rule (threadAt p.kernel i)) 0 (usedRows p.sizes.threads)
+  all_keep rule = all_from (λ i. row_keeps p.sizes rule (thread_at p.kernel i)) 0 (used_rows p.sizes.threads)
 
-  rows-kept : (rule : ℕ) → eqb (badRow p.kernel.threads p.sizes rule) nobody ≡ all_keep rule
+  rows-kept : (rule : ℕ) → eqb (bad_row p.kernel.threads p.sizes rule) nobody ≡ all_keep rule
   unfolding all_keep
   rows-kept rule =
       let few = used_le _ p.sizes.threads refl in
-      none-bad (λ i. rowKeeps p.sizes rule (threadAt p.kernel i)) _ _ (omega arith) refl
+      none-bad (λ i. row_keeps p.sizes rule (thread_at p.kernel i)) _ _ (omega arith) refl
 
   -- the running thread as the walk finds it
   abbrev walk-free : Bool
-  walk-free = callFree p.kernel.threads (first_of (readyWord p.kernel p.sizes.threads))
+  walk-free = call_free p.kernel.threads (first_of (ready_word p.kernel p.sizes.threads))
 
   -- it is some thread where it has a call: past all threads there is none
   running-kept : length p.kernel.threads ≡ 16
-      → eqb (badRunning p.kernel.threads (readyWord p.kernel p.sizes.threads)) nobody ≡ walk-free
+      → eqb (bad_running p.kernel.threads (ready_word p.kernel p.sizes.threads)) nobody ≡ walk-free
   running-kept sized =
-      let i = first_of (readyWord p.kernel p.sizes.threads) in
-      let past : threadAt p.kernel nobody ≡ blank = sym (read_past p.kernel.threads 16 nobody sized (omega arith) blank) in
-      split (eqb (threadAt p.kernel i).call.kind 0) (λ e. rw e)
+      let i = first_of (ready_word p.kernel p.sizes.threads) in
+      let past : thread_at p.kernel nobody ≡ blank = sym (read_past p.kernel.threads 16 nobody sized (omega arith) blank) in
+      split (eqb (thread_at p.kernel i).call.kind 0) (λ e. rw e)
       (λ e. rw e (ne_eqb i nobody (λ q. contrary (rw (q, past) refl) e)))
 
   -- where the ready word fits, it is the word's
-  running-same : (v : Bool) → walk-free && (readyFits p.kernel p.sizes.threads && v)
-      ≡ runningFree p.kernel && (readyFits p.kernel p.sizes.threads && v)
-  unfolding readyFits firstReady
+  running-same : (v : Bool) → walk-free && (ready_fits p.kernel p.sizes.threads && v)
+      ≡ running_free p.kernel && (ready_fits p.kernel p.sizes.threads && v)
+  unfolding ready_fits first_ready
   running-same v =
-      split (eqb p.kernel.words.ready (readyWord p.kernel p.sizes.threads))
-      (λ e. ap (λ (w : ℕ). callFree p.kernel.threads (first_of w) && (readyFits p.kernel p.sizes.threads && v))
-      (sym (eqb-true p.kernel.words.ready (readyWord p.kernel p.sizes.threads) e)))
-      (λ e. rw (e, and-false walk-free, and-false (runningFree p.kernel)))
+      split (eqb p.kernel.words.ready (ready_word p.kernel p.sizes.threads))
+      (λ e. ap (λ (w : ℕ). call_free p.kernel.threads (first_of w) && (ready_fits p.kernel p.sizes.threads && v))
+      (sym (eqb-true p.kernel.words.ready (ready_word p.kernel p.sizes.threads) e)))
+      (λ e. rw (e, and-false walk-free, and-false (running_free p.kernel)))
 
 each : {a b c d : Bool} → a ≡ b → c ≡ d → a && c ≡ b && d
 each e f = rw (e, f)
@@ -218,79 +218,79 @@ reordered s f c r m q t a w v n u x y o =
 
 -- 0 is the number of the broken rule exactly where the tables hang together: those of a host, whose lists have their tables' lengths
 module _ (p : Plant) (clock : Clock) (sized : length p.kernel.threads ≡ 16) where
-  sizes-kept : isKept p clock 1 ≡ sizesFit p.sizes
-  unfolding badAt
-  sizes-kept = whole-kept p clock (sizesFit p.sizes)
+  sizes-kept : is_kept p clock 1 ≡ sizes_fit p.sizes
+  unfolding bad_at
+  sizes-kept = whole-kept p clock (sizes_fit p.sizes)
 
-  frequency-kept : isKept p clock 2 ≡ frequencyFits clock.frequency
-  unfolding badAt
-  frequency-kept = whole-kept p clock (frequencyFits clock.frequency)
+  frequency-kept : is_kept p clock 2 ≡ frequency_fits clock.frequency
+  unfolding bad_at
+  frequency-kept = whole-kept p clock (frequency_fits clock.frequency)
 
-  counters-kept : isKept p clock 3 ≡ countersFit p.kernel p.sizes
-  unfolding badAt countersFit
-  counters-kept = none-bad (placeAgrees p.kernel p.sizes) 36 _ (omega arith) refl
+  counters-kept : is_kept p clock 3 ≡ counters_fit p.kernel p.sizes
+  unfolding bad_at counters_fit
+  counters-kept = none-bad (place_agrees p.kernel p.sizes) 36 _ (omega arith) refl
 
-  references-kept : isKept p clock 4 ≡ referencesFit p.kernel p.sizes
-  unfolding badAt referencesFit
+  references-kept : is_kept p clock 4 ≡ references_fit p.kernel p.sizes
+  unfolding bad_at references_fit
   references-kept =
       let few = used-of-le _ 8 p.sizes.references refl in
-      none-bad (holderFits p.kernel p.sizes.threads) _ _ (omega arith) refl
+      none-bad (holder_fits p.kernel p.sizes.threads) _ _ (omega arith) refl
 
-  mailboxes-kept : isKept p clock 5 ≡ mailboxesFit p
-  unfolding badAt mailboxesFit
+  mailboxes-kept : is_kept p clock 5 ≡ mailboxes_fit p
+  unfolding bad_at mailboxes_fit
   mailboxes-kept =
-      let few = used-of-le _ 4 p.sizes.mailboxes refl in none-bad (mailboxFits p.mailboxes p.sizes) _ _ (omega arith) refl
+      let few = used-of-le _ 4 p.sizes.mailboxes refl in none-bad (mailbox_fits p.mailboxes p.sizes) _ _ (omega arith) refl
 
-  pools-kept : isKept p clock 6 ≡ poolsFit p
-  unfolding badAt poolsFit
-  pools-kept = let few = used-of-le _ 4 p.sizes.pools refl in none-bad (poolAgrees p) _ _ (omega arith) refl
+  pools-kept : is_kept p clock 6 ≡ pools_fit p
+  unfolding bad_at pools_fit
+  pools-kept = let few = used-of-le _ 4 p.sizes.pools refl in none-bad (pool_agrees p) _ _ (omega arith) refl
 
-  ready-kept : isKept p clock 13 ≡ readyFits p.kernel p.sizes.threads
-  unfolding badAt
-  ready-kept = whole-kept p clock (readyFits p.kernel p.sizes.threads)
+  ready-kept : is_kept p clock 13 ≡ ready_fits p.kernel p.sizes.threads
+  unfolding bad_at
+  ready-kept = whole-kept p clock (ready_fits p.kernel p.sizes.threads)
 
-  waiting_kept : isKept p clock 14 ≡ waitingFits p.kernel p.sizes
-  unfolding badAt waitingFits
-  waiting_kept = none-bad (wordAgrees p.kernel p.sizes) 36 _ (omega arith) refl
+  waiting_kept : is_kept p clock 14 ≡ waiting_fits p.kernel p.sizes
+  unfolding bad_at waiting_fits
+  waiting_kept = none-bad (word_agrees p.kernel p.sizes) 36 _ (omega arith) refl
 
   -- a record's rules are 8, 9, 7, 10 and 11, and 15
-  records-kept : rowsFit p.kernel p.sizes
+  records-kept : rows_fit p.kernel p.sizes
       ≡ all_keep p clock 8
       && (all_keep p clock 9 && (all_keep p clock 7 && ((all_keep p clock 10 && all_keep p clock 11) && all_keep p clock 15)))
-  unfolding rowsFit rowFits flagsFit all_keep
+  unfolding rows_fit row_fits flags_fit all_keep
   records-kept =
       let z = p.sizes in
-      let n = usedRows z.threads in
-      let row : ℕ → Thread = λ i. threadAt p.kernel i in
-      let flags : ℕ → Bool = λ i. awaitedFit (row i) && nonePending (row i) in
-      let last : ℕ → Bool = λ i. flags i && causeFits (row i) in
-      all_both (λ i. callFits (row i) z) (λ i. waitFits (row i) && (ticksFit (row i) && last i)) 0 n
-      ∙ ap (λ (b : Bool). all_from (λ i. callFits (row i) z) 0 n && b)
-      (all_both (λ i. waitFits (row i)) (λ i. ticksFit (row i) && last i) 0 n
-      ∙ ap (λ (b : Bool). all_from (λ i. waitFits (row i)) 0 n && b)
-      (all_both (λ i. ticksFit (row i)) last 0 n
-      ∙ ap (λ (b : Bool). all_from (λ i. ticksFit (row i)) 0 n && b)
-      (all_both flags (λ i. causeFits (row i)) 0 n
-      ∙ ap (λ (b : Bool). b && all_from (λ i. causeFits (row i)) 0 n)
-      (all_both (λ i. awaitedFit (row i)) (λ i. nonePending (row i)) 0 n))))
+      let n = used_rows z.threads in
+      let row : ℕ → Thread = λ i. thread_at p.kernel i in
+      let flags : ℕ → Bool = λ i. awaited_fit (row i) && none_pending (row i) in
+      let last : ℕ → Bool = λ i. flags i && cause_fits (row i) in
+      all_both (λ i. call_fits (row i) z) (λ i. wait_fits (row i) && (ticks_fit (row i) && last i)) 0 n
+      ∙ ap (λ (b : Bool). all_from (λ i. call_fits (row i) z) 0 n && b)
+      (all_both (λ i. wait_fits (row i)) (λ i. ticks_fit (row i) && last i) 0 n
+      ∙ ap (λ (b : Bool). all_from (λ i. wait_fits (row i)) 0 n && b)
+      (all_both (λ i. ticks_fit (row i)) last 0 n
+      ∙ ap (λ (b : Bool). all_from (λ i. ticks_fit (row i)) 0 n && b)
+      (all_both flags (λ i. cause_fits (row i)) 0 n
+      ∙ ap (λ (b : Bool). b && all_from (λ i. cause_fits (row i)) 0 n)
+      (all_both (λ i. awaited_fit (row i)) (λ i. none_pending (row i)) 0 n))))
 
   -- each rule that is kept, of tables that hang together or not
-  all-kept : all_from (isKept p clock) 1 15
-      ≡ sizesFit p.sizes
-      && (frequencyFits clock.frequency
-      && (countersFit p.kernel p.sizes
-      && (referencesFit p.kernel p.sizes
-      && (mailboxesFit p
-      && (poolsFit p
+  all-kept : all_from (is_kept p clock) 1 15
+      ≡ sizes_fit p.sizes
+      && (frequency_fits clock.frequency
+      && (counters_fit p.kernel p.sizes
+      && (references_fit p.kernel p.sizes
+      && (mailboxes_fit p
+      && (pools_fit p
       && (all_keep p clock 7
       && (all_keep p clock 8
       && (all_keep p clock 9
       && (all_keep p clock 10
       && (all_keep p clock 11
       && (walk-free p clock
-      && (readyFits p.kernel p.sizes.threads
-      && (waitingFits p.kernel p.sizes && (all_keep p clock 15 && true))))))))))))))
-  unfolding all_from badAt
+      && (ready_fits p.kernel p.sizes.threads
+      && (waiting_fits p.kernel p.sizes && (all_keep p clock 15 && true))))))))))))))
+  unfolding all_from bad_at
   all-kept =
       each sizes-kept
       (each frequency-kept
@@ -305,31 +305,31 @@ module _ (p : Plant) (clock : Clock) (sized : length p.kernel.threads ≡ 16) wh
       (each (rows-kept p clock 11)
       (each (running-kept p clock sized) (each ready-kept (each waiting_kept (each (rows-kept p clock 15) refl))))))))))))))
 
-  pub rule-none : eqb (broken p clock).rule 0 ≡ hangsTogether p clock
-  unfolding hangsTogether wordsFit
+  pub rule-none : eqb (broken p clock).rule 0 ≡ hangs_together p clock
+  unfolding hangs_together words_fit
   rule-none =
-      let running = runningFree p.kernel in
-      let ready = readyFits p.kernel p.sizes.threads in
-      let waiting = waitingFits p.kernel p.sizes in
+      let running = running_free p.kernel in
+      let ready = ready_fits p.kernel p.sizes.threads in
+      let waiting = waiting_fits p.kernel p.sizes in
       rw (records-kept, ← running-same p clock waiting)
       (none-broken p clock
       ∙ all-kept
-      ∙ reordered (sizesFit p.sizes) (frequencyFits clock.frequency) (countersFit p.kernel p.sizes)
-      (referencesFit p.kernel p.sizes) (mailboxesFit p) (poolsFit p) (all_keep p clock 7) (all_keep p clock 8)
+      ∙ reordered (sizes_fit p.sizes) (frequency_fits clock.frequency) (counters_fit p.kernel p.sizes)
+      (references_fit p.kernel p.sizes) (mailboxes_fit p) (pools_fit p) (all_keep p clock 7) (all_keep p clock 8)
       (all_keep p clock 9) (all_keep p clock 10) (all_keep p clock 11) (walk-free p clock) ready waiting (all_keep p clock 15))
 
 -- ---- the rules of a record
 
 module _ (p : Plant) (clock : Clock) where
   -- a rule that no record breaks finds nothing
-  kept-finds : (rule : ℕ) (found : Broken) → all_keep p clock rule ≡ true → or_else found rule (badRow p.kernel.threads p.sizes rule) ≡ found
+  kept-finds : (rule : ℕ) (found : Broken) → all_keep p clock rule ≡ true → or_else found rule (bad_row p.kernel.threads p.sizes rule) ≡ found
   unfolding or_else
   kept-finds rule found e = rw (rows-kept p clock rule ∙ e, and-false (eqb found.rule 0))
 
   -- the five of them at once: none is broken where all records fit
-  pub found_rows : length p.kernel.threads ≡ 16 → (found : Broken) (fit : Bool) → found ≡ foundTo p clock 6 → fit ≡ rowsFit p.kernel p.sizes
-      → orRow found fit p.kernel.threads p.sizes ≡ foundTo p clock 11
-  unfolding orRow foundTo badAt
+  pub found_rows : length p.kernel.threads ≡ 16 → (found : Broken) (fit : Bool) → found ≡ found_to p clock 6 → fit ≡ rows_fit p.kernel p.sizes
+      → or_row found fit p.kernel.threads p.sizes ≡ found_to p clock 11
+  unfolding or_row found_to bad_at
   found_rows sized found fit e f =
       rw e
       (split fit
@@ -342,18 +342,18 @@ module _ (p : Plant) (clock : Clock) where
       let flags = both-means (all_keep p clock 10) (all_keep p clock 11) rest.0 in
       rw (
         t,
-        kept-finds 7 (foundTo p clock 6) ticks.0,
-        kept-finds 8 (foundTo p clock 6) call.0,
-        kept-finds 9 (foundTo p clock 6) wait.0,
-        kept-finds 10 (foundTo p clock 6) flags.0,
-        kept-finds 11 (foundTo p clock 6) flags.1,
+        kept-finds 7 (found_to p clock 6) ticks.0,
+        kept-finds 8 (found_to p clock 6) call.0,
+        kept-finds 9 (found_to p clock 6) wait.0,
+        kept-finds 10 (found_to p clock 6) flags.0,
+        kept-finds 11 (found_to p clock 6) flags.1,
       ))
       (λ t. rw t))
 
   -- nor is the rule of causes
-  pub cause-row : length p.kernel.threads ≡ 16 → (fit : Bool) → fit ≡ rowsFit p.kernel p.sizes
-      → badCause fit p.kernel.threads p.sizes ≡ badAt p clock 15
-  unfolding badAt
+  pub cause-row : length p.kernel.threads ≡ 16 → (fit : Bool) → fit ≡ rows_fit p.kernel p.sizes
+      → bad_cause fit p.kernel.threads p.sizes ≡ bad_at p clock 15
+  unfolding bad_at
   cause-row sized fit f =
       split fit
       (λ t.
@@ -362,5 +362,5 @@ module _ (p : Plant) (clock : Clock) where
       let wait = both-means (all_keep p clock 9) _ call.1 in
       let ticks = both-means (all_keep p clock 7) _ wait.1 in
       let rest = both-means (all_keep p clock 10 && all_keep p clock 11) (all_keep p clock 15) ticks.1 in
-      rw t (sym (eqb-true (badRow p.kernel.threads p.sizes 15) nobody (rows-kept p clock 15 ∙ rest.1))))
+      rw t (sym (eqb-true (bad_row p.kernel.threads p.sizes 15) nobody (rows-kept p clock 15 ∙ rest.1))))
       (λ t. rw t)

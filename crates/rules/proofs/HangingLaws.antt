@@ -13,22 +13,22 @@ use lib.Pow.{pow_mono}
 use lib.Seq.{get_or-set_same, get_or-set_other}
 use borrow.Author.Tests.{lt-ltb, ltb-true, eqb-true, eqb-false, ne_eqb, not-true, not-false}
 use Rattle.kernel.specs.Numbers.{nobody}
-use Rattle.kernel.specs.Walk.{firstFrom, all_from, count_of}
-use Rattle.kernel.specs.Words.{word_of, onesOf}
+use Rattle.kernel.specs.Walk.{first_from, all_from, count_of}
+use Rattle.kernel.specs.Words.{word_of, ones_of}
 use Rattle.kernel.proofs.Cases.{split, contrary, both-means}
 use Rattle.kernel.proofs.WalkLaws.{search-agree, count-le, count_none}
 use Rattle.kernel.proofs.WordsLaws.{word_more, word_lt}
 use Rattle.kernel.proofs.Loops.{first-here, first_next, all-fails, all-next, count-more}
 use Rattle.library.specs.declared.sizes.Sizes.{Sizes}
 use Rattle.library.specs.Signs.{same}
-use Rattle.rules.specs.Limits.{usedOf, firstBad}
-use Rattle.rules.specs.PlaceRules.{inUse, placeFits}
+use Rattle.rules.specs.Limits.{used_of, first_bad}
+use Rattle.rules.specs.PlaceRules.{in_use, place_fits}
 
 -- no more rows are in use than there are; e is what a callee gave
-pub used-of-le : (e rows n : ℕ) → e ≡ usedOf rows n → e ≤ rows
+pub used-of-le : (e rows n : ℕ) → e ≡ used_of rows n → e ≤ rows
 used-of-le e rows n same = rw same (go (ltb n rows) refl)
   where
-    go : (b : Bool) → ltb n rows ≡ b → usedOf rows n ≤ rows
+    go : (b : Bool) → ltb n rows ≡ b → used_of rows n ≤ rows
     go true t = rw t (omega (arith, ltb-true n rows t))
     go false t = rw t (omega arith)
 
@@ -42,14 +42,14 @@ passes-unused r true e s h = rw (s, h)
 passes-unused r false e s h = rw s
 
 -- an empty word names nobody
-pub no_ones : onesOf 0 ≡ 0
-unfolding onesOf count_of
+pub no_ones : ones_of 0 ≡ 0
+unfolding ones_of count_of
 no_ones = refl
 
 -- a place at which nobody is queued and whose counter is 0 fits, in use or not
-pub idle-fits : (z : Sizes) (p : ℕ) (c : ℤ) → same c (pos 0) ≡ true → placeFits z p c 0 ≡ true
+pub idle-fits : (z : Sizes) (p : ℕ) (c : ℤ) → same c (pos 0) ≡ true → place_fits z p c 0 ≡ true
 idle-fits z p (pos zero) h =
-    split (inUse z p) (λ e. rw e (split (ltb p 20) (λ t. rw t) (λ t. rw t))) (λ e. rw e)
+    split (in_use z p) (λ e. rw e (split (ltb p 20) (λ t. rw t) (λ t. rw t))) (λ e. rw e)
 idle-fits z p (pos (suc n)) h =
     contrary (lt-ltb 0 (suc n) (omega arith))
     (not-true (ltb 0 (suc n)) (both-means (not (ltb (suc n) 0)) (not (ltb 0 (suc n))) h).1)
@@ -71,26 +71,26 @@ module _ (f : ℕ → Bool) (i n : ℕ) (r : Bool) (within : i < n) (tested : r 
   fails-here test = all-fails f i n within (failed tested test)
 
   -- .. and so has a search for the first index that fails
-  pub finds-later : not r ≡ false → firstFrom (λ j. not (f j)) i (n - i) ≡ firstFrom (λ j. not (f j)) (i + 1) (n - (i + 1))
+  pub finds-later : not r ≡ false → first_from (λ j. not (f j)) i (n - i) ≡ first_from (λ j. not (f j)) (i + 1) (n - (i + 1))
   finds-later test = first_next (λ j. not (f j)) i n within (ap not (sym tested) ∙ test)
 
-  pub finds-here : not r ≡ true → firstFrom (λ j. not (f j)) i (n - i) ≡ i
+  pub finds-here : not r ≡ true → first_from (λ j. not (f j)) i (n - i) ≡ i
   finds-here test = first-here (λ j. not (f j)) i n within (ap not (sym tested) ∙ test)
 
 -- a search for the first index that fails finds none exactly if all pass
-pub none-fails : (f : ℕ → Bool) (i n : ℕ) → i + n ≤ 255 → eqb (firstFrom (λ j. not (f j)) i n) nobody ≡ all_from f i n
-unfolding firstFrom all_from
+pub none-fails : (f : ℕ → Bool) (i n : ℕ) → i + n ≤ 255 → eqb (first_from (λ j. not (f j)) i n) nobody ≡ all_from f i n
+unfolding first_from all_from
 none-fails f i zero h = refl
 none-fails f i (suc n) h =
     split (f i) (λ e. rw e (none-fails f (suc i) n (omega arith)))
     (λ e. rw e (ne_eqb i nobody (λ q. omega arith)))
 
 -- r is what a search gave, and the code has compared it with nobody
-pub none-bad : (f : ℕ → Bool) (n r : ℕ) → n ≤ 255 → r ≡ firstBad f n → eqb r nobody ≡ all_from f 0 n
+pub none-bad : (f : ℕ → Bool) (n r : ℕ) → n ≤ 255 → r ≡ first_bad f n → eqb r nobody ≡ all_from f 0 n
 none-bad f n r h e = rw e (none-fails f 0 n (omega arith))
 
 -- tests that agree below n fail first at the same index
-pub bad-agree : (f g : ℕ → Bool) (n : ℕ) → ((j : ℕ) → j < n → f j ≡ g j) → firstBad f n ≡ firstBad g n
+pub bad-agree : (f g : ℕ → Bool) (n : ℕ) → ((j : ℕ) → j < n → f j ≡ g j) → first_bad f n ≡ first_bad g n
 bad-agree f g n h = search-agree (λ j. not (f j)) (λ j. not (g j)) 0 n (λ j a b. ap not (h j (omega arith)))
 
 -- a key that is past all n keys where the test fails: it is p exactly if the test holds and x is p; a is what a callee gave

@@ -12,23 +12,23 @@ use lib.ListN.{length, get_or}
 use borrow.Author.Tests.{eqb-true, eq-eqb, ne_eqb, lt-ltb, le-ltb, ltb-true}
 use Rattle.kernel.specs.declared.records.Kernel.{Kernel}
 use Rattle.kernel.specs.Numbers.{nobody}
-use Rattle.kernel.specs.Places.{poolPlace}
-use Rattle.kernel.specs.Tables.{usedRows, threadAt, counterAt, holderAt}
+use Rattle.kernel.specs.Places.{pool_place}
+use Rattle.kernel.specs.Tables.{used_rows, thread_at, counter_at, holder_at}
 use Rattle.kernel.specs.Waiters.{queued_at}
 use Rattle.kernel.specs.Walk.{all_from, bit, count_of}
-use Rattle.kernel.specs.Words.{digit, word_of, onesOf, bitValue, waitingAt}
+use Rattle.kernel.specs.Words.{digit, word_of, ones_of, bit_value, waiting_at}
 use Rattle.kernel.proofs.Cases.{split, same_or, in-or-out, same_tests}
 use Rattle.kernel.proofs.Loops.{used_le}
 use Rattle.kernel.proofs.WalkLaws.{all-at, all_of}
 use Rattle.kernel.proofs.WordsLaws.{word-digit, word_in, word-past, same_digits, ones-agree, value_same, value-other, digit-none}
 use Rattle.library.specs.declared.sizes.Sizes.{Sizes}
 use Rattle.library.specs.declared.tables.Plant.{Plant}
-use Rattle.library.specs.Tables.{poolAt}
-use Rattle.rules.specs.Limits.{usedOf, tabled}
-use Rattle.rules.specs.PlaceRules.{placeFits, queuedCount, placeAgrees, badPlace, badCounter}
-use Rattle.rules.specs.ReferenceRules.{suspendedAt, isHolder, threadAgrees, holderFits, badReference, holderNamed, badHolder}
-use Rattle.rules.specs.PoolRules.{promisedBy, promisedCount, poolFits, poolAgrees, badPool, badStock}
-use Rattle.rules.specs.WordRules.{waitingWord, wordFits, wordAgrees, badWord, otherWord}
+use Rattle.library.specs.Tables.{pool_at}
+use Rattle.rules.specs.Limits.{used_of, tabled}
+use Rattle.rules.specs.PlaceRules.{place_fits, queued_count, place_agrees, bad_place, bad_counter}
+use Rattle.rules.specs.ReferenceRules.{suspended_at, is_holder, thread_agrees, holder_fits, bad_reference, holder_named, bad_holder}
+use Rattle.rules.specs.PoolRules.{promised_by, promised_count, pool_fits, pool_agrees, bad_pool, bad_stock}
+use Rattle.rules.specs.WordRules.{waiting_word, word_fits, word_agrees, bad_word, other_word}
 use Rattle.rules.specs.Walking.{walked}
 use Rattle.rules.proofs.HangingLaws.{bad-agree, used-of-le}
 
@@ -54,42 +54,42 @@ tabled-is (x ∷ l) f (suc n) s e =
 -- ---- counts
 
 -- as many pass as their word has ones
-ones-counted : (f : ℕ → Bool) (n : ℕ) → onesOf (word_of f (usedRows n)) ≡ count_of f (usedRows n)
-ones-counted f n = ones-agree f (usedRows n) (word_of f (usedRows n)) (used_le _ n refl) (word-digit f (usedRows n))
+ones-counted : (f : ℕ → Bool) (n : ℕ) → ones_of (word_of f (used_rows n)) ≡ count_of f (used_rows n)
+ones-counted f n = ones-agree f (used_rows n) (word_of f (used_rows n)) (used_le _ n refl) (word-digit f (used_rows n))
 
 module _ (k : Kernel) (z : Sizes) where
-  pub places-walked : badCounter k.counters (walked k.threads z).waiting z ≡ badPlace k z
-  unfolding queuedCount
+  pub places-walked : bad_counter k.counters (walked k.threads z).waiting z ≡ bad_place k z
+  unfolding queued_count
   places-walked =
-      bad-agree (λ p. placeFits z p (counterAt k p) (onesOf (get_or (walked k.threads z).waiting p 0))) (placeAgrees k z) 36
-      (λ p h. ap (placeFits z p (counterAt k p))
-      (ap onesOf (tabled-at (λ q. word_of (λ i. queued_at q (threadAt k i)) (usedRows z.threads)) 36 p h)
-      ∙ ones-counted (λ i. queued_at p (threadAt k i)) z.threads))
+      bad-agree (λ p. place_fits z p (counter_at k p) (ones_of (get_or (walked k.threads z).waiting p 0))) (place_agrees k z) 36
+      (λ p h. ap (place_fits z p (counter_at k p))
+      (ap ones_of (tabled-at (λ q. word_of (λ i. queued_at q (thread_at k i)) (used_rows z.threads)) 36 p h)
+      ∙ ones-counted (λ i. queued_at p (thread_at k i)) z.threads))
 
-  pub words-walked : otherWord k.words.waiting (walked k.threads z).waiting z ≡ badWord k z
-  unfolding waitingWord
+  pub words-walked : other_word k.words.waiting (walked k.threads z).waiting z ≡ bad_word k z
+  unfolding waiting_word
   words-walked =
-      bad-agree (λ p. wordFits z p (waitingAt k.words p) (get_or (walked k.threads z).waiting p 0)) (wordAgrees k z) 36
-      (λ p h. ap (wordFits z p (waitingAt k.words p))
-      (tabled-at (λ q. word_of (λ i. queued_at q (threadAt k i)) (usedRows z.threads)) 36 p h))
+      bad-agree (λ p. word_fits z p (waiting_at k.words p) (get_or (walked k.threads z).waiting p 0)) (word_agrees k z) 36
+      (λ p h. ap (word_fits z p (waiting_at k.words p))
+      (tabled-at (λ q. word_of (λ i. queued_at q (thread_at k i)) (used_rows z.threads)) 36 p h))
 
-pub pools-walked : (p : Plant) → badStock p.pools p.kernel.counters (walked p.kernel.threads p.sizes).promised p.sizes ≡ badPool p
-unfolding promisedCount
+pub pools-walked : (p : Plant) → bad_stock p.pools p.kernel.counters (walked p.kernel.threads p.sizes).promised p.sizes ≡ bad_pool p
+unfolding promised_count
 pools-walked p =
     let k = p.kernel in
     let z = p.sizes in
     bad-agree
-    (λ q. poolFits (poolAt p q) (counterAt k (poolPlace q)) (onesOf (get_or (walked k.threads z).promised q 0))) (poolAgrees p)
-    (usedOf 4 z.pools)
-    (λ q h. ap (poolFits (poolAt p q) (counterAt k (poolPlace q)))
-    (ap onesOf
-    (tabled-at (λ o. word_of (λ i. promisedBy o (threadAt k i)) (usedRows z.threads)) 4 q (omega (arith, used-of-le _ 4 z.pools refl)))
-    ∙ ones-counted (λ i. promisedBy q (threadAt k i)) z.threads))
+    (λ q. pool_fits (pool_at p q) (counter_at k (pool_place q)) (ones_of (get_or (walked k.threads z).promised q 0))) (pool_agrees p)
+    (used_of 4 z.pools)
+    (λ q h. ap (pool_fits (pool_at p q) (counter_at k (pool_place q)))
+    (ap ones_of
+    (tabled-at (λ o. word_of (λ i. promised_by o (thread_at k i)) (used_rows z.threads)) 4 q (omega (arith, used-of-le _ 4 z.pools refl)))
+    ∙ ones-counted (λ i. promised_by q (thread_at k i)) z.threads))
 
 -- ---- holders
 
 -- the digits of a bit
-value-digit : (h j : ℕ) → j < 16 → digit (bitValue h) j ≡ bit (eqb h j)
+value-digit : (h j : ℕ) → j < 16 → digit (bit_value h) j ≡ bit (eqb h j)
 value-digit h j l =
     same_or h j (λ e. rw (e, eq-eqb j j refl) (value_same j l)) (λ d. rw (ne_eqb h j d) (value-other h j (λ e. d (sym e))))
 
@@ -110,7 +110,7 @@ agree false true e = sym e
 agree false false e = refl
 
 -- one of n threads is one of those that have a row, or has no bit
-holder-bit : (h n : ℕ) → isHolder h n ≡ true → (h < usedRows n) ⊎ (16 ≤ h)
+holder-bit : (h n : ℕ) → is_holder h n ≡ true → (h < used_rows n) ⊎ (16 ≤ h)
 holder-bit h n e =
     same_or h nobody (λ s. inr (omega arith))
     (λ d.
@@ -119,57 +119,57 @@ holder-bit h n e =
 
 module _ (k : Kernel) (n r : ℕ) where
   abbrev h : ℕ
-  h = holderAt k r
+  h = holder_at k r
 
   abbrev on : ℕ → Bool
-  on i = suspendedAt r (threadAt k i)
+  on i = suspended_at r (thread_at k i)
 
   abbrev m : ℕ
-  m = usedRows n
+  m = used_rows n
 
   few : m ≤ 16
   few = used_le _ n refl
 
   -- the holder's bit alone: each thread agrees
-  named-agrees : word_of on m ≡ bitValue h → all_from (threadAgrees k h r) 0 m ≡ true
+  named-agrees : word_of on m ≡ bit_value h → all_from (thread_agrees k h r) 0 m ≡ true
   named-agrees e =
-      all_of (threadAgrees k h r) m
+      all_of (thread_agrees k h r) m
       (λ i l. agrees (eqb h i) (on i)
       (bits-same (on i) (eqb h i)
       (sym (word_in on m i l) ∙ (ap (λ (w : ℕ). digit w i) e ∙ value-digit h i (omega (arith, few))))))
 
   -- and the other way round, for a holder that is one of the threads
-  agrees-named : isHolder h n ≡ true → all_from (threadAgrees k h r) 0 m ≡ true → word_of on m ≡ bitValue h
+  agrees-named : is_holder h n ≡ true → all_from (thread_agrees k h r) 0 m ≡ true → word_of on m ≡ bit_value h
   agrees-named holds e =
-      same_digits (word_of on m) (bitValue h)
+      same_digits (word_of on m) (bit_value h)
       (λ j. in-or-out j m
       (λ l. word_in on m j l
-      ∙ (ap bit (agree (eqb h j) (on j) (all-at (threadAgrees k h r) m j e l)) ∙ sym (value-digit h j (omega (arith, few)))))
+      ∙ (ap bit (agree (eqb h j) (on j) (all-at (thread_agrees k h r) m j e l)) ∙ sym (value-digit h j (omega (arith, few)))))
       (λ l. word-past on m j l ∙ sym (past j l)))
     where
-      past : (j : ℕ) → m ≤ j → digit (bitValue h) j ≡ 0
+      past : (j : ℕ) → m ≤ j → digit (bit_value h) j ≡ 0
       past j l =
           elim (holder-bit h n holds) [
             | inl low ↦ value-other h j (λ s. absurd (omega (arith, low, s)))
             | inr high ↦ rw (le-ltb h 16 high) (digit-none j)
           ]
 
-  named : holderNamed h (word_of on m) n ≡ holderFits k n r
-  unfolding holderFits
+  named : holder_named h (word_of on m) n ≡ holder_fits k n r
+  unfolding holder_fits
   named =
-      split (isHolder h n)
+      split (is_holder h n)
       (λ e. rw e
-      (same_tests (eqb (word_of on m) (bitValue h)) (all_from (threadAgrees k h r) 0 m)
-      (λ t. named-agrees (eqb-true (word_of on m) (bitValue h) t))
-      (λ t. eq-eqb (word_of on m) (bitValue h) (agrees-named e t))))
+      (same_tests (eqb (word_of on m) (bit_value h)) (all_from (thread_agrees k h r) 0 m)
+      (λ t. named-agrees (eqb-true (word_of on m) (bit_value h) t))
+      (λ t. eq-eqb (word_of on m) (bit_value h) (agrees-named e t))))
       (λ e. rw e)
 
-pub references-walked : (k : Kernel) (z : Sizes) → badHolder k.references (walked k.threads z).suspended z ≡ badReference k z
+pub references-walked : (k : Kernel) (z : Sizes) → bad_holder k.references (walked k.threads z).suspended z ≡ bad_reference k z
 references-walked k z =
-    bad-agree (λ r. holderNamed (holderAt k r) (get_or (walked k.threads z).suspended r 0) z.threads) (holderFits k z.threads)
-    (usedOf 8 z.references)
+    bad-agree (λ r. holder_named (holder_at k r) (get_or (walked k.threads z).suspended r 0) z.threads) (holder_fits k z.threads)
+    (used_of 8 z.references)
     (λ r l.
-    ap (λ (w : ℕ). holderNamed (holderAt k r) w z.threads)
-    (tabled-at (λ q. word_of (λ i. suspendedAt q (threadAt k i)) (usedRows z.threads)) 8 r
+    ap (λ (w : ℕ). holder_named (holder_at k r) w z.threads)
+    (tabled-at (λ q. word_of (λ i. suspended_at q (thread_at k i)) (used_rows z.threads)) 8 r
     (omega (arith, used-of-le _ 8 z.references refl)))
     ∙ named k z.threads r)

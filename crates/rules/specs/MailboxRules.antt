@@ -4,19 +4,19 @@ use Rattle.kernel.specs.Walk.{all_from}
 use Rattle.library.specs.declared.sizes.Sizes.{Sizes}
 use Rattle.library.specs.declared.tables.Mailbox.{Mailbox}
 use Rattle.library.specs.declared.tables.Plant.{Plant}
-use Rattle.rules.specs.Limits.{usedOf, firstBad}
-use Rattle.library.specs.Ring.{positionsFit}
-use Rattle.library.specs.Sizes.{slotsAt}
-use Rattle.library.specs.Tables.{mailboxIn}
+use Rattle.rules.specs.Limits.{used_of, first_bad}
+use Rattle.library.specs.Ring.{positions_fit}
+use Rattle.library.specs.Sizes.{slots_at}
+use Rattle.library.specs.Tables.{mailbox_in}
 
 -- mailbox m hangs together
-abbrev pub mailboxFits : List Mailbox → Sizes → ℕ → Bool
-mailboxFits mailboxes z m = positionsFit (mailboxIn mailboxes m).positions (slotsAt z m)
+abbrev pub mailbox_fits : List Mailbox → Sizes → ℕ → Bool
+mailbox_fits mailboxes z m = positions_fit (mailbox_in mailboxes m).positions (slots_at z m)
 
 -- the first mailbox that does not
-abbrev pub badMailbox : List Mailbox → Sizes → ℕ
-badMailbox mailboxes z = firstBad (mailboxFits mailboxes z) (usedOf 4 z.mailboxes)
+abbrev pub bad_mailbox : List Mailbox → Sizes → ℕ
+bad_mailbox mailboxes z = first_bad (mailbox_fits mailboxes z) (used_of 4 z.mailboxes)
 
 -- each mailbox does so
-unfoldable pub mailboxesFit : Plant → Bool
-mailboxesFit p = all_from (mailboxFits p.mailboxes p.sizes) 0 (usedOf 4 p.sizes.mailboxes)
+unfoldable pub mailboxes_fit : Plant → Bool
+mailboxes_fit p = all_from (mailbox_fits p.mailboxes p.sizes) 0 (used_of 4 p.sizes.mailboxes)

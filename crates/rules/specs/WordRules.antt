@@ -1,45 +1,45 @@
 -- Whether each word says what a walk over the records would give. "Words that disagree don't hang together"
 use Rattle.std.specs.Prelude.{ℕ, Bool, true, cond, ◌&&◌, List, eqb, get_or}
 use Rattle.kernel.specs.declared.records.Kernel.{Kernel}
-use Rattle.kernel.specs.Tables.{usedRows, threadAt}
-use Rattle.kernel.specs.Waiters.{isReady, queued_at}
+use Rattle.kernel.specs.Tables.{used_rows, thread_at}
+use Rattle.kernel.specs.Waiters.{is_ready, queued_at}
 use Rattle.kernel.specs.Walk.{all_from}
-use Rattle.kernel.specs.Words.{word_of, waitingAt}
+use Rattle.kernel.specs.Words.{word_of, waiting_at}
 use Rattle.library.specs.declared.sizes.Sizes.{Sizes}
-use Rattle.rules.specs.Limits.{firstBad}
-use Rattle.rules.specs.PlaceRules.{inUse}
+use Rattle.rules.specs.Limits.{first_bad}
+use Rattle.rules.specs.PlaceRules.{in_use}
 
 -- of n threads: "bit i set exactly when thread i is ready"
-unfoldable pub readyWord : Kernel → ℕ → ℕ
-readyWord k n = word_of (λ i. isReady (threadAt k i)) (usedRows n)
+unfoldable pub ready_word : Kernel → ℕ → ℕ
+ready_word k n = word_of (λ i. is_ready (thread_at k i)) (used_rows n)
 
 -- "the threads waiting there"
-unfoldable pub waitingWord : Kernel → ℕ → ℕ → ℕ
-waitingWord k n p = word_of (λ i. queued_at p (threadAt k i)) (usedRows n)
+unfoldable pub waiting_word : Kernel → ℕ → ℕ → ℕ
+waiting_word k n p = word_of (λ i. queued_at p (thread_at k i)) (used_rows n)
 
 -- the ready word says who is ready
-unfoldable pub readyFits : Kernel → ℕ → Bool
-readyFits k n = eqb k.words.ready (readyWord k n)
+unfoldable pub ready_fits : Kernel → ℕ → Bool
+ready_fits k n = eqb k.words.ready (ready_word k n)
 
 -- a place that is not in use is no part of the tables
-abbrev pub wordFits : Sizes → ℕ → ℕ → ℕ → Bool
-wordFits z p word walked = cond (inUse z p) (eqb word walked) true
+abbrev pub word_fits : Sizes → ℕ → ℕ → ℕ → Bool
+word_fits z p word walked = cond (in_use z p) (eqb word walked) true
 
 -- the first place whose word is another than the walk's
-abbrev pub otherWord : List ℕ → List ℕ → Sizes → ℕ
-otherWord waiting walked z = firstBad (λ p. wordFits z p (get_or waiting p 0) (get_or walked p 0)) 36
+abbrev pub other_word : List ℕ → List ℕ → Sizes → ℕ
+other_word waiting walked z = first_bad (λ p. word_fits z p (get_or waiting p 0) (get_or walked p 0)) 36
 
 -- the word of the place p says who waits there
-abbrev pub wordAgrees : Kernel → Sizes → ℕ → Bool
-wordAgrees k z p = wordFits z p (waitingAt k.words p) (waitingWord k z.threads p)
+abbrev pub word_agrees : Kernel → Sizes → ℕ → Bool
+word_agrees k z p = word_fits z p (waiting_at k.words p) (waiting_word k z.threads p)
 
 -- the first place whose word does not
-abbrev pub badWord : Kernel → Sizes → ℕ
-badWord k z = firstBad (wordAgrees k z) 36
+abbrev pub bad_word : Kernel → Sizes → ℕ
+bad_word k z = first_bad (word_agrees k z) 36
 
 -- each word does so
-unfoldable pub waitingFits : Kernel → Sizes → Bool
-waitingFits k z = all_from (wordAgrees k z) 0 36
+unfoldable pub waiting_fits : Kernel → Sizes → Bool
+waiting_fits k z = all_from (word_agrees k z) 0 36
 
-unfoldable pub wordsFit : Kernel → Sizes → Bool
-wordsFit k z = readyFits k z.threads && waitingFits k z
+unfoldable pub words_fit : Kernel → Sizes → Bool
+words_fit k z = ready_fits k z.threads && waiting_fits k z

@@ -2,7 +2,7 @@
 // of document 01's section, and then document 02's.
 ghost use Rattle.std.specs.Prelude.{◌≡◌};
 ghost use Rattle.library.specs.Tables.{opened};
-ghost use Rattle.rules.specs.Finding.{wholly, rowKeeps, badRow, badRunning, badCause, or_else, orRow, broken};
+ghost use Rattle.rules.specs.Finding.{wholly, row_keeps, bad_row, bad_running, bad_cause, or_else, or_row, broken};
 
 use crate::limits::NO_ROW;
 use crate::mailbox_rules::first_bad_mailbox;
@@ -38,7 +38,7 @@ fn bad_whole(fits: bool) -> u16
 
 // Whether a thread's record keeps one of the rules 7 to 11, or 15.
 fn keeps_rule(t: Thread, z: Sizes, rule: u16) -> bool
-    ensures { result ≡ rowKeeps z rule t }
+    ensures { result ≡ row_keeps z rule t }
 {
     match rule {
         7 => ticks_fit(t),
@@ -52,7 +52,7 @@ fn keeps_rule(t: Thread, z: Sizes, rule: u16) -> bool
 
 // The first thread whose record breaks one of the rules 7 to 11, or 15; or NO_ROW.
 fn first_bad_row(threads: [Thread; 16], z: Sizes, rule: u16) -> u16
-    ensures { result ≡ badRow threads z rule }
+    ensures { result ≡ bad_row threads z rule }
 {
     let end = used_rows(z.threads);
     let mut i: u8 = 0;
@@ -69,7 +69,7 @@ fn first_bad_row(threads: [Thread; 16], z: Sizes, rule: u16) -> u16
 // The running thread where it has an unfinished call, else NO_ROW. It is the first of those that the walk found ready: here the tables'
 // own word may be wrong.
 fn bad_running(threads: [Thread; 16], ready: u16) -> u16
-    ensures { result ≡ badRunning threads ready }
+    ensures { result ≡ bad_running threads ready }
 {
     let i = first_in(ready);
     if is_free(threads, i) {
@@ -95,7 +95,7 @@ fn or_else(found: Broken, rule: u16, row: u16) -> Broken
 
 // The same for the rules 7 to 11, of which each is looked for only where the walk has found that not all records fit.
 fn or_row(found: Broken, fit: bool, threads: [Thread; 16], z: Sizes) -> Broken
-    ensures { result ≡ orRow found fit threads z }
+    ensures { result ≡ or_row found fit threads z }
 {
     if fit {
         return found;
@@ -110,7 +110,7 @@ fn or_row(found: Broken, fit: bool, threads: [Thread; 16], z: Sizes) -> Broken
 
 // The first thread that breaks rule 15, which is looked for only where not all records fit.
 fn bad_cause(fit: bool, threads: [Thread; 16], z: Sizes) -> u16
-    ensures { result ≡ badCause fit threads z }
+    ensures { result ≡ bad_cause fit threads z }
 {
     if fit {
         NO_ROW

@@ -1,6 +1,6 @@
 // Whether each mailbox's positions hang together.
 ghost use Rattle.std.specs.Prelude.{◌≡◌};
-ghost use Rattle.rules.specs.MailboxRules.{badMailbox};
+ghost use Rattle.rules.specs.MailboxRules.{bad_mailbox};
 
 use crate::limits::{NO_ROW, used_of};
 use library::ring::positions_fit;
@@ -9,7 +9,7 @@ use library::tables::Mailbox;
 
 // The first mailbox whose positions do not hang together, or NO_ROW.
 pub fn first_bad_mailbox(mailboxes: [Mailbox; 4], z: Sizes) -> u16
-    ensures { result ≡ badMailbox mailboxes z }
+    ensures { result ≡ bad_mailbox mailboxes z }
 {
     let end = used_of(4, z.mailboxes);
     let mut m: u16 = 0;

@@ -1,7 +1,7 @@
 // Whether each counter agrees with the threads that are queued at its place.
 ghost use Rattle.std.specs.Prelude.{◌≡◌};
-ghost use Rattle.kernel.specs.Words.{onesOf};
-ghost use Rattle.rules.specs.PlaceRules.{inUse, queueOf, isIdle, counterFits, placeFits, badCounter};
+ghost use Rattle.kernel.specs.Words.{ones_of};
+ghost use Rattle.rules.specs.PlaceRules.{in_use, queue_of, is_idle, counter_fits, place_fits, bad_counter};
 
 use crate::limits::NO_ROW;
 use kernel::numbers::QUEUED;
@@ -12,7 +12,7 @@ use library::sizes::Sizes;
 
 // Whether the sizes put a place to use.
 pub fn in_use(z: Sizes, p: u16) -> bool
-    ensures { result ≡ inUse z p }
+    ensures { result ≡ in_use z p }
 {
     if p < 16 {
         p < z.semaphores
@@ -29,21 +29,21 @@ pub fn in_use(z: Sizes, p: u16) -> bool
 
 // The place at which a thread is queued; past all places for one that is not.
 pub fn queue_of(t: Thread) -> u16
-    ensures { result ≡ queueOf t }
+    ensures { result ≡ queue_of t }
 {
     if t.state == QUEUED { t.place } else { 36 }
 }
 
 // A semaphore, or a pool's, at which nobody is queued.
 fn is_idle(p: u16, n: u16) -> bool
-    ensures { result ≡ isIdle p n }
+    ensures { result ≡ is_idle p n }
 {
     p < 20 && n == 0
 }
 
 // Whether the counter c of a place agrees with the n threads queued there.
 fn counter_fits(p: u16, c: i32, n: u16) -> bool
-    ensures { result ≡ counterFits p c n }
+    ensures { result ≡ counter_fits p c n }
 {
     if is_idle(p, n) {
         !(c < 0)
@@ -53,7 +53,7 @@ fn counter_fits(p: u16, c: i32, n: u16) -> bool
 }
 
 fn place_fits(z: Sizes, p: u16, c: i32, n: u16) -> bool
-    ensures { result ≡ placeFits z p c n }
+    ensures { result ≡ place_fits z p c n }
 {
     if in_use(z, p) {
         counter_fits(p, c, n)
@@ -64,7 +64,7 @@ fn place_fits(z: Sizes, p: u16, c: i32, n: u16) -> bool
 
 // The same by the word of those who are queued. Where nobody is and the counter is 0 it fits, in use or not.
 fn word_counted(z: Sizes, p: u16, c: i32, word: u16) -> bool
-    ensures { result ≡ placeFits z p c (onesOf word) }
+    ensures { result ≡ place_fits z p c (ones_of word) }
 {
     if word == 0 {
         if is_same(c, 0) {
@@ -76,7 +76,7 @@ fn word_counted(z: Sizes, p: u16, c: i32, word: u16) -> bool
 
 // The first place whose counter does not agree with the threads queued there, or NO_ROW; they are as many as its word has ones.
 pub fn first_bad_place(counters: [i32; 36], waiting: [u16; 36], z: Sizes) -> u16
-    ensures { result ≡ badCounter counters waiting z }
+    ensures { result ≡ bad_counter counters waiting z }
 {
     let mut p: u16 = 0;
     while p < 36 {

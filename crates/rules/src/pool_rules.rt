@@ -2,16 +2,16 @@
 // One pass over a list counts the occurrences of all objects.
 ghost use Rattle.std.specs.Prelude.{ℕ, ◌<◌, ◌≡◌, get_or};
 ghost use Rattle.rules.specs.PoolRules.{
-  isPromised,
-  poolOf,
+  is_promised,
+  pool_of,
   occurrences,
-  objectFits,
-  entriesFit,
-  objectsFit,
+  object_fits,
+  entries_fit,
+  objects_fit,
   larger,
-  lengthFits,
-  poolFits,
-  badStock,
+  length_fits,
+  pool_fits,
+  bad_stock,
 };
 
 use crate::limits::{NO_ROW, used_of};
@@ -28,7 +28,7 @@ use library::tables::Pool;
 
 // Whether a thread is ready with an unfinished alloc that was woken with 0: an object is promised to it.
 fn is_promised(t: Thread) -> bool
-    ensures { result ≡ isPromised t }
+    ensures { result ≡ is_promised t }
 {
     let call = t.call;
     t.state == READY && (call.kind == KEPT_ALLOC && is_same(t.message, OK))
@@ -36,7 +36,7 @@ fn is_promised(t: Thread) -> bool
 
 // The pool that has promised a thread an object; past all pools where none has.
 pub fn pool_of(t: Thread) -> u16
-    ensures { result ≡ poolOf t }
+    ensures { result ≡ pool_of t }
 {
     let call = t.call;
     if is_promised(t) { call.object } else { 4 }
@@ -61,7 +61,7 @@ fn count_listed(x: Pool) -> [u16; 32]
 
 // Whether only objects are listed.
 fn entries_fit(x: Pool) -> bool
-    ensures { result ≡ entriesFit x }
+    ensures { result ≡ entries_fit x }
 {
     let end = used_of(32, x.length);
     let mut j: u16 = 0;
@@ -77,7 +77,7 @@ fn entries_fit(x: Pool) -> bool
 
 // Whether an object with this mark may be listed n times: a free one once, any other not at all.
 fn object_fits(mark: u8, n: u16) -> bool
-    ensures { result ≡ objectFits mark n }
+    ensures { result ≡ object_fits mark n }
 {
     if mark == FREE_MARK {
         n == 1
@@ -88,7 +88,7 @@ fn object_fits(mark: u8, n: u16) -> bool
 
 // Whether each object is marked, and is listed as its mark says.
 fn objects_fit(x: Pool) -> bool
-    ensures { result ≡ objectsFit x }
+    ensures { result ≡ objects_fit x }
 {
     let counts = count_listed(x);
     let mut fits = true;
@@ -111,21 +111,21 @@ fn larger(c: i32) -> i32
 
 // Whether a list is as long as its pool's counter and promises say.
 fn length_fits(length: u16, c: i32, promised: u16) -> bool
-    ensures { result ≡ lengthFits length c promised }
+    ensures { result ≡ length_fits length c promised }
 {
     is_same(larger(c), less(length, promised))
 }
 
 // Whether a pool with this counter and so many promises hangs together.
 fn pool_fits(x: Pool, c: i32, promised: u16) -> bool
-    ensures { result ≡ poolFits x c promised }
+    ensures { result ≡ pool_fits x c promised }
 {
     x.length <= 32 && (length_fits(x.length, c, promised) && (entries_fit(x) && objects_fit(x)))
 }
 
 // The first pool that does not hang together, or NO_ROW; as many objects are promised as its word has ones.
 pub fn first_bad_pool(pools: [Pool; 4], counters: [i32; 36], promised: [u16; 4], z: Sizes) -> u16
-    ensures { result ≡ badStock pools counters promised z }
+    ensures { result ≡ bad_stock pools counters promised z }
 {
     let end = used_of(4, z.pools);
     let mut q: u16 = 0;

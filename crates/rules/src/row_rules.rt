@@ -1,24 +1,24 @@
 // Whether a thread's record hangs together by itself: its call, its wait, its ticks and its flags.
 ghost use Rattle.std.specs.Prelude.{◌≡◌};
 ghost use Rattle.rules.specs.RowRules.{
-  isSleep,
-  isPost,
-  isMailing,
-  isQueueing,
-  isAlone,
-  callLimit,
-  callClear,
-  callSound,
-  callFits,
-  waitState,
-  waitPlace,
-  waitFits,
-  ticksFit,
-  awaitedFit,
-  nonePending,
-  flagsFit,
-  causeFits,
-  rowFits,
+  is_sleep,
+  is_post,
+  is_mailing,
+  is_queueing,
+  is_alone,
+  call_limit,
+  call_clear,
+  call_sound,
+  call_fits,
+  wait_state,
+  wait_place,
+  wait_fits,
+  ticks_fit,
+  awaited_fit,
+  none_pending,
+  flags_fit,
+  cause_fits,
+  row_fits,
 };
 
 use kernel::kinds::{
@@ -35,27 +35,27 @@ use library::sizes::Sizes;
 
 // A sleep, for an interval or until a time.
 fn is_sleep(kind: u16) -> bool
-    ensures { result ≡ isSleep kind }
+    ensures { result ≡ is_sleep kind }
 {
     kind == KEPT_SLEEP_FOR || kind == KEPT_SLEEP_UNTIL
 }
 
 fn is_post(kind: u16) -> bool
-    ensures { result ≡ isPost kind }
+    ensures { result ≡ is_post kind }
 {
     kind == KEPT_POST || kind == KEPT_POST_AHEAD
 }
 
 // A wait at a mailbox.
 fn is_mailing(kind: u16) -> bool
-    ensures { result ≡ isMailing kind }
+    ensures { result ≡ is_mailing kind }
 {
     is_post(kind) || kind == KEPT_FETCH
 }
 
 // A wait at a counter's place.
 fn is_queueing(kind: u16) -> bool
-    ensures { result ≡ isQueueing kind }
+    ensures { result ≡ is_queueing kind }
 {
     kind == KEPT_SEMAPHORE_WAIT
         || (kind == KEPT_QUEUE_WAIT || (is_mailing(kind) || kind == KEPT_ALLOC))
@@ -63,7 +63,7 @@ fn is_queueing(kind: u16) -> bool
 
 // A wait that is on no object.
 fn is_alone(kind: u16) -> bool
-    ensures { result ≡ isAlone kind }
+    ensures { result ≡ is_alone kind }
 {
     is_sleep(kind) || kind == KEPT_EVENT_WAIT
 }
@@ -71,7 +71,7 @@ fn is_alone(kind: u16) -> bool
 // How many objects there are for an unfinished call: 1 stands for the object 0 of a call that has none, 0 for a kind that
 // never sleeps, so that no object is in range.
 fn call_limit(z: Sizes, kind: u16) -> u16
-    ensures { result ≡ callLimit z kind }
+    ensures { result ≡ call_limit z kind }
 {
     if kind == KEPT_SEMAPHORE_WAIT {
         z.semaphores
@@ -92,14 +92,14 @@ fn call_limit(z: Sizes, kind: u16) -> u16
 
 // Without a call its fields are 0.
 fn is_clear(call: Call) -> bool
-    ensures { result ≡ callClear call }
+    ensures { result ≡ call_clear call }
 {
     call.object == 0 && (call.operand == 0 && call.timeout == 0)
 }
 
 // An unfinished call is of a kind that sleeps, its object is in range, its timeout above 0, and an operand that it does not keep is 0.
 fn is_sound(call: Call, z: Sizes) -> bool
-    ensures { result ≡ callSound call z }
+    ensures { result ≡ call_sound call z }
 {
     let limit = call_limit(z, call.kind);
     let keeps = keeps_operand(call.kind);
@@ -107,7 +107,7 @@ fn is_sound(call: Call, z: Sizes) -> bool
 }
 
 pub fn call_fits(t: Thread, z: Sizes) -> bool
-    ensures { result ≡ callFits t z }
+    ensures { result ≡ call_fits t z }
 {
     let call = t.call;
     if call.kind == KEPT_NONE {
@@ -119,7 +119,7 @@ pub fn call_fits(t: Thread, z: Sizes) -> bool
 
 // The state in which a call of this kind sleeps; READY for a kind that never does, which fits no thread that is not ready.
 fn wait_state(kind: u16) -> u16
-    ensures { result ≡ waitState kind }
+    ensures { result ≡ wait_state kind }
 {
     if is_queueing(kind) {
         QUEUED
@@ -136,7 +136,7 @@ fn wait_state(kind: u16) -> u16
 
 // Where a call of this kind on this object sleeps.
 fn wait_place(kind: u16, object: u16) -> u16
-    ensures { result ≡ waitPlace kind object }
+    ensures { result ≡ wait_place kind object }
 {
     if kind == KEPT_SEMAPHORE_WAIT {
         semaphore_place(object)
@@ -157,7 +157,7 @@ fn wait_place(kind: u16, object: u16) -> u16
 
 // A ready thread waits nowhere; any other waits as its call does.
 pub fn wait_fits(t: Thread) -> bool
-    ensures { result ≡ waitFits t }
+    ensures { result ≡ wait_fits t }
 {
     let call = t.call;
     if t.state == READY {
@@ -169,7 +169,7 @@ pub fn wait_fits(t: Thread) -> bool
 
 // Ticks are left exactly if the thread waits for a finite time, and no more than its call's timeout.
 pub fn ticks_fit(t: Thread) -> bool
-    ensures { result ≡ ticksFit t }
+    ensures { result ≡ ticks_fit t }
 {
     let call = t.call;
     if t.state == READY {
@@ -183,7 +183,7 @@ pub fn ticks_fit(t: Thread) -> bool
 
 // The awaited flags are an unfinished event wait's mask.
 pub fn awaited_fit(t: Thread) -> bool
-    ensures { result ≡ awaitedFit t }
+    ensures { result ≡ awaited_fit t }
 {
     let call = t.call;
     if call.kind == KEPT_EVENT_WAIT {
@@ -195,27 +195,27 @@ pub fn awaited_fit(t: Thread) -> bool
 
 // A thread that awaits events has none of its flags pending.
 pub fn none_pending(t: Thread) -> bool
-    ensures { result ≡ nonePending t }
+    ensures { result ≡ none_pending t }
 {
     t.state != AWAITING || t.pending & t.awaited == 0
 }
 
 fn flags_fit(t: Thread) -> bool
-    ensures { result ≡ flagsFit t }
+    ensures { result ≡ flags_fit t }
 {
     awaited_fit(t) && none_pending(t)
 }
 
 // Whether its cause is one of the list.
 pub fn cause_fits(t: Thread) -> bool
-    ensures { result ≡ causeFits t }
+    ensures { result ≡ cause_fits t }
 {
     t.cause <= CAUSE_TICK
 }
 
 // Whether a thread's record hangs together by itself.
 pub fn row_fits(t: Thread, z: Sizes) -> bool
-    ensures { result ≡ rowFits t z }
+    ensures { result ≡ row_fits t z }
 {
     call_fits(t, z) && (wait_fits(t) && (ticks_fit(t) && (flags_fit(t) && cause_fits(t))))
 }

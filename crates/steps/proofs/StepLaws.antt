@@ -11,8 +11,8 @@ use Rattle.library.specs.declared.calls.Step.{Step}
 use Rattle.library.specs.declared.tables.Tables.{Tables}
 use Rattle.steps.specs.declared.stepping.Stepped.{Stepped}
 use Rattle.library.specs.Tables.{opened}
-use Rattle.steps.specs.Refusal.{refusalOf}
-use Rattle.steps.specs.Stepping.{outcomeOf, doneWith, refusedWith, stepped}
+use Rattle.steps.specs.Refusal.{refusal_of}
+use Rattle.steps.specs.Stepping.{outcome_of, done_with, refused_with, stepped}
 
 -- nothing happened: the tables and the clock as given, and an empty result
 pub record Untouched (t : Tables) (c : Clock) (r : Stepped) : Type 0 where
@@ -25,18 +25,18 @@ pub record Untouched (t : Tables) (c : Clock) (r : Stepped) : Type 0 where
 
 module _ (t : Tables) (c : Clock) (s : Step) where
   -- the answer's number is the refusal's number of document 01
-  pub step-code : (stepped t c s).outcome.code ≡ refusalOf (opened t) c s
-  unfolding stepped doneWith refusedWith outcomeOf
+  pub step-code : (stepped t c s).outcome.code ≡ refusal_of (opened t) c s
+  unfolding stepped done_with refused_with outcome_of
   step-code =
-      split (eqb (refusalOf (opened t) c s) 0)
-      (λ e. rw (e, eqb-true (refusalOf (opened t) c s) 0 e))
+      split (eqb (refusal_of (opened t) c s) 0)
+      (λ e. rw (e, eqb-true (refusal_of (opened t) c s) 0 e))
       (λ e. rw e)
 
   -- "A refused step": everything is as it was
   pub step-refused : (stepped t c s).outcome.code ≢ 0 → Untouched t c (stepped t c s)
-  unfolding stepped refusedWith
+  unfolding stepped refused_with
   step-refused n =
-      rw (ne_eqb (refusalOf (opened t) c s) 0 (rw step-code at n))
+      rw (ne_eqb (refusal_of (opened t) c s) 0 (rw step-code at n))
       (record {
         tables = refl;
         clock = refl;

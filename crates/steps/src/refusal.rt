@@ -1,7 +1,7 @@
 // The refusals, in document 01's order: the first test that fails gives its number, and 0 is an accepted step.
 ghost use Rattle.std.specs.Prelude.{◌≡◌};
 ghost use Rattle.library.specs.Tables.{opened};
-ghost use Rattle.steps.specs.Refusal.{kindFits, callerFits, contextFits, objectLimit, isSpan, valueFits, stateFits, firstFailing, refusalOf};
+ghost use Rattle.steps.specs.Refusal.{kind_fits, caller_fits, context_fits, object_limit, is_span, value_fits, state_fits, first_failing, refusal_of};
 
 use kernel::clock::Clock;
 use kernel::kinds::{
@@ -24,21 +24,21 @@ use rules::hanging::hangs_together;
 
 // 2: kind not 1 to 22.
 fn kind_fits(kind: u8) -> bool
-    ensures { result ≡ kindFits kind }
+    ensures { result ≡ kind_fits kind }
 {
     both(TICK <= kind, kind <= ADD)
 }
 
 // 3: the caller is neither 255 nor the running thread.
 fn caller_fits(running: u8, caller: u8) -> bool
-    ensures { result ≡ callerFits running caller }
+    ensures { result ≡ caller_fits running caller }
 {
     either(caller == NOBODY, caller == running)
 }
 
 // 4: a tick is an interrupt's; an interrupt may not wait, and may try a mailbox or pool only with a timeout of 0.
 fn context_fits(s: Step) -> bool
-    ensures { result ≡ contextFits s }
+    ensures { result ≡ context_fits s }
 {
     if s.caller == NOBODY {
         if is_kernel_wait(s.kind) {
@@ -55,7 +55,7 @@ fn context_fits(s: Step) -> bool
 
 // 5: how many objects there are for a kind; any object will do for a kind that has none.
 fn object_limit(z: Sizes, kind: u8) -> u16
-    ensures { result ≡ objectLimit z kind }
+    ensures { result ≡ object_limit z kind }
 {
     if kind <= TICK {
         256
@@ -78,14 +78,14 @@ fn object_limit(z: Sizes, kind: u8) -> u16
 
 // 6: a sleep of neither 0 nor infinitely many ticks.
 fn is_span(ticks: u32) -> bool
-    ensures { result ≡ isSpan ticks }
+    ensures { result ≡ is_span ticks }
 {
     both(1 <= ticks, ticks < INFINITE)
 }
 
 // 6: the operand and timeout are in range.
 fn value_fits(now: SystemTime, s: Step) -> bool
-    ensures { result ≡ valueFits now s }
+    ensures { result ≡ value_fits now s }
 {
     let kind = s.kind;
     match kind {
@@ -104,7 +104,7 @@ fn value_fits(now: SystemTime, s: Step) -> bool
 
 // 7: the object is in the state that the step needs.
 fn state_fits(references: [u8; 8], pools: [Pool; 4], s: Step) -> bool
-    ensures { result ≡ stateFits references pools s }
+    ensures { result ≡ state_fits references pools s }
 {
     let kind = s.kind;
     let object = s.object as u16;
@@ -126,7 +126,7 @@ fn first_failing(
     value: bool,
     state: bool,
 ) -> u8
-    ensures { result ≡ firstFailing hangs kind caller context outside value state }
+    ensures { result ≡ first_failing hangs kind caller context outside value state }
 {
     if !hangs {
         1
@@ -149,7 +149,7 @@ fn first_failing(
 
 // The refusal number of a step, or 0. All tests are made, whatever the others say: each reads within its table.
 pub fn refuse(t: Tables, clock: Clock, s: Step) -> u8
-    ensures { result ≡ refusalOf (opened t) clock s }
+    ensures { result ≡ refusal_of (opened t) clock s }
 {
     let words = t.kernel.words;
     let references = t.kernel.references;

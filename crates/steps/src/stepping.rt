@@ -1,9 +1,9 @@
 // One step: refused with everything as it was, or acted, settled and answered.
 ghost use Rattle.std.specs.Prelude.{◌≡◌};
 ghost use Rattle.kernel.specs.Walk.{bit};
-ghost use Rattle.library.specs.Acting.{actedOnBox, actedOnKernel};
-ghost use Rattle.library.specs.Tables.{opened, withKernel};
-ghost use Rattle.steps.specs.Stepping.{mask_of, answer_of, outcomeOf, refusedOutcome, clockAfter, budgetOf, doneWith, settledWith, runningAtRefusal, refusedWith, started, stepped};
+ghost use Rattle.library.specs.Acting.{acted_on_box, acted_on_kernel};
+ghost use Rattle.library.specs.Tables.{opened, with_kernel};
+ghost use Rattle.steps.specs.Stepping.{mask_of, answer_of, outcome_of, refused_outcome, clock_after, budget_of, done_with, settled_with, running_at_refusal, refused_with, started, stepped};
 
 use crate::refusal::refuse;
 use kernel::clock::{Clock, advance};
@@ -72,7 +72,7 @@ fn answer_of(k: Kernel, caller: u8) -> Answer
 
 // The result of an accepted step, once it has settled.
 fn outcome_of(k: Kernel, caller: u8) -> Outcome
-    ensures { result ≡ outcomeOf k caller }
+    ensures { result ≡ outcome_of k caller }
 {
     let a = answer_of(k, caller);
     let running = first_ready(k);
@@ -92,7 +92,7 @@ fn outcome_of(k: Kernel, caller: u8) -> Outcome
 
 // The result of a refused step: its number, the running thread, and nothing else.
 fn refused_outcome(code: u8, running: u8) -> Outcome
-    ensures { result ≡ refusedOutcome code running }
+    ensures { result ≡ refused_outcome code running }
 {
     Outcome {
         code: code,
@@ -106,7 +106,7 @@ fn refused_outcome(code: u8, running: u8) -> Outcome
 
 // The clock after an accepted step: a tick advances it.
 fn clock_after(clock: Clock, kind: u8) -> Clock
-    ensures { result ≡ clockAfter clock kind }
+    ensures { result ≡ clock_after clock kind }
 {
     if kind == TICK {
         let mut r = clock;
@@ -119,7 +119,7 @@ fn clock_after(clock: Clock, kind: u8) -> Clock
 
 // Twice the threads: how many calls settling may continue.
 fn budget_of(n: u16) -> u16
-    ensures { result ≡ budgetOf n }
+    ensures { result ≡ budget_of n }
 {
     let rows = used_rows(n);
     2 * rows as u16
@@ -127,7 +127,7 @@ fn budget_of(n: u16) -> u16
 
 // An accepted step that has settled: its tables, its clock and its result.
 fn end_step(p: Plant, clock: Clock, s: Step) -> Stepped
-    ensures { result ≡ doneWith p clock s }
+    ensures { result ≡ done_with p clock s }
 {
     let outcome = outcome_of(p.kernel, s.caller);
     let tables = close(p);
@@ -141,7 +141,7 @@ fn end_step(p: Plant, clock: Clock, s: Step) -> Stepped
 
 // A step of n threads that has acted settles, and ends.
 fn settle_step(p: Plant, n: u16, clock: Clock, s: Step) -> Stepped
-    ensures { result ≡ settledWith n p clock s }
+    ensures { result ≡ settled_with n p clock s }
 {
     let settled = settle(p, budget_of(n));
     end_step(settled, clock, s)
@@ -149,7 +149,7 @@ fn settle_step(p: Plant, n: u16, clock: Clock, s: Step) -> Stepped
 
 // An accepted step of kinds 1 to 14. The kernel part's records go through it alone; the whole tables only where a call is continued.
 fn step_kernel(tables: Tables, clock: Clock, s: Step) -> Stepped
-    ensures { result ≡ settledWith tables.sizes.threads (withKernel (started tables s) (actedOnKernel (started tables s).kernel tables.sizes.threads clock.time s)) clock s }
+    ensures { result ≡ settled_with tables.sizes.threads (with_kernel (started tables s) (acted_on_kernel (started tables s).kernel tables.sizes.threads clock.time s)) clock s }
 {
     let n = tables.sizes.threads;
     let kind = s.kind as u16;
@@ -171,7 +171,7 @@ fn step_kernel(tables: Tables, clock: Clock, s: Step) -> Stepped
 
 // An accepted step of kinds 15 to 22.
 fn step_box(tables: Tables, clock: Clock, s: Step) -> Stepped
-    ensures { result ≡ settledWith tables.sizes.threads (actedOnBox (started tables s) s) clock s }
+    ensures { result ≡ settled_with tables.sizes.threads (acted_on_box (started tables s) s) clock s }
 {
     let n = tables.sizes.threads;
     let p = act_on_box(open(tables, s.kind as u16), s);
@@ -184,14 +184,14 @@ fn step_box(tables: Tables, clock: Clock, s: Step) -> Stepped
 
 // The running thread as it stands; tables that do not hang together have none.
 fn running_at_refusal(running: u8, code: u8) -> u8
-    ensures { result ≡ runningAtRefusal running code }
+    ensures { result ≡ running_at_refusal running code }
 {
     if code == 1 { NOBODY } else { running }
 }
 
 // A refused step: the very tables and clock that came in.
 fn refuse_step(tables: Tables, clock: Clock, code: u8) -> Stepped
-    ensures { result ≡ refusedWith tables clock (opened tables) code }
+    ensures { result ≡ refused_with tables clock (opened tables) code }
 {
     let words = tables.kernel.words;
     let running = running_at_refusal(first_in(words.ready), code);

@@ -7,17 +7,17 @@ use Rattle.kernel.proofs.Cases.{split}
 use Rattle.text.specs.Put.{Put}
 use Rattle.text.specs.Tables.{least}
 use Rattle.text.specs.Decimal.{decimal}
-use Rattle.text.specs.Rows.{signedText, field, fields, rows}
+use Rattle.text.specs.Rows.{signed_text, field, fields, rows}
 use Rattle.text.proofs.PutLaws.{then, nothing}
 
 -- a signed number: its sign and its size, or its size alone
 pub sign_below : {l k : List ℕ} {at t : ℕ} (m : ℤ) (size : ℕ) → size ≡ nat_abs m → lt_z m (pos 0) ≡ true → Put l k at t (45 ∷ decimal size)
-    → Put l k at t (signedText m)
+    → Put l k at t (signed_text m)
 sign_below {l} {k} {at} {t} m size e b p =
     subst (λ (c : Bool). Put l k at t (cond c (45 ∷ decimal (nat_abs m)) (decimal (nat_abs m)))) (sym b) (rw e at p)
 
 pub sign-not-below : {l k : List ℕ} {at t : ℕ} (m : ℤ) (size : ℕ) → size ≡ nat_abs m → lt_z m (pos 0) ≡ false → Put l k at t (decimal size)
-    → Put l k at t (signedText m)
+    → Put l k at t (signed_text m)
 sign-not-below {l} {k} {at} {t} m size e b p =
     subst (λ (c : Bool). Put l k at t (cond c (45 ∷ decimal (nat_abs m)) (decimal (nat_abs m)))) (sym b) (rw e at p)
 

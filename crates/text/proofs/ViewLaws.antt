@@ -4,12 +4,12 @@ use borrow.Author.Tests.{eqb-false}
 use Rattle.kernel.proofs.Cases.{split}
 use Rattle.kernel.proofs.Lengths.{read_past}
 use Rattle.library.specs.declared.sizes.Sizes.{Sizes}
-use Rattle.library.specs.Sizes.{noSizes}
+use Rattle.library.specs.Sizes.{no_sizes}
 use Rattle.trace.specs.declared.decoding.Read.{Read}
 use Rattle.trace.specs.declared.decoding.Found.TheVariants as found
-use Rattle.trace.specs.Ordered.{getN}
-use Rattle.trace.specs.Decoding.{headSizes, headRefusal, refusedRead, stepRefusal, decodedStep, openedRead, nextRead}
-use Rattle.trace.specs.Traces.{readFrom, read_all}
+use Rattle.trace.specs.Ordered.{get_n}
+use Rattle.trace.specs.Decoding.{head_sizes, head_refusal, refused_read, step_refusal, decoded_step, opened_read, next_read}
+use Rattle.trace.specs.Traces.{read_from, read_all}
 use Rattle.trace.proofs.Framing.{Head, head, stands}
 use Rattle.trace.proofs.ReadingLaws.{ends, steps_on, refuses}
 use Rattle.text.specs.declared.views.View.{View}
@@ -20,14 +20,14 @@ use Rattle.text.specs.declared.views.Listing.{Listing}
 use Rattle.text.specs.Put.{Put}
 use Rattle.text.specs.Rows.{rows}
 use Rattle.text.specs.Tables.{least}
-use Rattle.text.specs.Views.{counts, rowsIn, partsText, viewParts, freshSeen, seenAfter, recordsText, readingText, viewText}
-use Rattle.text.specs.Views.{Record, seenBehind, shownParts, stopText, recordOf, textFrom, Listed}
+use Rattle.text.specs.Views.{counts, rows_in, parts_text, view_parts, fresh_seen, seen_after, records_text, reading_text, view_text}
+use Rattle.text.specs.Views.{Record, seen_behind, shown_parts, stop_text, record_of, text_from, Listed}
 use Rattle.text.proofs.PutLaws.{then, whole-text}
 
 -- how many rows a part has
 pub rows-read : (z : Sizes) (part t s q r m p : ℕ) → t ≡ least z.threads 16 → s ≡ least z.semaphores 16 → q ≡ least z.queues 8
-    → r ≡ least z.references 8 → m ≡ least z.mailboxes 4 → p ≡ least z.pools 4 → get_or (counts t s q r m p) part 0 ≡ rowsIn z part
-unfolding rowsIn
+    → r ≡ least z.references 8 → m ≡ least z.mailboxes 4 → p ≡ least z.pools 4 → get_or (counts t s q r m p) part 0 ≡ rows_in z part
+unfolding rows_in
 rows-read z part t s q r m p a b c d e f =
     ap (λ (x : ℕ). get_or (counts x s q r m p) part 0) a ∙ ap (λ (x : ℕ). get_or (counts (least z.threads 16) x q r m p) part 0) b
     ∙ ap (λ (x : ℕ). get_or (counts (least z.threads 16) (least z.semaphores 16) x r m p) part 0) c
@@ -35,8 +35,8 @@ rows-read z part t s q r m p a b c d e f =
     ∙ ap (λ (x : ℕ). get_or (counts (least z.threads 16) (least z.semaphores 16) (least z.queues 8) (least z.references 8) x p) part 0) e
     ∙ ap (λ (x : ℕ). get_or (counts (least z.threads 16) (least z.semaphores 16) (least z.queues 8) (least z.references 8) (least z.mailboxes 4) x) part 0) f
 
-pub rows-past : (z : Sizes) (part : ℕ) → 20 ≤ part → 0 ≡ rowsIn z part
-unfolding rowsIn
+pub rows-past : (z : Sizes) (part : ℕ) → 20 ≤ part → 0 ≡ rows_in z part
+unfolding rows_in
 rows-past z part h =
     read_past
     (counts (least z.threads 16) (least z.semaphores 16) (least z.queues 8) (least z.references 8) (least z.mailboxes 4)
@@ -45,14 +45,14 @@ rows-past z part h =
 
 -- ---- all records
 
-none-shown : (x : Seen) (from : ℕ) → partsText x from 0 ≡ []
-unfolding partsText rows
+none-shown : (x : Seen) (from : ℕ) → parts_text x from 0 ≡ []
+unfolding parts_text rows
 none-shown x from = refl
 
 -- behind record 0, where the reads on both sides are enough for the bytes that are left
 later : (v : Parts) (m n i : ℕ) (s : List ℕ) (x : Seen) (at : ℕ) → 0 < at → at ≤ length s → length s < at + 13 * m → length s < at + n
-    → textFrom v m i s x at ≡ recordsText v i x (readFrom n s at).steps (readFrom n s at).stop
-unfolding textFrom readFrom recordsText
+    → text_from v m i s x at ≡ records_text v i x (read_from n s at).steps (read_from n s at).stop
+unfolding text_from read_from records_text
 later v zero n i s x at h l g k = absurd (omega arith)
 later v (suc m) zero i s x at h l g k = absurd (omega arith)
 later v (suc m) (suc n) i s x at h l g k =
@@ -60,55 +60,55 @@ later v (suc m) (suc n) i s x at h l g k =
     (λ e. rw (ends s at h (eqb-true at (length s) e), eq-eqb at at refl, append-nil))
     (λ f.
     let here : at ≢ length s = eqb-false at (length s) f in
-    split (eqb (stepRefusal s at) 0)
+    split (eqb (step_refusal s at) 0)
     (λ e.
-    let r : stepRefusal s at ≡ 0 = eqb-true (stepRefusal s at) 0 e in
-    let y = decodedStep (take 11 (drop (at + 2) s)) in
+    let r : step_refusal s at ≡ 0 = eqb-true (step_refusal s at) 0 e in
+    let y = decoded_step (take 11 (drop (at + 2) s)) in
     let moved : at + 13 ≢ at = λ z. omega arith in
     rw (
       steps_on s at h here r,
       ne_eqb (at + 13) at moved,
-      later v m n (i + 1) s (seenAfter i x y) (at + 13) (omega arith) (stands s at r).within (omega arith) (omega arith),
+      later v m n (i + 1) s (seen_after i x y) (at + 13) (omega arith) (stands s at r).within (omega arith) (omega arith),
       append-nil,
     ))
-    (λ g'. rw (refuses s at h here (eqb-false (stepRefusal s at) 0 g'), eq-eqb at at refl, append-nil)))
+    (λ g'. rw (refuses s at h here (eqb-false (step_refusal s at) 0 g'), eq-eqb at at refl, append-nil)))
 
 -- what stands at a trace's start
-pub opens : (s : List ℕ) → headRefusal s ≡ 0 → nextRead s 0 ≡ record { found = found.Opened; sizes = headSizes s; next = 3 + getN 2 s 1 }
-unfolding nextRead openedRead
+pub opens : (s : List ℕ) → head_refusal s ≡ 0 → next_read s 0 ≡ record { found = found.Opened; sizes = head_sizes s; next = 3 + get_n 2 s 1 }
+unfolding next_read opened_read
 opens s e = rw e
 
-pub refused : (s : List ℕ) → headRefusal s ≢ 0 → nextRead s 0 ≡ refusedRead (headRefusal s) 0
-unfolding nextRead openedRead
-refused s e = rw (ne_eqb (headRefusal s) 0 e)
+pub refused : (s : List ℕ) → head_refusal s ≢ 0 → next_read s 0 ≡ refused_read (head_refusal s) 0
+unfolding next_read opened_read
+refused s e = rw (ne_eqb (head_refusal s) 0 e)
 
 from_start : (v : Parts) (m n : ℕ) (s : List ℕ) → 60000 < 13 * m → length s ≤ n
-    → textFrom v (suc m) 0 s (freshSeen noSizes) 0 ≡ readingText v (readFrom (suc n) s 0)
-unfolding textFrom readFrom recordsText
+    → text_from v (suc m) 0 s (fresh_seen no_sizes) 0 ≡ reading_text v (read_from (suc n) s 0)
+unfolding text_from read_from records_text
 from_start v m n s g k =
-    split (eqb (headRefusal s) 0)
+    split (eqb (head_refusal s) 0)
     (λ e.
-    let none : headRefusal s ≡ 0 = eqb-true (headRefusal s) 0 e in
+    let none : head_refusal s ≡ 0 = eqb-true (head_refusal s) 0 e in
     let h : Head s = head s none in
-    let long : getN 2 s 1 ≡ 6 + get_or s 7 0 = h.opens.sized in
+    let long : get_n 2 s 1 ≡ 6 + get_or s 7 0 = h.opens.sized in
     let within = h.opens.within in
     let short = h.opens.short in
-    let moved : 3 + getN 2 s 1 ≢ 0 = λ z. omega arith in
-    rw (opens s none, ne_eqb (3 + getN 2 s 1) 0 moved, none-shown (freshSeen (headSizes s)) 0)
-    (later v m n 1 s (freshSeen (headSizes s)) (3 + getN 2 s 1) (omega arith) within (omega arith) (omega arith)))
-    (λ f. rw (refused s (eqb-false (headRefusal s) 0 f), append-nil))
+    let moved : 3 + get_n 2 s 1 ≢ 0 = λ z. omega arith in
+    rw (opens s none, ne_eqb (3 + get_n 2 s 1) 0 moved, none-shown (fresh_seen (head_sizes s)) 0)
+    (later v m n 1 s (fresh_seen (head_sizes s)) (3 + get_n 2 s 1) (omega arith) within (omega arith) (omega arith)))
+    (λ f. rw (refused s (eqb-false (head_refusal s) 0 f), append-nil))
 
 -- 5000 records are more than a trace has
-pub all-records : (v : Parts) (s : List ℕ) → textFrom v 5000 0 s (freshSeen noSizes) 0 ≡ readingText v (read_all s)
+pub all-records : (v : Parts) (s : List ℕ) → text_from v 5000 0 s (fresh_seen no_sizes) 0 ≡ reading_text v (read_all s)
 unfolding read_all
 all-records v s = from_start v 4999 (length s) s (omega arith) (omega arith)
 
 -- a view's text is its heading, and the records' texts one after the other
 pub view-text : (w : View) (s : List ℕ)
-    → partsText (freshSeen noSizes) (viewParts w).head (viewParts w).heads ++ textFrom (viewParts w) 5000 0 s (freshSeen noSizes) 0
-    ≡ viewText w s
-unfolding viewText
-view-text w s = ap (λ (z : List ℕ). partsText (freshSeen noSizes) (viewParts w).head (viewParts w).heads ++ z) (all-records (viewParts w) s)
+    → parts_text (fresh_seen no_sizes) (view_parts w).head (view_parts w).heads ++ text_from (view_parts w) 5000 0 s (fresh_seen no_sizes) 0
+    ≡ view_text w s
+unfolding view_text
+view-text w s = ap (λ (z : List ℕ). parts_text (fresh_seen no_sizes) (view_parts w).head (view_parts w).heads ++ z) (all-records (view_parts w) s)
 
 -- what a program hands to the write call, where a record's text begins the buffer, is that text
 pub record-written : {l l' : List ℕ} (x r : Listing) (y : Record) → Listed l l' x r y → x.end ≡ 0 → r.end < length l → take r.end l' ≡ y.text
@@ -116,13 +116,13 @@ record-written {l} {l'} x r y h e room = whole-text (subst (λ (k : ℕ). Put l 
 
 -- ---- one record, as the code meets it: what is known behind it, its parts, and where reading stopped
 pub next-listed : {l m k : List ℕ} (x : Listing) (v : Parts) (n : ℕ) (a b : Read) (seen : Seen) (shown : Shown) (text end : ℕ) → a ≡ b
-    → seen ≡ seenBehind n x.seen a.sizes a.found → shown ≡ shownParts v a.found
-    → Put l m x.end text (partsText seen shown.from shown.n) → Put m k text end (stopText a.found)
-    → Listed l k x (record { seen = seen; at = a.next; end = end }) (recordOf v n x.seen b)
+    → seen ≡ seen_behind n x.seen a.sizes a.found → shown ≡ shown_parts v a.found
+    → Put l m x.end text (parts_text seen shown.from shown.n) → Put m k text end (stop_text a.found)
+    → Listed l k x (record { seen = seen; at = a.next; end = end }) (record_of v n x.seen b)
 next-listed {l} {m} {k} x v n a b seen shown text end e f g p q =
-    subst (λ (r : Read). Listed l k x (record { seen = seen; at = a.next; end = end }) (recordOf v n x.seen r)) e
+    subst (λ (r : Read). Listed l k x (record { seen = seen; at = a.next; end = end }) (record_of v n x.seen r)) e
     (record { put = then (rw (f, g) at p) q; seen = f; at = refl })
 
 -- the place behind it is the read's
-pub listed_next : {l l' : List ℕ} (x r : Listing) (v : Parts) (n : ℕ) (read : Read) → Listed l l' x r (recordOf v n x.seen read) → r.at ≡ read.next
+pub listed_next : {l l' : List ℕ} (x r : Listing) (v : Parts) (n : ℕ) (read : Read) → Listed l l' x r (record_of v n x.seen read) → r.at ≡ read.next
 listed_next x r v n read h = h.at

@@ -4,9 +4,9 @@ use Rattle.std.specs.Int.{w32}
 use Rattle.std.proofs.Common.{to_z}
 use Rattle.library.specs.declared.tables.Mailbox.{Mailbox}
 use Rattle.library.specs.declared.tables.Pool.{Pool}
-use Rattle.library.specs.Tables.{blankMailbox, blankPool}
-use Rattle.library.specs.Mailbox.{messageAt}
-use Rattle.library.specs.Pool.{listed_at, markAt}
+use Rattle.library.specs.Tables.{blank_mailbox, blank_pool}
+use Rattle.library.specs.Mailbox.{message_at}
+use Rattle.library.specs.Pool.{listed_at, mark_at}
 use Rattle.text.specs.declared.items.Item.{Item}
 use Rattle.text.specs.declared.items.Item.TheVariants.{Nothing, End, Dash, Plain, Number, Long, Signed, Lettered, Cause}
 use Rattle.text.specs.declared.items.Line.{Line}
@@ -21,16 +21,16 @@ rows (suc n) f = rows n f ++ f n
 abbrev pub letter : ℕ → List ℕ
 letter b = cond (b == 0) [] (b ∷ [])
 
-unfoldable pub wordText : List ℕ → List ℕ
-wordText w = rows 9 (λ i. letter (slice_index w i))
+unfoldable pub word_text : List ℕ → List ℕ
+word_text w = rows 9 (λ i. letter (slice_index w i))
 
 -- a number with its sign, `-` before one below 0
-abbrev pub signedText : ℤ → List ℕ
-signedText m = cond (int_lt m (pos 0)) (45 ∷ decimal (unsigned_abs m)) (decimal (unsigned_abs m))
+abbrev pub signed_text : ℤ → List ℕ
+signed_text m = cond (int_lt m (pos 0)) (45 ∷ decimal (unsigned_abs m)) (decimal (unsigned_abs m))
 
 -- `signal`, `release`, `resume`, `event`, `post`, `fetch`, `reset`, `tick`; `none` for another
-abbrev pub causeWord : ℕ → List ℕ
-causeWord n =
+abbrev pub cause_word : ℕ → List ℕ
+cause_word n =
     cond (n == 1) (115 ∷ 105 ∷ 103 ∷ 110 ∷ 97 ∷ 108 ∷ 0 ∷ 0 ∷ 0 ∷ [])
     (cond (n == 2) (114 ∷ 101 ∷ 108 ∷ 101 ∷ 97 ∷ 115 ∷ 101 ∷ 0 ∷ 0 ∷ [])
     (cond (n == 3) (114 ∷ 101 ∷ 115 ∷ 117 ∷ 109 ∷ 101 ∷ 0 ∷ 0 ∷ 0 ∷ [])
@@ -48,9 +48,9 @@ field Dash = 32 ∷ 45 ∷ []
 field (Plain n) = decimal n
 field (Number n) = 32 ∷ decimal n
 field (Long n) = 32 ∷ decimal n
-field (Signed m) = 32 ∷ signedText m
+field (Signed m) = 32 ∷ signed_text m
 field (Lettered b n) = 32 ∷ b ∷ decimal n
-field (Cause n) = 32 ∷ wordText (causeWord n)
+field (Cause n) = 32 ∷ word_text (cause_word n)
 
 abbrev pub fields : List Item → List ℕ
 fields [] = []
@@ -59,12 +59,12 @@ fields (x ∷ xs) = field x ++ fields xs
 -- what a row lists at j: messages, free objects, or marks
 abbrev pub cell_of : Mailbox → Pool → ℕ → ℕ → Item
 cell_of b p which j =
-    cond (which == 0) (Signed (to_z w32 (messageAt b j))) (cond (which == 1) (Number (listed_at p j)) (Number (markAt p j)))
+    cond (which == 0) (Signed (to_z w32 (message_at b j))) (cond (which == 1) (Number (listed_at p j)) (Number (mark_at p j)))
 
 -- a row: its word, its items, what it lists, and its end
-unfoldable pub rowText : Line → List ℕ
-rowText r =
-    wordText r.word
+unfoldable pub row_text : Line → List ℕ
+row_text r =
+    word_text r.word
     ++ (fields
     (r.a ∷ r.b ∷ r.c ∷ r.d ∷ r.e ∷ r.f ∷ r.g ∷ r.h ∷ r.i ∷ r.j ∷ r.k ∷ r.l ∷ r.m ∷ r.n ∷ r.o ∷ [])
     ++ (rows r.count (λ j. field (cell_of r.mailbox r.pool r.which j)) ++ field r.end))
@@ -98,7 +98,7 @@ listing word a b c d e f g which n mailbox pool =
 
 -- one that lists nothing
 abbrev pub row : List ℕ → Item → Item → Item → Item → Item → Item → Item → Line
-row word a b c d e f g = listing word a b c d e f g 0 0 blankMailbox blankPool
+row word a b c d e f g = listing word a b c d e f g 0 0 blank_mailbox blank_pool
 
 -- one of which nothing is shown
 abbrev pub no_row : Line
@@ -122,8 +122,8 @@ no_row =
       o = Nothing;
       which = 0;
       count = 0;
-      mailbox = blankMailbox;
-      pool = blankPool;
+      mailbox = blank_mailbox;
+      pool = blank_pool;
       end = Nothing;
     }
 

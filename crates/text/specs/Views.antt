@@ -4,20 +4,20 @@ use Rattle.std.specs.Prelude.{◌≡◌, ℕ, zero, suc, ◌+◌, ◌*◌, ◌%�
 use Rattle.kernel.specs.declared.units.Rate.{Rate}
 use Rattle.kernel.specs.declared.units.Rate.TheVariants.{Given}
 use Rattle.kernel.specs.Tables.{row_in}
-use Rattle.kernel.specs.Words.{hasBit}
+use Rattle.kernel.specs.Words.{has_bit}
 use Rattle.library.specs.declared.calls.Step.{Step}
 use Rattle.library.specs.declared.sizes.Sizes.{Sizes}
 use Rattle.library.specs.Fresh.{made}
-use Rattle.library.specs.Sizes.{noSizes}
-use Rattle.accounts.specs.Account.{freshAccount}
-use Rattle.accounts.specs.Accounting.{call_by, accountedStep}
+use Rattle.library.specs.Sizes.{no_sizes}
+use Rattle.accounts.specs.Account.{fresh_account}
+use Rattle.accounts.specs.Accounting.{call_by, accounted_step}
 use Rattle.accounts.specs.declared.accounting.Report.{Report}
 use Rattle.steps.specs.declared.stepping.Outcome.{Outcome}
 use Rattle.steps.specs.Stepping.{stepped}
 use Rattle.trace.specs.declared.decoding.Read.{Read}
 use Rattle.trace.specs.declared.decoding.Found.{Found}
 use Rattle.trace.specs.declared.decoding.Found.TheVariants as found
-use Rattle.trace.specs.Decoding.{nextRead}
+use Rattle.trace.specs.Decoding.{next_read}
 use Rattle.trace.specs.Traces.{Reading, read_all}
 use Rattle.text.specs.declared.items.Item.{Item}
 use Rattle.text.specs.declared.items.Item.TheVariants.{Nothing, Number, Long, Signed, Cause}
@@ -29,52 +29,52 @@ use Rattle.text.specs.declared.views.Seen.{Seen}
 use Rattle.text.specs.declared.views.Shown.{Shown}
 use Rattle.text.specs.declared.views.Listing.{Listing}
 use Rattle.text.specs.Put.{Put}
-use Rattle.text.specs.Rows.{rowText, rows, no_row, numbered, brief}
-use Rattle.text.specs.Tables.{least, wordRow, tableRow}
-use Rattle.text.specs.Why.{waitedItem}
-use Rattle.text.specs.Sums.{sumRow}
+use Rattle.text.specs.Rows.{row_text, rows, no_row, numbered, brief}
+use Rattle.text.specs.Tables.{least, word_row, table_row}
+use Rattle.text.specs.Why.{waited_item}
+use Rattle.text.specs.Sums.{sum_row}
 
 -- ---- parts: what stands in their rows
 
 -- `step thread cause object message`: of thread i, if the step has woken it
-unfoldable pub wakingRow : Seen → ℕ → Line
-wakingRow x i =
+unfoldable pub waking_row : Seen → ℕ → Line
+waking_row x i =
     let is = row_in x.tables.kernel.threads i in
-    cond (hasBit x.outcome.woken i)
-    (numbered is.step (Number i) (Cause is.cause) (waitedItem (call_by x.step i (row_in x.found i).call)) (Signed is.message) Nothing
+    cond (has_bit x.outcome.woken i)
+    (numbered is.step (Number i) (Cause is.cause) (waited_item (call_by x.step i (row_in x.found i).call)) (Signed is.message) Nothing
     Nothing)
     no_row
 
 -- "a line per step (record number, code, running, woken, finished)", and two items more
-unfoldable pub stepLine : ℕ → Outcome → Item → Item → Line
-stepLine number o message datum =
+unfoldable pub step_line : ℕ → Outcome → Item → Item → Line
+step_line number o message datum =
     numbered number (Number o.code) (Number o.running) (Number o.woken) (Number o.finished) message datum
 
 -- that line; `answer MESSAGE DATUM`; `clock TIME FREQUENCY`; `steps NUMBER`; the line with message and datum; and a waking
-unfoldable pub stepRow : Seen → ℕ → ℕ → Line
-stepRow x part i =
+unfoldable pub step_row : Seen → ℕ → ℕ → Line
+step_row x part i =
     let o = x.outcome in
-    cond (part == 0) (stepLine x.number o Nothing Nothing)
+    cond (part == 0) (step_line x.number o Nothing Nothing)
     (cond (part == 1) (brief (97 ∷ 110 ∷ 115 ∷ 119 ∷ 101 ∷ 114 ∷ 0 ∷ 0 ∷ 0 ∷ []) (Signed o.message) (Number o.datum))
     (cond (part == 13) (brief (99 ∷ 108 ∷ 111 ∷ 99 ∷ 107 ∷ 0 ∷ 0 ∷ 0 ∷ 0 ∷ []) (Number x.clock.time.0) (Number x.clock.frequency))
     (cond (part == 14) (brief (115 ∷ 116 ∷ 101 ∷ 112 ∷ 115 ∷ 0 ∷ 0 ∷ 0 ∷ 0 ∷ []) (Number x.tables.kernel.steps) Nothing)
-    (cond (part == 15) (stepLine x.number o (Signed o.message) (Number o.datum)) (wakingRow x i)))))
+    (cond (part == 15) (step_line x.number o (Signed o.message) (Number o.datum)) (waking_row x i)))))
 
 -- row i of a part
-unfoldable pub rowOf : Seen → ℕ → ℕ → Line
-rowOf x part i =
-    cond (nat_lt part 2) (stepRow x part i)
-    (cond (nat_lt part 8) (tableRow x.tables part i)
-    (cond (nat_lt part 13) (wordRow x.tables.kernel.words part i)
-    (cond (nat_lt part 17) (stepRow x part i) (sumRow x.account x.tables part i))))
+unfoldable pub row_of : Seen → ℕ → ℕ → Line
+row_of x part i =
+    cond (nat_lt part 2) (step_row x part i)
+    (cond (nat_lt part 8) (table_row x.tables part i)
+    (cond (nat_lt part 13) (word_row x.tables.kernel.words part i)
+    (cond (nat_lt part 17) (step_row x part i) (sum_row x.account x.tables part i))))
 
 -- how many rows the parts have, from part 0 on, of so many threads, semaphores, queues, references, mailboxes and pools
 abbrev pub counts : ℕ → ℕ → ℕ → ℕ → ℕ → ℕ → List ℕ
 counts t s q r m p =
     1 ∷ 1 ∷ t ∷ s ∷ q ∷ r ∷ m ∷ 2 * p ∷ 1 ∷ s ∷ q ∷ 2 * m ∷ p ∷ 1 ∷ 1 ∷ 1 ∷ 16 ∷ m ∷ p ∷ 32 * p ∷ []
 
-unfoldable pub rowsIn : Sizes → ℕ → ℕ
-rowsIn z part =
+unfoldable pub rows_in : Sizes → ℕ → ℕ
+rows_in z part =
     slice_index_or
     (counts (least z.threads 16) (least z.semaphores 16) (least z.queues 8) (least z.references 8) (least z.mailboxes 4)
     (least z.pools 4))
@@ -82,8 +82,8 @@ rowsIn z part =
 
 -- what stands before a part's rows: `mailbox posted fetched lost present`, `pool added free out`, `pool object thread step`;
 -- `step code run woke done`, `step thread cause object message`
-unfoldable pub headText : ℕ → List ℕ
-headText part =
+unfoldable pub head_text : ℕ → List ℕ
+head_text part =
     cond (part == 17)
     (109 ∷ 97 ∷ 105 ∷ 108 ∷ 98 ∷ 111 ∷ 120 ∷ 32 ∷ 112 ∷ 111 ∷ 115 ∷ 116 ∷ 101 ∷ 100 ∷ 32 ∷ 102 ∷ 101 ∷ 116 ∷ 99 ∷ 104 ∷ 101 ∷ 100 ∷ 32
     ∷ 108 ∷ 111 ∷ 115 ∷ 116 ∷ 32 ∷ 112 ∷ 114 ∷ 101 ∷ 115 ∷ 101 ∷ 110 ∷ 116 ∷ 10 ∷ [])
@@ -101,47 +101,47 @@ headText part =
     []))))
 
 -- a part
-unfoldable pub partText : Seen → ℕ → List ℕ
-partText x part = headText part ++ rows (rowsIn x.tables.sizes part) (λ i. rowText (rowOf x part i))
+unfoldable pub part_text : Seen → ℕ → List ℕ
+part_text x part = head_text part ++ rows (rows_in x.tables.sizes part) (λ i. row_text (row_of x part i))
 
 -- n parts, one behind the other
-unfoldable pub partsText : Seen → ℕ → ℕ → List ℕ
-partsText x from n = rows n (λ i. partText x ((from + i) % 256))
+unfoldable pub parts_text : Seen → ℕ → ℕ → List ℕ
+parts_text x from n = rows n (λ i. part_text x ((from + i) % 256))
 
 -- ---- the views: which parts stand before all records, behind each step's, and at the end
-abbrev pub viewParts : View → Parts
-viewParts view.Lines = record { head = 20; heads = 1; step = 0; steps = 1; end = 0; ends = 0 }
-viewParts view.AllTables = record { head = 20; heads = 1; step = 0; steps = 15; end = 0; ends = 0 }
-viewParts view.Wakings = record { head = 21; heads = 1; step = 16; steps = 1; end = 0; ends = 0 }
-viewParts view.Sums = record { head = 0; heads = 0; step = 0; steps = 0; end = 17; ends = 3 }
-viewParts view.Answers = record { head = 0; heads = 0; step = 15; steps = 1; end = 0; ends = 0 }
+abbrev pub view_parts : View → Parts
+view_parts view.Lines = record { head = 20; heads = 1; step = 0; steps = 1; end = 0; ends = 0 }
+view_parts view.AllTables = record { head = 20; heads = 1; step = 0; steps = 15; end = 0; ends = 0 }
+view_parts view.Wakings = record { head = 21; heads = 1; step = 16; steps = 1; end = 0; ends = 0 }
+view_parts view.Sums = record { head = 0; heads = 0; step = 0; steps = 0; end = 17; ends = 3 }
+view_parts view.Answers = record { head = 0; heads = 0; step = 15; steps = 1; end = 0; ends = 0 }
 
 -- ---- records
 
 -- "The listing program and the recorded plant traces now give 1000 themselves" (document 02): a trace has no frequency in it
-abbrev pub listedRate : Rate
-listedRate = Given 1000
+abbrev pub listed_rate : Rate
+listed_rate = Given 1000
 
 -- fresh tables of the sizes, at that frequency; no step yet
-abbrev pub freshSeen : Sizes → Seen
-freshSeen z =
+abbrev pub fresh_seen : Sizes → Seen
+fresh_seen z =
     record {
       number = 0;
       step = record { kind = 0; caller = 0; object = 0; a = 0; timeout = 0 };
-      found = (made z listedRate).tables.kernel.threads;
+      found = (made z listed_rate).tables.kernel.threads;
       outcome = record { code = 0; running = 0; woken = 0; finished = 0; message = pos 0; datum = 0 };
-      tables = (made z listedRate).tables;
-      clock = (made z listedRate).clock;
-      account = freshAccount;
+      tables = (made z listed_rate).tables;
+      clock = (made z listed_rate).clock;
+      account = fresh_account;
     }
 
 -- what a result reports of finished calls
-abbrev pub reportOf : Outcome → Report
-reportOf o = record { code = o.code; finished = o.finished; message = o.message; datum = o.datum }
+abbrev pub report_of : Outcome → Report
+report_of o = record { code = o.code; finished = o.finished; message = o.message; datum = o.datum }
 
 -- one step more, which is record n
-unfoldable pub seenAfter : ℕ → Seen → Step → Seen
-seenAfter n x s =
+unfoldable pub seen_after : ℕ → Seen → Step → Seen
+seen_after n x s =
     let y = stepped x.tables x.clock s in
     record {
       number = n;
@@ -150,27 +150,27 @@ seenAfter n x s =
       outcome = y.outcome;
       tables = y.tables;
       clock = y.clock;
-      account = accountedStep x.account n x.tables s (reportOf y.outcome) y.tables;
+      account = accounted_step x.account n x.tables s (report_of y.outcome) y.tables;
     }
 
 -- "at a bad record `stopped`, its number (0 for 15 and 11), the code; then it ends"
-abbrev pub stopText : Found → List ℕ
-stopText found.Opened = []
-stopText (found.Stepped x) = []
-stopText found.Ended = []
-stopText (found.Refused code number) = rowText (brief (115 ∷ 116 ∷ 111 ∷ 112 ∷ 112 ∷ 101 ∷ 100 ∷ 0 ∷ 0 ∷ []) (Long number) (Number code))
+abbrev pub stop_text : Found → List ℕ
+stop_text found.Opened = []
+stop_text (found.Stepped x) = []
+stop_text found.Ended = []
+stop_text (found.Refused code number) = row_text (brief (115 ∷ 116 ∷ 111 ∷ 112 ∷ 112 ∷ 101 ∷ 100 ∷ 0 ∷ 0 ∷ []) (Long number) (Number code))
 
 -- the steps from record n on, and what stopped them
-unfoldable pub recordsText : Parts → ℕ → Seen → List Step → Found → List ℕ
-recordsText v n x [] stop = partsText x v.end v.ends ++ stopText stop
-recordsText v n x (s ∷ ss) stop = partsText (seenAfter n x s) v.step v.steps ++ recordsText v (n + 1) (seenAfter n x s) ss stop
+unfoldable pub records_text : Parts → ℕ → Seen → List Step → Found → List ℕ
+records_text v n x [] stop = parts_text x v.end v.ends ++ stop_text stop
+records_text v n x (s ∷ ss) stop = parts_text (seen_after n x s) v.step v.steps ++ records_text v (n + 1) (seen_after n x s) ss stop
 
-abbrev pub readingText : Parts → Reading → List ℕ
-readingText v r = recordsText v 1 (freshSeen r.sizes) r.steps r.stop
+abbrev pub reading_text : Parts → Reading → List ℕ
+reading_text v r = records_text v 1 (fresh_seen r.sizes) r.steps r.stop
 
 -- the whole text of a view of a trace
-unfoldable pub viewText : View → List ℕ → List ℕ
-viewText w s = partsText (freshSeen noSizes) (viewParts w).head (viewParts w).heads ++ readingText (viewParts w) (read_all s)
+unfoldable pub view_text : View → List ℕ → List ℕ
+view_text w s = parts_text (fresh_seen no_sizes) (view_parts w).head (view_parts w).heads ++ reading_text (view_parts w) (read_all s)
 
 -- ---- record by record
 
@@ -181,35 +181,35 @@ pub record Record : Type 0 where
   pub at : ℕ
 
 -- what is known behind record n, of which this was found, beside these sizes
-abbrev pub seenBehind : ℕ → Seen → Sizes → Found → Seen
-seenBehind n x z found.Opened = freshSeen z
-seenBehind n x z (found.Stepped s) = seenAfter n x s
-seenBehind n x z found.Ended = x
-seenBehind n x z (found.Refused code number) = x
+abbrev pub seen_behind : ℕ → Seen → Sizes → Found → Seen
+seen_behind n x z found.Opened = fresh_seen z
+seen_behind n x z (found.Stepped s) = seen_after n x s
+seen_behind n x z found.Ended = x
+seen_behind n x z (found.Refused code number) = x
 
 -- which parts are shown of it
-abbrev pub shownParts : Parts → Found → Shown
-shownParts v found.Opened = record { from = 0; n = 0 }
-shownParts v (found.Stepped s) = record { from = v.step; n = v.steps }
-shownParts v found.Ended = record { from = v.end; n = v.ends }
-shownParts v (found.Refused code number) = record { from = v.end; n = v.ends }
+abbrev pub shown_parts : Parts → Found → Shown
+shown_parts v found.Opened = record { from = 0; n = 0 }
+shown_parts v (found.Stepped s) = record { from = v.step; n = v.steps }
+shown_parts v found.Ended = record { from = v.end; n = v.ends }
+shown_parts v (found.Refused code number) = record { from = v.end; n = v.ends }
 
 -- the record that a read found; n is its number
-abbrev pub recordOf : Parts → ℕ → Seen → Read → Record
-recordOf v n x r =
-    let after = seenBehind n x r.sizes r.found in
+abbrev pub record_of : Parts → ℕ → Seen → Read → Record
+record_of v n x r =
+    let after = seen_behind n x r.sizes r.found in
     record {
-      text = partsText after (shownParts v r.found).from (shownParts v r.found).n ++ stopText r.found;
+      text = parts_text after (shown_parts v r.found).from (shown_parts v r.found).n ++ stop_text r.found;
       seen = after;
       at = r.next;
     }
 
 -- the texts of at most so many records, from a record's number and place on; a read that moves no reader is the last
-unfoldable pub textFrom : Parts → ℕ → ℕ → List ℕ → Seen → ℕ → List ℕ
-textFrom v zero i s x at = []
-textFrom v (suc n) i s x at =
-    let y = recordOf v i x (nextRead s at) in
-    y.text ++ cond (y.at == at) [] (textFrom v n (i + 1) s y.seen y.at)
+unfoldable pub text_from : Parts → ℕ → ℕ → List ℕ → Seen → ℕ → List ℕ
+text_from v zero i s x at = []
+text_from v (suc n) i s x at =
+    let y = record_of v i x (next_read s at) in
+    y.text ++ cond (y.at == at) [] (text_from v n (i + 1) s y.seen y.at)
 
 -- a record's text has been put into the buffer, and r is the listing behind it
 pub record Listed (l l' : List ℕ) (x r : Listing) (y : Record) : Type 0 where

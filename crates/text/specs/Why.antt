@@ -4,8 +4,8 @@ use Rattle.kernel.specs.declared.records.Call.{Call}
 use Rattle.text.specs.declared.items.Item.{Item}
 use Rattle.text.specs.declared.items.Item.TheVariants.{Dash, Lettered}
 
-abbrev pub waitedItem : Call → Item
-waitedItem c =
+abbrev pub waited_item : Call → Item
+waited_item c =
     cond (c.kind == 2) (Lettered 115 c.object)
     (cond (c.kind == 6) (Lettered 113 c.object)
     (cond (c.kind == 9) (Lettered 114 c.object)

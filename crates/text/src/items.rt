@@ -3,7 +3,7 @@
 ghost use Rattle.std.specs.Prelude.{◌≡◌, ◌+◌, ◌%◌, [], ◌∷◌};
 ghost use Rattle.text.specs.Put.{Put};
 ghost use Rattle.text.specs.Decimal.{decimal};
-ghost use Rattle.text.specs.Rows.{letter, wordText, signedText, causeWord, field, fields, rows, cell_of, rowText, row, brief, numbered, no_row};
+ghost use Rattle.text.specs.Rows.{letter, word_text, signed_text, cause_word, field, fields, rows, cell_of, row_text, row, brief, numbered, no_row};
 
 use kernel::numbers::{
     CAUSE_EVENT, CAUSE_FETCH, CAUSE_POST, CAUSE_RELEASE, CAUSE_RESET, CAUSE_RESUME, CAUSE_SIGNAL,
@@ -201,7 +201,7 @@ fn put_number(out: &mut [u8], at: usize, n: u64) -> usize
 }
 
 fn put_signed(out: &mut [u8], at: usize, m: i32) -> usize
-    ensures { Put out.old out.new at result (signedText m) }
+    ensures { Put out.old out.new at result (signed_text m) }
 {
     let size = magnitude(m);
     if m < 0 {
@@ -214,7 +214,7 @@ fn put_signed(out: &mut [u8], at: usize, m: i32) -> usize
 
 // A cause in words.
 fn cause_word(cause: u32) -> [u8; 9]
-    ensures { result ≡ causeWord cause }
+    ensures { result ≡ cause_word cause }
 {
     match cause {
         CAUSE_SIGNAL => *b"signal\0\0\0",
@@ -237,7 +237,7 @@ fn put_letter(out: &mut [u8], at: usize, b: u8) -> usize
 }
 
 fn put_letters(out: &mut [u8], at: usize, word: [u8; 9]) -> usize
-    ensures { Put out.old out.new at result (wordText word) }
+    ensures { Put out.old out.new at result (word_text word) }
 {
     let mut end = at;
     let mut i: usize = 0;
@@ -320,7 +320,7 @@ fn put_cells(out: &mut [u8], at: usize, b: Mailbox, p: Pool, which: u8, n: u8) -
 
 // A row: its word, its items, what it lists, and its end.
 pub(crate) fn put_row(out: &mut [u8], at: usize, r: Line) -> usize
-    ensures { Put out.old out.new at result (rowText r) }
+    ensures { Put out.old out.new at result (row_text r) }
 {
     let word = r.word;
     let a = r.a;

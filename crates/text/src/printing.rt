@@ -3,7 +3,7 @@
 // was there (`list_next`), and the records' texts are the view's (`view-text`, proofs/ViewLaws.antt). Outside every statement stay that the
 // write call writes what it is handed, and here the lines that hand it over: `write_out`, where it is called, and the end 0 behind it.
 ghost use Rattle.std.specs.Prelude.{◌≡◌};
-ghost use Rattle.text.specs.Ending.{placeRead};
+ghost use Rattle.text.specs.Ending.{place_read};
 
 use crate::views::{Listing, View, fresh_seen, list_next, parts_of, put_parts};
 use libc::STDOUT_FILENO;
@@ -34,7 +34,7 @@ fn write_if_full(out: &[u8], end: usize) -> usize {
 
 // Prints a view of a trace. The answer is the place in the trace where reading ended: its end, or the bad record.
 pub fn print_trace(s: &[u8], view: View) -> usize
-    ensures { result ≡ placeRead 5000 s.now 0 }
+    ensures { result ≡ place_read 5000 s.now 0 }
 {
     let mut space = io::large_buffer();
     let out: &mut [u8] = &mut space;

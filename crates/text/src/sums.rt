@@ -1,7 +1,7 @@
 // The rows of an account: of each mailbox, of each pool, and of each object that is out, by pool and object.
 ghost use Rattle.std.specs.Prelude.{◌≡◌, slice_index};
 ghost use Rattle.kernel.specs.Walk.{bit};
-ghost use Rattle.text.specs.Sums.{markedCount, objectRow, mailboxSums, poolSums, sumRow};
+ghost use Rattle.text.specs.Sums.{marked_count, object_row, mailbox_sums, pool_sums, sum_row};
 
 use crate::items::{Item, Line, no_row, numbered};
 use accounts::account::Account;
@@ -42,7 +42,7 @@ fn one_if(b: bool) -> u32
 
 // How many of a pool's objects have a mark.
 fn count_marks(p: Pool, mark: u8) -> u32
-    ensures { result ≡ markedCount p mark }
+    ensures { result ≡ marked_count p mark }
 {
     let mut n: u32 = 0;
     let mut i: u8 = 0;
@@ -55,7 +55,7 @@ fn count_marks(p: Pool, mark: u8) -> u32
 
 // Object i of all pools, 32 a pool; no row if it is not out.
 fn object_row(a: Account, t: Tables, i: u8) -> Line
-    ensures { result ≡ objectRow a t i }
+    ensures { result ≡ object_row a t i }
 {
     let pools = t.pools;
     let p = pool_at(pools, i as u16 / 32);
@@ -77,7 +77,7 @@ fn object_row(a: Account, t: Tables, i: u8) -> Line
 }
 
 fn mailbox_sums(a: Account, t: Tables, i: u8) -> Line
-    ensures { result ≡ mailboxSums a t i }
+    ensures { result ≡ mailbox_sums a t i }
 {
     let boxes = t.mailboxes;
     let posted = a.posted;
@@ -97,7 +97,7 @@ fn mailbox_sums(a: Account, t: Tables, i: u8) -> Line
 }
 
 fn pool_sums(a: Account, t: Tables, i: u8) -> Line
-    ensures { result ≡ poolSums a t i }
+    ensures { result ≡ pool_sums a t i }
 {
     let pools = t.pools;
     let added = a.added;
@@ -115,7 +115,7 @@ fn pool_sums(a: Account, t: Tables, i: u8) -> Line
 
 // Row i of an account.
 pub(crate) fn sum_row(a: Account, t: Tables, part: u8, i: u8) -> Line
-    ensures { result ≡ sumRow a t part i }
+    ensures { result ≡ sum_row a t part i }
 {
     match part {
         MAILBOX_SUMS => mailbox_sums(a, t, i),

@@ -1,6 +1,6 @@
 // The rows of all tables and of the words, in the order of docs/LISTING.md. A table is a part, by its number; `views` has the loops.
 ghost use Rattle.std.specs.Prelude.{◌≡◌};
-ghost use Rattle.text.specs.Tables.{least, placeItem, waitItem, threadRow, resetOf, mailboxRow, freeRow, marksRow, poolRow, wordPlace, wordRow, tableRow};
+ghost use Rattle.text.specs.Tables.{least, place_item, wait_item, thread_row, reset_of, mailbox_row, free_row, marks_row, pool_row, word_place, word_row, table_row};
 
 use crate::items::{Item, LISTED, Line, MARKS, MESSAGES, brief, row};
 use kernel::numbers::{QUEUED, SUSPENDED};
@@ -39,7 +39,7 @@ pub(crate) fn least(n: u16, most: u8) -> u8
 
 // A place of the table of counters: s, p, q, w (writers) or f (readers), and the object's number.
 fn queued_at(place: u16) -> Item
-    ensures { result ≡ placeItem place }
+    ensures { result ≡ place_item place }
 {
     if place < 16 {
         Item::Lettered(b's', place)
@@ -56,7 +56,7 @@ fn queued_at(place: u16) -> Item
 
 // Where a thread waits: r and a reference's number if it is suspended, a dash if it waits on no object.
 fn waits_at(state: u16, place: u16) -> Item
-    ensures { result ≡ waitItem state place }
+    ensures { result ≡ wait_item state place }
 {
     if state == QUEUED {
         queued_at(place)
@@ -69,7 +69,7 @@ fn waits_at(state: u16, place: u16) -> Item
 
 // What a thread waits for, its unfinished call, its last answer, and the cause and the step of its last waking.
 fn thread_row(i: u8, t: Thread) -> Line
-    ensures { result ≡ threadRow i t }
+    ensures { result ≡ thread_row i t }
 {
     let place = waits_at(t.state, t.place);
     let call = t.call;
@@ -104,14 +104,14 @@ fn thread_row(i: u8, t: Thread) -> Line
 
 // 0 or 1.
 fn reset_of(n: u16) -> u32
-    ensures { result ≡ resetOf n }
+    ensures { result ≡ reset_of n }
 {
     if n == 0 { 0 } else { 1 }
 }
 
 // A mailbox's positions, its reset state, who waits, and its slots.
 fn mailbox_row(t: Tables, i: u8) -> Line
-    ensures { result ≡ mailboxRow t i }
+    ensures { result ≡ mailbox_row t i }
 {
     let counters = t.kernel.counters;
     let boxes = t.mailboxes;
@@ -135,7 +135,7 @@ fn mailbox_row(t: Tables, i: u8) -> Line
 
 // A pool's counter and free list.
 fn free_row(n: u8, p: Pool, count: i32) -> Line
-    ensures { result ≡ freeRow n p count }
+    ensures { result ≡ free_row n p count }
 {
     let mut r = row(
         *b"pool\0\0\0\0\0",
@@ -155,7 +155,7 @@ fn free_row(n: u8, p: Pool, count: i32) -> Line
 
 // And its marks.
 fn marks_row(n: u8, p: Pool) -> Line
-    ensures { result ≡ marksRow n p }
+    ensures { result ≡ marks_row n p }
 {
     let mut r = brief(*b"marks\0\0\0\0", Item::Number(n as u32), Item::Nothing);
     r.pool = p;
@@ -166,7 +166,7 @@ fn marks_row(n: u8, p: Pool) -> Line
 
 // Row i of the pools, two a pool.
 fn pool_row(t: Tables, i: u8) -> Line
-    ensures { result ≡ poolRow t i }
+    ensures { result ≡ pool_row t i }
 {
     let n = i / 2;
     let counters = t.kernel.counters;
@@ -181,7 +181,7 @@ fn pool_row(t: Tables, i: u8) -> Line
 
 // The place of word i of an object's words.
 fn word_place(part: u8, i: u8) -> u16
-    ensures { result ≡ wordPlace part i }
+    ensures { result ≡ word_place part i }
 {
     let at = i as u16;
     match part {
@@ -194,7 +194,7 @@ fn word_place(part: u8, i: u8) -> u16
 
 // Row i of the words.
 pub(crate) fn word_row(w: Words, part: u8, i: u8) -> Line
-    ensures { result ≡ wordRow w part i }
+    ensures { result ≡ word_row w part i }
 {
     if part == READY_WORD {
         brief(
@@ -211,7 +211,7 @@ pub(crate) fn word_row(w: Words, part: u8, i: u8) -> Line
 
 // Row i of a table.
 pub(crate) fn table_row(t: Tables, part: u8, i: u8) -> Line
-    ensures { result ≡ tableRow t part i }
+    ensures { result ≡ table_row t part i }
 {
     let k = t.kernel;
     let threads = k.threads;

@@ -1,8 +1,8 @@
 // What each view prints of a trace: which parts stand before all records, behind each step's record, and at the end; and one loop for all.
 ghost use Rattle.std.specs.Prelude.{◌≡◌};
-ghost use Rattle.trace.specs.Decoding.{nextRead};
+ghost use Rattle.trace.specs.Decoding.{next_read};
 ghost use Rattle.text.specs.Put.{Put};
-ghost use Rattle.text.specs.Views.{viewParts, wakingRow, stepLine, stepRow, rowOf, rowsIn, headText, partText, partsText, stopText, freshSeen, reportOf, seenAfter, seenBehind, shownParts, recordOf, Listed};
+ghost use Rattle.text.specs.Views.{view_parts, waking_row, step_line, step_row, row_of, rows_in, head_text, part_text, parts_text, stop_text, fresh_seen, report_of, seen_after, seen_behind, shown_parts, record_of, Listed};
 
 use crate::items::{Item, Line, brief, no_row, numbered, put_row, put_word};
 use crate::sums::{MAILBOX_SUMS, POOL_SUMS, sum_row};
@@ -87,7 +87,7 @@ pub struct Listing {
 }
 
 pub(crate) fn parts_of(view: View) -> Parts
-    ensures { result ≡ viewParts view }
+    ensures { result ≡ view_parts view }
 {
     match view {
         View::Lines => Parts {
@@ -136,7 +136,7 @@ pub(crate) fn parts_of(view: View) -> Parts
 // The waking of thread i, if the step has woken it. It waited in the step's own call, if it is the caller, else in the one that its
 // record had kept.
 fn waking_row(x: Seen, i: u8) -> Line
-    ensures { result ≡ wakingRow x i }
+    ensures { result ≡ waking_row x i }
 {
     let found = x.found;
     let threads = x.tables.kernel.threads;
@@ -160,7 +160,7 @@ fn waking_row(x: Seen, i: u8) -> Line
 
 // A step's line, with its message and datum or without them.
 fn step_line(number: u32, o: Outcome, message: Item, datum: Item) -> Line
-    ensures { result ≡ stepLine number o message datum }
+    ensures { result ≡ step_line number o message datum }
 {
     numbered(
         number,
@@ -175,7 +175,7 @@ fn step_line(number: u32, o: Outcome, message: Item, datum: Item) -> Line
 
 // A row of a step: its line, its answer, the clock, the number of accepted steps, its line with its answer, or a waking.
 fn step_row(x: Seen, part: u8, i: u8) -> Line
-    ensures { result ≡ stepRow x part i }
+    ensures { result ≡ step_row x part i }
 {
     let o = x.outcome;
     let k = x.tables.kernel;
@@ -199,7 +199,7 @@ fn step_row(x: Seen, part: u8, i: u8) -> Line
 
 // Row i of a part.
 fn row_of(x: Seen, part: u8, i: u8) -> Line
-    ensures { result ≡ rowOf x part i }
+    ensures { result ≡ row_of x part i }
 {
     let t = x.tables;
     let k = t.kernel;
@@ -220,7 +220,7 @@ fn row_of(x: Seen, part: u8, i: u8) -> Line
 
 // What stands before a part's rows.
 fn put_head(out: &mut [u8], at: usize, part: u8) -> usize
-    ensures { Put out.old out.new at result (headText part) }
+    ensures { Put out.old out.new at result (head_text part) }
 {
     match part {
         MAILBOX_SUMS => put_word(out, at, b"mailbox posted fetched lost present\n"),
@@ -234,7 +234,7 @@ fn put_head(out: &mut [u8], at: usize, part: u8) -> usize
 
 // How many rows a part has: as many as there are objects, each mailbox with two words, each pool with two rows and 32 objects.
 fn rows_in(z: Sizes, part: u8) -> u8
-    ensures { result ≡ rowsIn z part }
+    ensures { result ≡ rows_in z part }
 {
     let t = least(z.threads, 16);
     let s = least(z.semaphores, 16);
@@ -270,7 +270,7 @@ fn rows_in(z: Sizes, part: u8) -> u8
 
 // A part: what stands before its rows, and these.
 fn put_part(out: &mut [u8], at: usize, x: Seen, part: u8) -> usize
-    ensures { Put out.old out.new at result (partText x part) }
+    ensures { Put out.old out.new at result (part_text x part) }
 {
     let t = x.tables;
     let sizes = t.sizes;
@@ -286,7 +286,7 @@ fn put_part(out: &mut [u8], at: usize, x: Seen, part: u8) -> usize
 
 // Some parts, one behind the other.
 pub(crate) fn put_parts(out: &mut [u8], at: usize, x: Seen, from: u8, n: u8) -> usize
-    ensures { Put out.old out.new at result (partsText x from n) }
+    ensures { Put out.old out.new at result (parts_text x from n) }
 {
     let mut end = at;
     let mut i: u8 = 0;
@@ -299,7 +299,7 @@ pub(crate) fn put_parts(out: &mut [u8], at: usize, x: Seen, from: u8, n: u8) -> 
 
 // Where reading stopped at a bad record: `stopped`, its number, the code.
 fn put_stop(out: &mut [u8], at: usize, found: Found) -> usize
-    ensures { Put out.old out.new at result (stopText found) }
+    ensures { Put out.old out.new at result (stop_text found) }
 {
     match found {
         Found::Opened => at,
@@ -323,7 +323,7 @@ const LISTED_FREQUENCY: u32 = 1000;
 
 // Fresh tables of the sizes, at that frequency, and no step yet.
 pub(crate) fn fresh_seen(sizes: Sizes) -> Seen
-    ensures { result ≡ freshSeen sizes }
+    ensures { result ≡ fresh_seen sizes }
 {
     let m = make(sizes, Rate::Given(LISTED_FREQUENCY));
     let tables = m.tables;
@@ -358,7 +358,7 @@ pub(crate) fn fresh_seen(sizes: Sizes) -> Seen
 
 // What a result reports of finished calls.
 fn report_of(o: Outcome) -> Report
-    ensures { result ≡ reportOf o }
+    ensures { result ≡ report_of o }
 {
     Report {
         code: o.code,
@@ -370,7 +370,7 @@ fn report_of(o: Outcome) -> Report
 
 // What is known behind a step, which is the record of this number.
 fn see(number: u32, x: Seen, s: Step) -> Seen
-    ensures { result ≡ seenAfter number x s }
+    ensures { result ≡ seen_after number x s }
 {
     let old = x.tables;
     let found = old.kernel.threads;
@@ -394,7 +394,7 @@ fn see(number: u32, x: Seen, s: Step) -> Seen
 
 // What is known behind a record of this number.
 fn see_read(number: u32, x: Seen, sizes: Sizes, found: Found) -> Seen
-    ensures { result ≡ seenBehind number x sizes found }
+    ensures { result ≡ seen_behind number x sizes found }
 {
     match found {
         Found::Opened => fresh_seen(sizes),
@@ -412,7 +412,7 @@ struct Shown {
 }
 
 fn shown_of(v: Parts, found: Found) -> Shown
-    ensures { result ≡ shownParts v found }
+    ensures { result ≡ shown_parts v found }
 {
     match found {
         Found::Opened => Shown { from: 0, n: 0 },
@@ -433,7 +433,7 @@ fn shown_of(v: Parts, found: Found) -> Shown
 
 // The next record of a trace: it is read, and its text stands in the buffer behind what was there.
 pub(crate) fn list_next(out: &mut [u8], s: &[u8], x: Listing, number: u32, v: Parts) -> Listing
-    ensures { Listed out.old out.new x result (recordOf v number x.seen (nextRead s.now x.at)) }
+    ensures { Listed out.old out.new x result (record_of v number x.seen (next_read s.now x.at)) }
 {
     let at = x.at;
     let read = read_at(s, at);

@@ -1,6 +1,6 @@
 // Where a call waits, for the line of a waking.
 ghost use Rattle.std.specs.Prelude.{◌≡◌};
-ghost use Rattle.text.specs.Why.{waitedItem};
+ghost use Rattle.text.specs.Why.{waited_item};
 
 use crate::items::Item;
 use kernel::kinds::{
@@ -11,7 +11,7 @@ use kernel::records::Call;
 
 // A sleep and an event wait are on no object.
 pub(crate) fn waited_at(call: Call) -> Item
-    ensures { result ≡ waitedItem call }
+    ensures { result ≡ waited_item call }
 {
     let kind = call.kind;
     match kind {

@@ -9,9 +9,9 @@ use lib.Seq.{take-add, drop-drop, get_or-take, take_all}
 use borrow.Author.Tests.{ltb-true, ltb-false}
 use Rattle.library.specs.declared.calls.Step.{Step}
 use Rattle.library.specs.declared.sizes.Sizes.{Sizes}
-use Rattle.trace.specs.Ordered.{bytesN, getN}
-use Rattle.trace.specs.TraceBytes.{sizesBody, stepBody}
-use Rattle.trace.specs.Decoding.{decodedSizes, decodedStep}
+use Rattle.trace.specs.Ordered.{bytes_n, get_n}
+use Rattle.trace.specs.TraceBytes.{sizes_body, step_body}
+use Rattle.trace.specs.Decoding.{decoded_sizes, decoded_step}
 use Rattle.trace.specs.Traces.{Encodes, Tabled, Bytes}
 use Rattle.trace.proofs.Cases.{split}
 use Rattle.trace.proofs.Widths.{get-bytes, bytes-get}
@@ -19,12 +19,12 @@ use Rattle.trace.proofs.Widths.{get-bytes, bytes-get}
 -- ---- steps
 
 -- a step's body is decoded as the step
-pub step-decoded : (x : Step) → Encodes x → decodedStep (stepBody x) ≡ x
-unfolding decodedStep
+pub step-decoded : (x : Step) → Encodes x → decoded_step (step_body x) ≡ x
+unfolding decoded_step
 step-decoded x e =
     ap₂ (λ (a t : ℕ). record { kind = x.kind; caller = x.caller; object = x.object; a = a; timeout = t })
-    (get-bytes 4 (x.kind ∷ x.caller ∷ x.object ∷ []) x.a (bytesN 4 x.timeout) 3 refl e.a)
-    (get-bytes 4 (x.kind ∷ x.caller ∷ x.object ∷ bytesN 4 x.a) x.timeout [] 7 refl e.timeout)
+    (get-bytes 4 (x.kind ∷ x.caller ∷ x.object ∷ []) x.a (bytes_n 4 x.timeout) 3 refl e.a)
+    (get-bytes 4 (x.kind ∷ x.caller ∷ x.object ∷ bytes_n 4 x.a) x.timeout [] 7 refl e.timeout)
 
 -- the first three elements, and the rest
 three-and-rest : (l : List ℕ) → 3 ≤ length l → get_or l 0 0 ∷ get_or l 1 0 ∷ get_or l 2 0 ∷ drop 3 l ≡ l
@@ -34,10 +34,10 @@ three-and-rest (a ∷ b ∷ []) h = absurd (omega arith)
 three-and-rest (a ∷ b ∷ c ∷ l) h = refl
 
 -- a body of eleven bytes is the body of the step that it is decoded as
-pub step-encoded : (l : List ℕ) → Bytes l → length l ≡ 11 → stepBody (decodedStep l) ≡ l
-unfolding decodedStep
+pub step-encoded : (l : List ℕ) → Bytes l → length l ≡ 11 → step_body (decoded_step l) ≡ l
+unfolding decoded_step
 step-encoded l b n =
-    let rest : bytesN 4 (getN 4 l 3) ++ bytesN 4 (getN 4 l 7) ≡ drop 3 l =
+    let rest : bytes_n 4 (get_n 4 l 3) ++ bytes_n 4 (get_n 4 l 7) ≡ drop 3 l =
     ap₂ (λ (p q : List ℕ). p ++ q) (bytes-get 4 l 3 b (omega arith)) (bytes-get 4 l 7 b (omega arith) ∙ ap (take 4) (sym (drop-drop 4 3 l)))
     ∙ sym (take-add 4 4 (drop 3 l))
     ∙ take_all 8 (drop 3 l) (omega (arith, length-drop 3 l)) in
@@ -81,8 +81,8 @@ with-slots z l =
     }
 
 -- the body of sizes is decoded as the sizes
-pub sizes-decoded : (z : Sizes) → Tabled z → decodedSizes (sizesBody z) ≡ z
-unfolding decodedSizes with-slots
+pub sizes-decoded : (z : Sizes) → Tabled z → decoded_sizes (sizes_body z) ≡ z
+unfolding decoded_sizes with-slots
 sizes-decoded z t =
     let slot : (i : ℕ) → get_or (take z.mailboxes z.slots) i 0 ≡ get_or z.slots i 0 = slot_kept z t in
     let slots : List ℕ = take z.mailboxes z.slots in
@@ -100,8 +100,8 @@ up-to-four (a ∷ b ∷ c ∷ d ∷ []) h = refl
 up-to-four (a ∷ b ∷ c ∷ d ∷ e ∷ l) h = absurd (omega arith)
 
 -- a body of the right length is the body of the sizes that it is decoded as
-pub sizes-encoded : (l : List ℕ) → length l ≡ 6 + get_or l 4 0 → get_or l 4 0 ≤ 4 → sizesBody (decodedSizes l) ≡ l
-unfolding decodedSizes
+pub sizes-encoded : (l : List ℕ) → length l ≡ 6 + get_or l 4 0 → get_or l 4 0 ≤ 4 → sizes_body (decoded_sizes l) ≡ l
+unfolding decoded_sizes
 sizes-encoded [] n m = absurd (omega arith)
 sizes-encoded (a ∷ []) n m = absurd (omega arith)
 sizes-encoded (a ∷ b ∷ []) n m = absurd (omega arith)
@@ -114,8 +114,8 @@ sizes-encoded (a ∷ b ∷ c ∷ d ∷ e ∷ f ∷ l) n m =
     (ap (λ (j : ℕ). take j (get_or l 0 0 ∷ get_or l 1 0 ∷ get_or l 2 0 ∷ get_or l 3 0 ∷ [])) k ∙ up-to-four l (omega arith))
 
 -- what is decoded from such a body has a table of four, with 0 for the mailboxes that are not there
-pub sizes-tabled : (l : List ℕ) → length l ≡ 6 + get_or l 4 0 → Tabled (decodedSizes l)
-unfolding decodedSizes
+pub sizes-tabled : (l : List ℕ) → length l ≡ 6 + get_or l 4 0 → Tabled (decoded_sizes l)
+unfolding decoded_sizes
 sizes-tabled l n = record { four = refl; absent = past }
   where
     past : (i : ℕ) → get_or l 4 0 ≤ i → get_or (get_or l 6 0 ∷ get_or l 7 0 ∷ get_or l 8 0 ∷ get_or l 9 0 ∷ []) i 0 ≡ 0

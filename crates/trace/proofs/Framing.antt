@@ -7,96 +7,96 @@ use mathlib.Core.List.{List}
 use lib.Dec.{eqb, ltb}
 use lib.ListN.{length, get_or}
 use borrow.Author.Tests.{lt-ltb, le-ltb, eq-eqb, ltb-false, eqb-true, eqb-false}
-use Rattle.trace.specs.Ordered.{getN}
+use Rattle.trace.specs.Ordered.{get_n}
 use Rattle.trace.specs.TraceBytes.{longest}
-use Rattle.library.specs.Sizes.{sizesFit}
-use Rattle.trace.specs.Decoding.{endsInside, lengthRefusal, headSizes, headRefusal, stepRefusal}
+use Rattle.library.specs.Sizes.{sizes_fit}
+use Rattle.trace.specs.Decoding.{ends_inside, length_refusal, head_sizes, head_refusal, step_refusal}
 use Rattle.trace.proofs.Cases.{split, ltb-same}
 
 -- record 0 was not refused with 15, 11, 12 or 13
 pub record Opens (s : List ℕ) : Type 0 where
   pub short : length s ≤ longest
   pub version : get_or s 0 0 ≡ 1
-  pub sized : getN 2 s 1 ≡ 6 + get_or s 7 0
-  pub within : 3 + getN 2 s 1 ≤ length s
+  pub sized : get_n 2 s 1 ≡ 6 + get_or s 7 0
+  pub within : 3 + get_n 2 s 1 ≤ length s
 
 -- nor with 14
 pub record Head (s : List ℕ) : Type 0 where
   pub opens : Opens s
-  pub fit : sizesFit (headSizes s) ≡ true
+  pub fit : sizes_fit (head_sizes s) ≡ true
 
 -- a later record was not refused with 12 or 13
 pub record Stands (s : List ℕ) (at : ℕ) : Type 0 where
-  pub sized : getN 2 s at ≡ 11
+  pub sized : get_n 2 s at ≡ 11
   pub within : at + 13 ≤ length s
 
 module _ (s : List ℕ) (at : ℕ) where
   -- in the form in which code meets it: the input ends inside the length
-  pub ends-in-length : length s < at + 2 → true ≡ endsInside s at
-  unfolding endsInside
+  pub ends-in-length : length s < at + 2 → true ≡ ends_inside s at
+  unfolding ends_inside
   ends-in-length h = rw (lt-ltb (length s) (at + 2) h)
 
   -- the length is n, and the code's own test is of what is left
-  pub ends-in-body : (n : ℕ) → n ≡ getN 2 s at → at + 2 ≤ length s → ltb (length s - at - 2) n ≡ endsInside s at
-  unfolding endsInside
+  pub ends-in-body : (n : ℕ) → n ≡ get_n 2 s at → at + 2 ≤ length s → ltb (length s - at - 2) n ≡ ends_inside s at
+  unfolding ends_inside
   ends-in-body n e h =
       rw (le-ltb (length s) (at + 2) h, ← e) (ltb-same (length s - at - 2) n (length s) (at + 2 + n) (λ l. omega arith) (λ l. omega arith))
 
-  pub whole : endsInside s at ≡ false → at + 2 + getN 2 s at ≤ length s
-  unfolding endsInside
+  pub whole : ends_inside s at ≡ false → at + 2 + get_n 2 s at ≤ length s
+  unfolding ends_inside
   whole e =
       split (ltb (length s) (at + 2))
       (λ t. absurd (true≢false (rw t at e)))
-      (λ f. ltb-false (length s) (at + 2 + getN 2 s at) (rw f at e))
+      (λ f. ltb-false (length s) (at + 2 + get_n 2 s at) (rw f at e))
 
-  pub inside : at + 2 + getN 2 s at ≤ length s → endsInside s at ≡ false
-  unfolding endsInside
-  inside h = rw (le-ltb (length s) (at + 2) (omega arith), le-ltb (length s) (at + 2 + getN 2 s at) h)
+  pub inside : at + 2 + get_n 2 s at ≤ length s → ends_inside s at ≡ false
+  unfolding ends_inside
+  inside h = rw (le-ltb (length s) (at + 2) (omega arith), le-ltb (length s) (at + 2 + get_n 2 s at) h)
 
-  pub stands : stepRefusal s at ≡ 0 → Stands s at
-  unfolding stepRefusal
+  pub stands : step_refusal s at ≡ 0 → Stands s at
+  unfolding step_refusal
   stands e =
-      split (endsInside s at)
+      split (ends_inside s at)
       (λ t. let z : ◌≡◌ {A = ℕ} 12 0 = rw t at e in absurd (omega arith))
-      (λ f. split (eqb (getN 2 s at) 11)
-      (λ t. let n : getN 2 s at ≡ 11 = eqb-true (getN 2 s at) 11 t in record { sized = n; within = omega (arith, whole f) })
+      (λ f. split (eqb (get_n 2 s at) 11)
+      (λ t. let n : get_n 2 s at ≡ 11 = eqb-true (get_n 2 s at) 11 t in record { sized = n; within = omega (arith, whole f) })
       (λ g. let z : ◌≡◌ {A = ℕ} 13 0 = rw (f, g) at e in absurd (omega arith)))
 
-  pub accepted : Stands s at → stepRefusal s at ≡ 0
-  unfolding stepRefusal
-  accepted h = rw (inside (omega (arith, h.sized, h.within)), eq-eqb (getN 2 s at) 11 h.sized)
+  pub accepted : Stands s at → step_refusal s at ≡ 0
+  unfolding step_refusal
+  accepted h = rw (inside (omega (arith, h.sized, h.within)), eq-eqb (get_n 2 s at) 11 h.sized)
 
 module _ (s : List ℕ) where
-  pub opens : lengthRefusal s ≡ 0 → Opens s
-  unfolding lengthRefusal
+  pub opens : length_refusal s ≡ 0 → Opens s
+  unfolding length_refusal
   opens e =
       split (ltb longest (length s))
       (λ t. let z : ◌≡◌ {A = ℕ} 15 0 = rw t at e in absurd (omega arith))
       (λ a. split (eqb (get_or s 0 0) 1)
-      (λ b. split (endsInside s 1)
+      (λ b. split (ends_inside s 1)
       (λ t. let z : ◌≡◌ {A = ℕ} 12 0 = rw (a, b, t) at e in absurd (omega arith))
-      (λ c. split (eqb (getN 2 s 1) (6 + get_or s 7 0))
+      (λ c. split (eqb (get_n 2 s 1) (6 + get_or s 7 0))
       (λ d. record {
         short = ltb-false longest (length s) a;
         version = eqb-true (get_or s 0 0) 1 b;
-        sized = eqb-true (getN 2 s 1) (6 + get_or s 7 0) d;
+        sized = eqb-true (get_n 2 s 1) (6 + get_or s 7 0) d;
         within = whole s 1 c;
       })
       (λ f. let z : ◌≡◌ {A = ℕ} 13 0 = rw (a, b, c, f) at e in absurd (omega arith))))
       (λ f. let z : ◌≡◌ {A = ℕ} 11 0 = rw (a, f) at e in absurd (omega arith)))
 
-  pub opened : Opens s → lengthRefusal s ≡ 0
-  unfolding lengthRefusal
+  pub opened : Opens s → length_refusal s ≡ 0
+  unfolding length_refusal
   opened h =
-      rw (le-ltb longest (length s) h.short, eq-eqb (get_or s 0 0) 1 h.version, inside s 1 h.within, eq-eqb (getN 2 s 1) (6 + get_or s 7 0) h.sized)
+      rw (le-ltb longest (length s) h.short, eq-eqb (get_or s 0 0) 1 h.version, inside s 1 h.within, eq-eqb (get_n 2 s 1) (6 + get_or s 7 0) h.sized)
 
-  pub head : headRefusal s ≡ 0 → Head s
+  pub head : head_refusal s ≡ 0 → Head s
   head e =
-      split (eqb (lengthRefusal s) 0)
-      (λ t. split (sizesFit (headSizes s))
-      (λ u. record { opens = opens (eqb-true (lengthRefusal s) 0 t); fit = u })
+      split (eqb (length_refusal s) 0)
+      (λ t. split (sizes_fit (head_sizes s))
+      (λ u. record { opens = opens (eqb-true (length_refusal s) 0 t); fit = u })
       (λ f. let z : ◌≡◌ {A = ℕ} 14 0 = rw (t, f) at e in absurd (omega arith)))
-      (λ f. absurd (eqb-false (lengthRefusal s) 0 f (rw f at e)))
+      (λ f. absurd (eqb-false (length_refusal s) 0 f (rw f at e)))
 
 -- the part of the trace that a body is: from behind the length, as many bytes as the length says
 pub part : (from n : ℕ) → from + n - from ≡ n

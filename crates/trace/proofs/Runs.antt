@@ -11,10 +11,10 @@ use lib.Seq.{sets, length-sets, length-take-le, take_all, take-suc, get_or-take}
 use borrow.Author.Tests.{ltb-true, ltb-false}
 use Rattle.library.specs.declared.calls.Step.{Step}
 use Rattle.library.specs.declared.sizes.Sizes.{Sizes}
-use Rattle.trace.specs.Ordered.{bytesN, putN}
-use Rattle.library.specs.Sizes.{slotsAt}
-use Rattle.trace.specs.TraceBytes.{sizesBody, head_of, recordOf}
-use Rattle.trace.specs.Writer.{slotWritten}
+use Rattle.trace.specs.Ordered.{bytes_n, put_n}
+use Rattle.library.specs.Sizes.{slots_at}
+use Rattle.trace.specs.TraceBytes.{sizes_body, head_of, record_of}
+use Rattle.trace.specs.Writer.{slot_written}
 use Rattle.trace.proofs.Cases.{split}
 use Rattle.trace.proofs.Room.{Room}
 use Rattle.trace.proofs.SizesLaws.{Limits}
@@ -35,10 +35,10 @@ module _ {A : Type 0} where
 
 module _ (l m : List ℕ) (at to : ℕ) (xs : List ℕ) (e : m ≡ sets l at xs) (p : at + length xs ≡ to) where
   -- a number, behind a run
-  pub put-more : (k x : ℕ) → to + k ≤ length l → putN k m to x ≡ sets l at (xs ++ bytesN k x)
+  pub put-more : (k x : ℕ) → to + k ≤ length l → put_n k m to x ≡ sets l at (xs ++ bytes_n k x)
   put-more k x h =
       let n : length m ≡ length l = ap length e ∙ length-sets l at xs in
-      sym (put_some k m to x (omega arith)) ∙ sets_more l m at to xs (bytesN k x) e p
+      sym (put_some k m to x (omega arith)) ∙ sets_more l m at to xs (bytes_n k x) e p
 
   -- three bytes, behind a run
   pub three-more : (a b c : ℕ) → set (set (set m to a) (to + 1) b) (to + 2) c ≡ sets l at (xs ++ (a ∷ b ∷ c ∷ []))
@@ -50,28 +50,28 @@ module _ (l m : List ℕ) (at to : ℕ) (xs : List ℕ) (e : m ≡ sets l at xs)
 -- a step's record: l₁, l₂, l₃ are the buffers that the callees left
 pub step_run : (l : List ℕ) (at : ℕ) (x : Step) (l₁ l₂ l₃ : List ℕ)
     → at + 13 ≤ length l
-    → l₁ ≡ putN 2 l at 11
-    → l₂ ≡ putN 4 (set (set (set l₁ (at + 2) x.kind) (at + 3) x.caller) (at + 4) x.object) (at + 5) x.a
-    → l₃ ≡ putN 4 l₂ (at + 9) x.timeout
-    → l₃ ≡ sets l at (recordOf x)
-unfolding recordOf
+    → l₁ ≡ put_n 2 l at 11
+    → l₂ ≡ put_n 4 (set (set (set l₁ (at + 2) x.kind) (at + 3) x.caller) (at + 4) x.object) (at + 5) x.a
+    → l₃ ≡ put_n 4 l₂ (at + 9) x.timeout
+    → l₃ ≡ sets l at (record_of x)
+unfolding record_of
 step_run l at x l₁ l₂ l₃ h e₁ e₂ e₃ =
     let three : List ℕ = x.kind ∷ x.caller ∷ x.object ∷ [] in
     let m : List ℕ = set (set (set l₁ (at + 2) x.kind) (at + 3) x.caller) (at + 4) x.object in
-    let sized : l₁ ≡ sets l at (bytesN 2 11) = e₁ ∙ sym (put_some 2 l at 11 (omega arith)) in
-    let named : m ≡ sets l at (bytesN 2 11 ++ three) =
+    let sized : l₁ ≡ sets l at (bytes_n 2 11) = e₁ ∙ sym (put_some 2 l at 11 (omega arith)) in
+    let named : m ≡ sets l at (bytes_n 2 11 ++ three) =
     let i : at + 3 ≡ at + 2 + 1 = omega arith in
     let j : at + 4 ≡ at + 2 + 2 = omega arith in
-    rw (i, j) (three-more l l₁ at (at + 2) (bytesN 2 11) sized refl x.kind x.caller x.object) in
-    let valued : l₂ ≡ sets l at (bytesN 2 11 ++ three ++ bytesN 4 x.a) =
-    e₂ ∙ put-more l m at (at + 5) (bytesN 2 11 ++ three) named refl 4 x.a (omega arith) in
-    e₃ ∙ put-more l l₂ at (at + 9) (bytesN 2 11 ++ three ++ bytesN 4 x.a) valued refl 4 x.timeout (omega arith)
+    rw (i, j) (three-more l l₁ at (at + 2) (bytes_n 2 11) sized refl x.kind x.caller x.object) in
+    let valued : l₂ ≡ sets l at (bytes_n 2 11 ++ three ++ bytes_n 4 x.a) =
+    e₂ ∙ put-more l m at (at + 5) (bytes_n 2 11 ++ three) named refl 4 x.a (omega arith) in
+    e₃ ∙ put-more l l₂ at (at + 9) (bytes_n 2 11 ++ three ++ bytes_n 4 x.a) valued refl 4 x.timeout (omega arith)
 
 -- ---- the version byte and record 0, of sizes z within their limits
 module _ (l : List ℕ) (z : Sizes) (small : Limits z) (four : length z.slots ≡ 4) (room : Room (length l) 0 (9 + z.mailboxes)) where
   -- what stands before the slots
   abbrev fixed : List ℕ
-  fixed = 1 ∷ (bytesN 2 (6 + z.mailboxes) ++ (z.threads ∷ z.semaphores ∷ z.queues ∷ z.references ∷ z.mailboxes ∷ z.pools ∷ []))
+  fixed = 1 ∷ (bytes_n 2 (6 + z.mailboxes) ++ (z.threads ∷ z.semaphores ∷ z.queues ∷ z.references ∷ z.mailboxes ∷ z.pools ∷ []))
 
   abbrev slots : List ℕ
   slots = take z.mailboxes z.slots
@@ -80,38 +80,38 @@ module _ (l : List ℕ) (z : Sizes) (small : Limits z) (four : length z.slots �
   as_many = length-take-le z.mailboxes z.slots (omega (arith, small.mailboxes))
 
   -- mailbox i's slots, behind those of the mailboxes before it
-  slot-more : (m : List ℕ) (i : ℕ) → m ≡ sets l 0 (fixed ++ take i slots) → slotWritten z i m ≡ sets l 0 (fixed ++ take (suc i) slots)
+  slot-more : (m : List ℕ) (i : ℕ) → m ≡ sets l 0 (fixed ++ take i slots) → slot_written z i m ≡ sets l 0 (fixed ++ take (suc i) slots)
   slot-more m i e =
       split (ltb i z.mailboxes)
       (λ t.
       let h : i < z.mailboxes = ltb-true i z.mailboxes t in
-      let v : slotsAt z i % 256 ≡ slotsAt z i = mod-eq_of_lt (omega (arith, small.slots i h)) in
+      let v : slots_at z i % 256 ≡ slots_at z i = mod-eq_of_lt (omega (arith, small.slots i h)) in
       let n : length (take i slots) ≡ i = length-take-le i slots (omega (arith, as_many)) in
       let at : 0 + length (fixed ++ take i slots) ≡ 9 + i = omega (arith, length-append fixed (take i slots)) in
-      let more : take (suc i) slots ≡ take i slots ++ (slotsAt z i ∷ []) =
+      let more : take (suc i) slots ≡ take i slots ++ (slots_at z i ∷ []) =
       take-suc slots i 0 (omega (arith, as_many)) ∙ ap (λ (b : ℕ). take i slots ++ (b ∷ [])) (get_or-take z.mailboxes z.slots i 0 h) in
-      rw (t, v, more) (sets_more l m 0 (9 + i) (fixed ++ take i slots) (slotsAt z i ∷ []) e at ∙ ap (sets l 0) (append_assoc fixed (take i slots) (slotsAt z i ∷ []))))
+      rw (t, v, more) (sets_more l m 0 (9 + i) (fixed ++ take i slots) (slots_at z i ∷ []) e at ∙ ap (sets l 0) (append_assoc fixed (take i slots) (slots_at z i ∷ []))))
       (λ f.
       let h : length slots ≤ i = omega (arith, ltb-false i z.mailboxes f, as_many) in
       rw f (e ∙ ap (λ (b : List ℕ). sets l 0 (fixed ++ b)) (take_all i slots h ∙ sym (take_all (suc i) slots (omega arith)))))
 
   -- l₁ to l₅ are the buffers that the callees left
   pub head-run : (l₁ l₂ l₃ l₄ l₅ : List ℕ)
-      → l₁ ≡ putN 2 (set l 0 1) 1 (6 + z.mailboxes)
-      → l₂ ≡ slotWritten z 0 (set (set (set (set (set (set l₁ 3 z.threads) 4 z.semaphores) 5 z.queues) 6 z.references) 7 z.mailboxes) 8 z.pools)
-      → l₃ ≡ slotWritten z 1 l₂
-      → l₄ ≡ slotWritten z 2 l₃
-      → l₅ ≡ slotWritten z 3 l₄
+      → l₁ ≡ put_n 2 (set l 0 1) 1 (6 + z.mailboxes)
+      → l₂ ≡ slot_written z 0 (set (set (set (set (set (set l₁ 3 z.threads) 4 z.semaphores) 5 z.queues) 6 z.references) 7 z.mailboxes) 8 z.pools)
+      → l₃ ≡ slot_written z 1 l₂
+      → l₄ ≡ slot_written z 2 l₃
+      → l₅ ≡ slot_written z 3 l₄
       → l₅ ≡ sets l 0 (head_of z)
   unfolding head_of
   head-run l₁ l₂ l₃ l₄ l₅ e₁ e₂ e₃ e₄ e₅ =
-      let sized : l₁ ≡ sets l 0 (1 ∷ bytesN 2 (6 + z.mailboxes)) =
+      let sized : l₁ ≡ sets l 0 (1 ∷ bytes_n 2 (6 + z.mailboxes)) =
       e₁ ∙ put-more l (set l 0 1) 0 1 (1 ∷ []) refl refl 2 (6 + z.mailboxes) (omega arith) in
       let counts : List ℕ = z.threads ∷ z.semaphores ∷ z.queues ∷ z.references ∷ z.mailboxes ∷ z.pools ∷ [] in
-      let counted : sets l₁ 3 counts ≡ sets l 0 (fixed ++ take 0 slots) = sets_more l l₁ 0 3 (1 ∷ bytesN 2 (6 + z.mailboxes)) counts sized refl in
+      let counted : sets l₁ 3 counts ≡ sets l 0 (fixed ++ take 0 slots) = sets_more l l₁ 0 3 (1 ∷ bytes_n 2 (6 + z.mailboxes)) counts sized refl in
       let s₀ : l₂ ≡ sets l 0 (fixed ++ take 1 slots) = e₂ ∙ slot-more _ 0 counted in
       let s₁ : l₃ ≡ sets l 0 (fixed ++ take 2 slots) = e₃ ∙ slot-more _ 1 s₀ in
       let s₂ : l₄ ≡ sets l 0 (fixed ++ take 3 slots) = e₄ ∙ slot-more _ 2 s₁ in
       let s₃ : l₅ ≡ sets l 0 (fixed ++ take 4 slots) = e₅ ∙ slot-more _ 3 s₂ in
-      let n : 6 + z.mailboxes ≡ length (sizesBody z) = omega (arith, as_many) in
+      let n : 6 + z.mailboxes ≡ length (sizes_body z) = omega (arith, as_many) in
       s₃ ∙ ap (λ (b : List ℕ). sets l 0 (fixed ++ b)) (take_all 4 slots (omega (arith, as_many, small.mailboxes))) ∙ rw n

@@ -8,32 +8,32 @@ use mathlib.Core.List.{List, [], ◌∷◌, ◌++◌}
 use lib.ListN.{length, get_or, set, take, drop, length-append, length-drop, get_or-eq_default, get_or-append}
 use lib.Seq.{sets, get_or-append_seam, get_or-append-add, get_or-drop, take-suc}
 use borrow.Author.Tests.{le-leb, lt-leb}
-use Rattle.trace.specs.Ordered.{bytesN, getN, putN}
+use Rattle.trace.specs.Ordered.{bytes_n, get_n, put_n}
 
-pub length-bytes : (k x : ℕ) → length (bytesN k x) ≡ k
+pub length-bytes : (k x : ℕ) → length (bytes_n k x) ≡ k
 length-bytes zero x = refl
-length-bytes (suc k) x = length-append (bytesN k (x / 256)) (x % 256 ∷ []) ∙ omega (arith, length-bytes k (x / 256))
+length-bytes (suc k) x = length-append (bytes_n k (x / 256)) (x % 256 ∷ []) ∙ omega (arith, length-bytes k (x / 256))
 
 -- ---- reading
 
 -- only the k bytes from the place on are read
-pub get-same : (k : ℕ) (l m : List ℕ) (at to : ℕ) → ((j : ℕ) → j < k → get_or l (at + j) 0 ≡ get_or m (to + j) 0) → getN k l at ≡ getN k m to
-unfolding getN
+pub get-same : (k : ℕ) (l m : List ℕ) (at to : ℕ) → ((j : ℕ) → j < k → get_or l (at + j) 0 ≡ get_or m (to + j) 0) → get_n k l at ≡ get_n k m to
+unfolding get_n
 get-same zero l m at to h = refl
 get-same (suc k) l m at to h =
     ap₂ (λ (n b : ℕ). n * 256 + b) (get-same k l m at to (λ j i. h j (omega arith))) (h k (omega arith))
 
-pub get-past : (k : ℕ) (l : List ℕ) (at : ℕ) → length l ≤ at → 0 ≡ getN k l at
-unfolding getN
+pub get-past : (k : ℕ) (l : List ℕ) (at : ℕ) → length l ≤ at → 0 ≡ get_n k l at
+unfolding get_n
 get-past zero l at h = refl
 get-past (suc k) l at h = omega (arith, get-past k l at h, get_or-eq_default l 0 {n = at + k} (omega arith))
 
 -- the bytes of a number make it up
-value : (k x : ℕ) → x < 256 ^ k → getN k (bytesN k x) 0 ≡ x
-unfolding getN
+value : (k x : ℕ) → x < 256 ^ k → get_n k (bytes_n k x) 0 ≡ x
+unfolding get_n
 value zero x h = omega arith
 value (suc k) x h =
-    let rest : List ℕ = bytesN k (x / 256) in
+    let rest : List ℕ = bytes_n k (x / 256) in
     let size : length rest ≡ k = length-bytes k (x / 256) in
     let small : x / 256 < 256 ^ k = (div-lt_iff_lt-mul (zero-lt-suc 255)).1 (rw pow-suc at h) in
     let last : get_or (rest ++ (x % 256 ∷ [])) (0 + k) 0 ≡ x % 256 =
@@ -44,39 +44,39 @@ value (suc k) x h =
     ∙ div-add-mod' x 256
 
 -- a number's bytes, wherever they stand, are read as it
-pub get-bytes : (k : ℕ) (p : List ℕ) (x : ℕ) (q : List ℕ) (at : ℕ) → length p ≡ at → x < 256 ^ k → getN k (p ++ (bytesN k x ++ q)) at ≡ x
+pub get-bytes : (k : ℕ) (p : List ℕ) (x : ℕ) (q : List ℕ) (at : ℕ) → length p ≡ at → x < 256 ^ k → get_n k (p ++ (bytes_n k x ++ q)) at ≡ x
 get-bytes k p x q at e h =
-    let size : length (bytesN k x) ≡ k = length-bytes k x in
+    let size : length (bytes_n k x) ≡ k = length-bytes k x in
     get-same k _ _ at 0
     (λ j l.
-    ap (λ (i : ℕ). get_or (p ++ (bytesN k x ++ q)) (i + j) 0) (sym e)
-    ∙ get_or-append-add p (bytesN k x ++ q) j 0
-    ∙ get_or-append (bytesN k x) q 0 j (omega arith)
-    ∙ ap (λ (i : ℕ). get_or (bytesN k x) i 0) (sym (zero-add j)))
+    ap (λ (i : ℕ). get_or (p ++ (bytes_n k x ++ q)) (i + j) 0) (sym e)
+    ∙ get_or-append-add p (bytes_n k x ++ q) j 0
+    ∙ get_or-append (bytes_n k x) q 0 j (omega arith)
+    ∙ ap (λ (i : ℕ). get_or (bytes_n k x) i 0) (sym (zero-add j)))
     ∙ value k x h
 
 -- what bytes make up has those bytes
-pub bytes-get : (k : ℕ) (l : List ℕ) (at : ℕ) → ((i : ℕ) → get_or l i 0 < 256) → at + k ≤ length l → bytesN k (getN k l at) ≡ take k (drop at l)
-unfolding getN
+pub bytes-get : (k : ℕ) (l : List ℕ) (at : ℕ) → ((i : ℕ) → get_or l i 0 < 256) → at + k ≤ length l → bytes_n k (get_n k l at) ≡ take k (drop at l)
+unfolding get_n
 bytes-get zero l at b h = refl
 bytes-get (suc k) l at b h =
     let last : ℕ = get_or l (at + k) 0 in
     let small : last < 256 = b (at + k) in
-    let n : ℕ = getN k l at in
+    let n : ℕ = get_n k l at in
     let high : (n * 256 + last) / 256 ≡ n = omega arith in
     let low : (n * 256 + last) % 256 ≡ last = omega arith in
-    ap₂ (λ (m c : ℕ). bytesN k m ++ (c ∷ [])) high (low ∙ sym (get_or-drop at l k 0))
+    ap₂ (λ (m c : ℕ). bytes_n k m ++ (c ∷ [])) high (low ∙ sym (get_or-drop at l k 0))
     ∙ ap (λ (m : List ℕ). m ++ (get_or (drop at l) k 0 ∷ [])) (bytes-get k l at b (omega arith))
     ∙ sym (take-suc (drop at l) k 0 (omega (arith, length-drop at l)))
 
 -- ---- writing
 
-pub put_some : (k : ℕ) (l : List ℕ) (at x : ℕ) → at + k ≤ length l → sets l at (bytesN k x) ≡ putN k l at x
-unfolding putN
+pub put_some : (k : ℕ) (l : List ℕ) (at x : ℕ) → at + k ≤ length l → sets l at (bytes_n k x) ≡ put_n k l at x
+unfolding put_n
 put_some k l at x h = simp (le-leb (at + k) (length l) h)
 
-pub put-none : (k : ℕ) (l : List ℕ) (at x : ℕ) → length l < at + k → l ≡ putN k l at x
-unfolding putN
+pub put-none : (k : ℕ) (l : List ℕ) (at x : ℕ) → length l < at + k → l ≡ put_n k l at x
+unfolding put_n
 put-none k l at x h = simp (lt-leb (at + k) (length l) h)
 
 -- ---- the two widths, in the form in which code meets them: a, b, c, d are the bytes that the callees gave
@@ -84,19 +84,19 @@ module _ (l : List ℕ) (at a b : ℕ) (ea : a ≡ get_or l at 0) (eb : b ≡ ge
   first : get_or l (at + 0) 0 ≡ a
   first = rw add-zero (sym ea)
 
-  pub get-two : a * 256 + b ≡ getN 2 l at
-  unfolding getN
+  pub get-two : a * 256 + b ≡ get_n 2 l at
+  unfolding get_n
   get-two = omega (arith, first)
 
-  pub get-four : (c d : ℕ) → c ≡ get_or l (at + 2) 0 → d ≡ get_or l (at + 3) 0 → ((a * 256 + b) * 256 + c) * 256 + d ≡ getN 4 l at
-  unfolding getN
+  pub get-four : (c d : ℕ) → c ≡ get_or l (at + 2) 0 → d ≡ get_or l (at + 3) 0 → ((a * 256 + b) * 256 + c) * 256 + d ≡ get_n 4 l at
+  unfolding get_n
   get-four c d ec ed = omega (arith, first)
 
-pub put_two : (l : List ℕ) (at x : ℕ) → at + 2 ≤ length l → set (set l at (x / 256 % 256)) (at + 1) (x % 256) ≡ putN 2 l at x
+pub put_two : (l : List ℕ) (at x : ℕ) → at + 2 ≤ length l → set (set l at (x / 256 % 256)) (at + 1) (x % 256) ≡ put_n 2 l at x
 put_two l at x h = rw add-one (put_some 2 l at x h)
 
 pub put_four : (l : List ℕ) (at x : ℕ) → at + 4 ≤ length l
-    → set (set (set (set l at (x / 256 / 256 / 256 % 256)) (at + 1) (x / 256 / 256 % 256)) (at + 2) (x / 256 % 256)) (at + 3) (x % 256) ≡ putN 4 l at x
+    → set (set (set (set l at (x / 256 / 256 / 256 % 256)) (at + 1) (x / 256 / 256 % 256)) (at + 2) (x / 256 % 256)) (at + 3) (x % 256) ≡ put_n 4 l at x
 put_four l at x h =
     let e₁ : at + 1 ≡ suc at = omega arith in
     let e₂ : at + 2 ≡ suc (suc at) = omega arith in

@@ -7,9 +7,9 @@ use Rattle.trace.specs.declared.decoding.Found.{Found}
 use Rattle.trace.specs.declared.decoding.Found.TheVariants as found
 use Rattle.trace.specs.declared.writer.Written.{Written}
 use Rattle.trace.specs.declared.writer.Written.TheVariants as written
-use Rattle.trace.specs.Decoding.{nextRead}
-use Rattle.library.specs.Sizes.{slotsAt, noSizes}
-use Rattle.trace.specs.Writer.{sizesAnswer, sizesWritten, stepAnswer, stepWritten}
+use Rattle.trace.specs.Decoding.{next_read}
+use Rattle.library.specs.Sizes.{slots_at, no_sizes}
+use Rattle.trace.specs.Writer.{sizes_answer, sizes_written, step_answer, step_written}
 
 -- ---- reading
 
@@ -21,7 +21,7 @@ pub record Reading : Type 0 where
 
 -- nothing but a stop
 abbrev pub stopped : Found → Reading
-stopped f = record { sizes = noSizes; steps = []; stop = f }
+stopped f = record { sizes = no_sizes; steps = []; stop = f }
 
 -- one read, and the reads after it: the end and a refusal stop them
 abbrev pub read_on : Read → Found → Reading → Reading
@@ -31,13 +31,13 @@ read_on r found.Ended rest = stopped found.Ended
 read_on r (found.Refused code number) rest = stopped (found.Refused code number)
 
 -- at most n reads from a place on; a refusal without a number where they do not come to a stop
-unfoldable pub readFrom : ℕ → List ℕ → ℕ → Reading
-readFrom zero s at = stopped (found.Refused 0 0)
-readFrom (suc n) s at = let rest = readFrom n s (nextRead s at).next in read_on (nextRead s at) (nextRead s at).found rest
+unfoldable pub read_from : ℕ → List ℕ → ℕ → Reading
+read_from zero s at = stopped (found.Refused 0 0)
+read_from (suc n) s at = let rest = read_from n s (next_read s at).next in read_on (next_read s at) (next_read s at).found rest
 
 -- all of a trace: a record is longer than a byte, so these reads come to a stop (`comes-to-a-stop` in proofs/ReadingLaws.antt)
 unfoldable pub read_all : List ℕ → Reading
-read_all s = readFrom (suc (length s)) s 0
+read_all s = read_from (suc (length s)) s 0
 
 -- ---- writing
 
@@ -47,18 +47,18 @@ pub record Writing : Type 0 where
   pub buffer : List ℕ
 
 -- one step more; after a refusal nothing is written
-abbrev pub writtenOn : Written → List ℕ → Step → Writing
-writtenOn (written.Upto at) l x = record { answer = stepAnswer at l; buffer = stepWritten x at l }
-writtenOn (written.Refused code) l x = record { answer = written.Refused code; buffer = l }
+abbrev pub written_on : Written → List ℕ → Step → Writing
+written_on (written.Upto at) l x = record { answer = step_answer at l; buffer = step_written x at l }
+written_on (written.Refused code) l x = record { answer = written.Refused code; buffer = l }
 
 -- steps, one after the other
-unfoldable pub writtenFrom : Writing → List Step → Writing
-writtenFrom w [] = w
-writtenFrom w (x ∷ xs) = writtenFrom (writtenOn w.answer w.buffer x) xs
+unfoldable pub written_from : Writing → List Step → Writing
+written_from w [] = w
+written_from w (x ∷ xs) = written_from (written_on w.answer w.buffer x) xs
 
 -- sizes and steps, into a buffer
-unfoldable pub writtenAll : Sizes → List Step → List ℕ → Writing
-writtenAll z xs l = writtenFrom (record { answer = sizesAnswer z l; buffer = sizesWritten z l }) xs
+unfoldable pub written_all : Sizes → List Step → List ℕ → Writing
+written_all z xs l = written_from (record { answer = sizes_answer z l; buffer = sizes_written z l }) xs
 
 -- ---- which values there are: what the machine's widths allow
 
@@ -78,7 +78,7 @@ pub data AllEncode : List Step → Type 0 where
 -- a table of four mailboxes' slots, with 0 for those that are not there
 pub record Tabled (z : Sizes) : Type 0 where
   pub four : length z.slots ≡ 4
-  pub absent : (i : ℕ) → z.mailboxes ≤ i → slotsAt z i ≡ 0
+  pub absent : (i : ℕ) → z.mailboxes ≤ i → slots_at z i ≡ 0
 
 -- a slice of bytes
 abbrev pub Bytes : List ℕ → Type 0

@@ -1,7 +1,7 @@
 // What stands at a place of a trace, decoded or refused, and the place after it. Nothing is kept here: `cursor` has the reader that
 // keeps hold of the trace and its place, a thin layer over `next_record`.
 ghost use Rattle.std.specs.Prelude.{◌≡◌};
-ghost use Rattle.trace.specs.Decoding.{number_at, endsInside, lengthRefusal, stepRefusal, decodedSizes, decodedStep, stoppedRead, refusedRead, openedRead, steppedRead, nextRead};
+ghost use Rattle.trace.specs.Decoding.{number_at, ends_inside, length_refusal, step_refusal, decoded_sizes, decoded_step, stopped_read, refused_read, opened_read, stepped_read, next_read};
 
 use crate::numbers::{LONGEST, STEP_BODY, STEP_RECORD, VERSION};
 use crate::ordered::{byte_at, read_u16, read_u32};
@@ -42,7 +42,7 @@ pub fn number_at(at: usize) -> usize
 
 // Whether the input ends inside the length or the body of the record at a place.
 fn ends_inside(s: &[u8], at: usize) -> bool
-    ensures { result ≡ endsInside s.now at }
+    ensures { result ≡ ends_inside s.now at }
 {
     if s.len() < at {
         return true;
@@ -57,7 +57,7 @@ fn ends_inside(s: &[u8], at: usize) -> bool
 
 // The refusal of the version byte and of record 0's length, or 0. A length below 6 is none of 6 plus a byte.
 fn judge_head(s: &[u8]) -> u8
-    ensures { result ≡ lengthRefusal s.now }
+    ensures { result ≡ length_refusal s.now }
 {
     if LONGEST < s.len() {
         return 15;
@@ -75,7 +75,7 @@ fn judge_head(s: &[u8]) -> u8
 
 // The refusal of a later record's length, or 0.
 fn judge_step(s: &[u8], at: usize) -> u8
-    ensures { result ≡ stepRefusal s.now at }
+    ensures { result ≡ step_refusal s.now at }
 {
     if ends_inside(s, at) {
         return 12;
@@ -86,7 +86,7 @@ fn judge_step(s: &[u8], at: usize) -> u8
 
 // Record 0's body. It ends with the slots of the last mailbox, so those of absent ones are 0.
 pub fn decode_sizes(body: &[u8]) -> Sizes
-    ensures { result ≡ decodedSizes body.now }
+    ensures { result ≡ decoded_sizes body.now }
 {
     let threads = byte_at(body, 0) as u16;
     let semaphores = byte_at(body, 1) as u16;
@@ -112,7 +112,7 @@ pub fn decode_sizes(body: &[u8]) -> Sizes
 
 // A step's body. Its values are not judged: that is the step's own refusal.
 pub fn decode_step(body: &[u8]) -> Step
-    ensures { result ≡ decodedStep body.now }
+    ensures { result ≡ decoded_step body.now }
 {
     let kind = byte_at(body, 0);
     let caller = byte_at(body, 1);
@@ -130,7 +130,7 @@ pub fn decode_step(body: &[u8]) -> Step
 
 // Nothing was read: the place stays.
 fn stop(found: Found, at: usize) -> Read
-    ensures { result ≡ stoppedRead found at }
+    ensures { result ≡ stopped_read found at }
 {
     let sizes = no_sizes();
     Read {
@@ -141,7 +141,7 @@ fn stop(found: Found, at: usize) -> Read
 }
 
 fn refuse(code: u8, at: usize) -> Read
-    ensures { result ≡ refusedRead code at }
+    ensures { result ≡ refused_read code at }
 {
     let number = number_at(at);
     stop(Found::Refused(code, number), at)
@@ -149,7 +149,7 @@ fn refuse(code: u8, at: usize) -> Read
 
 // The version byte and record 0.
 fn read_head(s: &[u8]) -> Read
-    ensures { result ≡ openedRead s.now }
+    ensures { result ≡ opened_read s.now }
 {
     let code = judge_head(s);
     if code != 0 {
@@ -171,7 +171,7 @@ fn read_head(s: &[u8]) -> Read
 
 // A later record, or the end. The decoder is handed the part of the trace that the body is.
 fn read_step(s: &[u8], at: usize) -> Read
-    ensures { result ≡ steppedRead s.now at }
+    ensures { result ≡ stepped_read s.now at }
 {
     if at == s.len() {
         return stop(Found::Ended, at);
@@ -193,7 +193,7 @@ fn read_step(s: &[u8], at: usize) -> Read
 
 // The record at a place: at place 0 the version byte and record 0, elsewhere a step or the end.
 pub fn next_record(s: &[u8], at: usize) -> Read
-    ensures { result ≡ nextRead s.now at }
+    ensures { result ≡ next_read s.now at }
 {
     if at == 0 {
         read_head(s)

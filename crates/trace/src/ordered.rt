@@ -1,7 +1,7 @@
 // Numbers as bytes, the highest first, at a place of a slice. Past the slice's end stand zeros, and nothing is written where not
 // all of it fits: so every place has an answer, and callers that have tested the length lose nothing.
 ghost use Rattle.std.specs.Prelude.{◌≡◌, get_or};
-ghost use Rattle.trace.specs.Ordered.{putN, getN};
+ghost use Rattle.trace.specs.Ordered.{put_n, get_n};
 
 // The byte at a place.
 pub fn byte_at(s: &[u8], at: usize) -> u8
@@ -11,7 +11,7 @@ pub fn byte_at(s: &[u8], at: usize) -> u8
 }
 
 pub fn read_u16(s: &[u8], at: usize) -> u16
-    ensures { result ≡ getN 2 s.now at }
+    ensures { result ≡ get_n 2 s.now at }
 {
     // so that at + 1 does not pass the largest number
     if s.len() <= at {
@@ -23,7 +23,7 @@ pub fn read_u16(s: &[u8], at: usize) -> u16
 }
 
 pub fn read_u32(s: &[u8], at: usize) -> u32
-    ensures { result ≡ getN 4 s.now at }
+    ensures { result ≡ get_n 4 s.now at }
 {
     if s.len() <= at {
         return 0;
@@ -36,7 +36,7 @@ pub fn read_u32(s: &[u8], at: usize) -> u32
 }
 
 pub fn write_u16(buf: &mut [u8], at: usize, x: u16)
-    ensures { buf.new ≡ putN 2 buf.old at x }
+    ensures { buf.new ≡ put_n 2 buf.old at x }
 {
     if at <= buf.len() {
         if 2 <= buf.len() - at {
@@ -47,7 +47,7 @@ pub fn write_u16(buf: &mut [u8], at: usize, x: u16)
 }
 
 pub fn write_u32(buf: &mut [u8], at: usize, x: u32)
-    ensures { buf.new ≡ putN 4 buf.old at x }
+    ensures { buf.new ≡ put_n 4 buf.old at x }
 {
     if at <= buf.len() {
         if 4 <= buf.len() - at {

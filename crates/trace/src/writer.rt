@@ -1,6 +1,6 @@
 // The trace writer, record by record into a lent buffer. A refusal writes nothing.
 ghost use Rattle.std.specs.Prelude.{◌≡◌};
-ghost use Rattle.trace.specs.Writer.{roomRefusal, slotWritten, sizesAnswer, sizesWritten, stepAnswer, stepWritten};
+ghost use Rattle.trace.specs.Writer.{room_refusal, slot_written, sizes_answer, sizes_written, step_answer, step_written};
 
 use crate::numbers::{LONGEST, STEP_BODY, STEP_RECORD, VERSION};
 use crate::ordered::{write_u16, write_u32};
@@ -17,7 +17,7 @@ pub enum Written {
 
 // The refusal of n bytes more at a place of a buffer of len bytes, or 0.
 fn judge_room(len: usize, at: usize, n: usize) -> u8
-    ensures { result ≡ roomRefusal len at n }
+    ensures { result ≡ room_refusal len at n }
 {
     // so that at + n does not pass the largest number
     if LONGEST < at {
@@ -31,7 +31,7 @@ fn judge_room(len: usize, at: usize, n: usize) -> u8
 
 // The slots of mailbox i, where there is one and a place for them.
 fn write_slot(buf: &mut [u8], sizes: Sizes, i: u16)
-    ensures { buf.new ≡ slotWritten sizes i buf.old }
+    ensures { buf.new ≡ slot_written sizes i buf.old }
 {
     let n = slots_at(sizes, i);
     let at = 9 + i as usize;
@@ -44,8 +44,8 @@ fn write_slot(buf: &mut [u8], sizes: Sizes, i: u16)
 
 // The version byte and record 0, at the start of the buffer.
 pub fn write_sizes(buf: &mut [u8], sizes: Sizes) -> Written
-    ensures answer { result ≡ sizesAnswer sizes buf.old }
-    ensures buffer { buf.new ≡ sizesWritten sizes buf.old }
+    ensures answer { result ≡ sizes_answer sizes buf.old }
+    ensures buffer { buf.new ≡ sizes_written sizes buf.old }
 {
     if !sizes_fit(sizes) {
         return Written::Refused(14);
@@ -72,8 +72,8 @@ pub fn write_sizes(buf: &mut [u8], sizes: Sizes) -> Written
 
 // One step's record, at a place of the buffer.
 pub fn write_step(buf: &mut [u8], at: usize, step: Step) -> Written
-    ensures answer { result ≡ stepAnswer at buf.old }
-    ensures buffer { buf.new ≡ stepWritten step at buf.old }
+    ensures answer { result ≡ step_answer at buf.old }
+    ensures buffer { buf.new ≡ step_written step at buf.old }
 {
     let code = judge_room(buf.len(), at, STEP_RECORD);
     if code != 0 {

@@ -1,20 +1,20 @@
 -- The text that crates/text gives of a trace, by view.
 use Rattle.std.specs.Prelude.{ℕ, List}
 use Rattle.text.specs.declared.views.View.TheVariants.{Lines, AllTables, Wakings, Sums}
-use Rattle.text.specs.Views.{viewText}
+use Rattle.text.specs.Views.{view_text}
 
 -- the listing
-abbrev pub listingText : List ℕ → List ℕ
-listingText s = viewText Lines s
+abbrev pub listing_text : List ℕ → List ℕ
+listing_text s = view_text Lines s
 
 -- why threads woke
-abbrev pub whyText : List ℕ → List ℕ
-whyText s = viewText Wakings s
+abbrev pub why_text : List ℕ → List ℕ
+why_text s = view_text Wakings s
 
 -- the account
-abbrev pub accountText : List ℕ → List ℕ
-accountText s = viewText Sums s
+abbrev pub account_text : List ℕ → List ℕ
+account_text s = view_text Sums s
 
 -- the listing with all tables
-abbrev pub tablesText : List ℕ → List ℕ
-tablesText s = viewText AllTables s
+abbrev pub tables_text : List ℕ → List ℕ
+tables_text s = view_text AllTables s

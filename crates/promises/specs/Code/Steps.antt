@@ -8,34 +8,34 @@ use Rattle.library.specs.declared.sizes.Sizes.{Sizes}
 use Rattle.library.specs.declared.tables.Tables.{Tables}
 use Rattle.library.specs.Fresh.{made}
 use Rattle.accounts.specs.declared.account.Account.{Account}
-use Rattle.accounts.specs.Accounting.{call_by, accountedStep}
+use Rattle.accounts.specs.Accounting.{call_by, accounted_step}
 use Rattle.steps.specs.Stepping.{stepped}
-use Rattle.promises.specs.Paper.Run.{Moment, momentBy, momentsBy, Ran, ranBy}
-use Rattle.promises.specs.Paper.Ledger.{talliedBy}
-use Rattle.promises.specs.Paper.Waking.{rowOf}
+use Rattle.promises.specs.Paper.Run.{Moment, moment_by, moments_by, Ran, ran_by}
+use Rattle.promises.specs.Paper.Ledger.{tallied_by}
+use Rattle.promises.specs.Paper.Waking.{row_of}
 
 -- a step with the tables that it finds and leaves
-abbrev pub momentOf : Tables → Clock → Step → Moment
-momentOf t c s = momentBy stepped t c s
+abbrev pub moment_of : Tables → Clock → Step → Moment
+moment_of t c s = moment_by stepped t c s
 
 -- the moments of a run, and what it leaves
 abbrev pub moments : Tables → Clock → List Step → List Moment
-moments t c ss = momentsBy stepped t c ss
+moments t c ss = moments_by stepped t c ss
 
 abbrev pub ran : Tables → Clock → List Step → Ran
-ran t c ss = ranBy stepped t c ss
+ran t c ss = ran_by stepped t c ss
 
 -- the same from fresh tables of the sizes y
-abbrev pub freshMoments : Sizes → Rate → List Step → List Moment
-freshMoments y r ss = moments (made y r).tables (made y r).clock ss
+abbrev pub fresh_moments : Sizes → Rate → List Step → List Moment
+fresh_moments y r ss = moments (made y r).tables (made y r).clock ss
 
-abbrev pub freshRan : Sizes → Rate → List Step → Ran
-freshRan y r ss = ran (made y r).tables (made y r).clock ss
+abbrev pub fresh_ran : Sizes → Rate → List Step → Ran
+fresh_ran y r ss = ran (made y r).tables (made y r).clock ss
 
 -- the account of a run whose first moment is the n-th
 abbrev pub tallied : ℕ → Account → List Moment → Account
-tallied n a ms = talliedBy accountedStep n a ms
+tallied n a ms = tallied_by accounted_step n a ms
 
 -- the call that the account and `--why` take thread i's to be in a moment
-abbrev pub calledBy : Moment → ℕ → Call
-calledBy m i = call_by m.step i (rowOf m.before i).call
+abbrev pub called_by : Moment → ℕ → Call
+called_by m i = call_by m.step i (row_of m.before i).call

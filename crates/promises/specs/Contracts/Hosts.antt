@@ -34,7 +34,7 @@ use Rattle.steps.proofs.stepping.step.Kinds as step-kinds
 use Rattle.steps.proofs.stepping.step.Reads as step-reads
 use Rattle.host.specs.declared.request.Request.{Request}
 use Rattle.host.specs.declared.request.StepResult.{StepResult}
-use Rattle.host.specs.Broken.{brokenNumber}
+use Rattle.host.specs.Broken.{broken_number}
 use Rattle.host.specs.Request.{step_of, result_of}
 use Rattle.host.specs.contracts.request.Request as request
 use Rattle.host.proofs.request.Request.TheLaws as request-laws
@@ -137,10 +137,10 @@ module _ {M : Type 1} {𝓤 : Ura M} (𝓛 : Logic 𝓤) (κ₁ κ₂ : Lft) (q�
       qed 𝓛 (
       ((‵ (flft κ₁ q₁) ⊛ ‵ (flft κ₂ q₂) ⊛ ‵ ftrue)
       ⊛ ‵ (owns (ShrRef (named 0) κ₁ tables.the_row ∷ ShrRef (named 1) κ₂ clock.the_row ∷ []) (x₁, (x₂, tt)) vss))
-      ∷ raw (fact 𝓤 (r ≡ brokenNumber x₁.now x₂.now))
+      ∷ raw (fact 𝓤 (r ≡ broken_number x₁.now x₂.now))
       ∷ []
       )
       ∵ updating ! $ split ! $ split ! $ move ! (2 ∷ []) $ fsplit ! $ keep ! (0 ∷ 2 ∷ 4 ∷ []) $ fsplit3 ! $ drop ! $ move ! (1 ∷ 2 ∷ [])
       $ looks-plain ! tt tables.the_type tables-laws.the_laws (laws.copy tables.the_type tables-laws.the_copy 𝓛) x₁.now x₁.ref_ptr.0 x₁.ref_ptr.1 (λ s is.
-      keep ! (4 ∷ []) $ heard ! (r ≡ brokenNumber x₁.now x₂.now) (λ p.
+      keep ! (4 ∷ []) $ heard ! (r ≡ broken_number x₁.now x₂.now) (λ p.
       at_last ! $ by ! (fact_i 𝓤 (BrokenCall x₁.now x₂.now r) _ (rw p (broken-first x₁.now x₂.now (tables-fit x₁.now _ is)).0))))

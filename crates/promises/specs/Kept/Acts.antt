@@ -7,23 +7,23 @@ use borrow.Author.Tests.{eqb-true, eqb-false, eq-eqb, leb-true, leb-false}
 use Rattle.kernel.specs.declared.clock.Clock.{Clock}
 use Rattle.kernel.specs.declared.records.Kernel.{Kernel}
 use Rattle.kernel.specs.Numbers.{nobody, ok, immediate}
-use Rattle.kernel.specs.Places.{poolPlace}
-use Rattle.kernel.specs.Tables.{threadAt}
+use Rattle.kernel.specs.Places.{pool_place}
+use Rattle.kernel.specs.Tables.{thread_at}
 use Rattle.kernel.specs.Moves.{finished}
 use Rattle.kernel.proofs.Cases.{same_or, chosen, both-means}
 use Rattle.library.specs.declared.calls.Step.{Step}
 use Rattle.library.specs.declared.sizes.Sizes.{Sizes}
 use Rattle.library.specs.declared.tables.Plant.{Plant}
-use Rattle.library.specs.Calls.{call_of, objectOf}
-use Rattle.library.specs.Mailbox.{postTried, fetchTried, mailboxReset, mailboxResumed}
-use Rattle.library.specs.Pool.{absent, free, out, markAt, allocTried, put_back}
-use Rattle.library.specs.Settling.{isBoxCall}
-use Rattle.library.specs.Acting.{kernelWaits, boxEffected, finishedAtOnce, actedOnBox, acted}
-use Rattle.library.specs.Tables.{poolAt}
-use Rattle.rules.specs.RowRules.{callLimit}
+use Rattle.library.specs.Calls.{call_of, object_of}
+use Rattle.library.specs.Mailbox.{post_tried, fetch_tried, mailbox_reset, mailbox_resumed}
+use Rattle.library.specs.Pool.{absent, free, out, mark_at, alloc_tried, put_back}
+use Rattle.library.specs.Settling.{is_box_call}
+use Rattle.library.specs.Acting.{kernel_waits, box_effected, finished_at_once, acted_on_box, acted}
+use Rattle.library.specs.Tables.{pool_at}
+use Rattle.rules.specs.RowRules.{call_limit}
 use Rattle.promises.specs.Together.Good.{CallKind}
 use Rattle.promises.specs.Kept.Accepting.{Accepted}
-use Rattle.promises.specs.Kept.Chain.{Note, signalAt, after, nil-right, countIn, isSlept}
+use Rattle.promises.specs.Kept.Chain.{Note, signal_at, after, nil-right, count_in, is_slept}
 use Rattle.promises.specs.Kept.Moving.{finish-chained}
 use Rattle.promises.specs.Kept.Whole.{Whole, Done, kernel-done, idle-free, stepper-caller, stepper-kept}
 use Rattle.promises.specs.Kept.KernelActs.{Acts, stepper, sleeper, object_of, kept-fits, kernel-acts}
@@ -49,14 +49,14 @@ module _ (p : Plant) (c : Clock) (s : Step) (a : Accepted p c s) (w : Whole p.si
   k = p.kernel
 
   -- who tries a mailbox or a pool; "15, 16, 17, 20 from an interrupt with timeout not 0" are refused
-  tryer : (m : ℕ) → s.kind ≡ m → CallKind m → kernelWaits m ≡ false → isBoxCall m ≡ true → objectOf s < callLimit z s.kind
+  tryer : (m : ℕ) → s.kind ≡ m → CallKind m → kernel_waits m ≡ false → is_box_call m ≡ true → object_of s < call_limit z s.kind
       → Tryer z k s.caller (call_of s)
   tryer m e f x b o =
       record {
         asks = stepper-caller z k s.caller (stepper p c s a w);
         sleeps = λ t.
             let me = sleeper p c s a w (thread t) in
-            (me.0, (idle-free (threadAt k s.caller) me.1, kept-fits p c s a w (rw e f) o t));
+            (me.0, (idle-free (thread_at k s.caller) me.1, kept-fits p c s a w (rw e f) o t));
       }
     where
       thread : s.timeout ≢ 0 → s.caller ≢ nobody
@@ -67,9 +67,9 @@ module _ (p : Plant) (c : Clock) (s : Step) (a : Accepted p c s) (w : Whole p.si
   tried h t = record { notes = t.notes; done = t.done }
 
   -- one that finishes the caller's call at once
-  at-once : (h : Plant) (ms : List Note) → Done z p h ms → countIn (isSlept s.caller) ms ≡ 0
-      → Acts z p s (finishedAtOnce h s.caller)
-  unfolding countIn
+  at-once : (h : Plant) (ms : List Note) → Done z p h ms → count_in (is_slept s.caller) ms ≡ 0
+      → Acts z p s (finished_at_once h s.caller)
+  unfolding count_in
   at-once h ms d o =
       let i = s.caller in
       let x =
@@ -83,59 +83,59 @@ module _ (p : Plant) (c : Clock) (s : Step) (a : Accepted p c s) (w : Whole p.si
         };
       }
 
-  post-acts : (m : ℕ) → s.kind ≡ m → (m ≡ 15) ⊎ (m ≡ 16) → Acts z p s (postTried p s.caller (call_of s))
+  post-acts : (m : ℕ) → s.kind ≡ m → (m ≡ 15) ⊎ (m ≡ 16) → Acts z p s (post_tried p s.caller (call_of s))
   post-acts m e (inl f) =
       let is = e ∙ f in
       let o = object_of p c s a w 15 is in
-      tried (postTried p s.caller (call_of s))
+      tried (post_tried p s.caller (call_of s))
       (post-tries p w s.caller (call_of s)
       (tryer 15 is (inr (inr (inr (inr (inr (inl (omega arith, omega arith))))))) refl refl (rw is o)) (rw is o) (rw is) (rw is))
   post-acts m e (inr f) =
       let is = e ∙ f in
       let o = object_of p c s a w 16 is in
-      tried (postTried p s.caller (call_of s))
+      tried (post_tried p s.caller (call_of s))
       (post-tries p w s.caller (call_of s)
       (tryer 16 is (inr (inr (inr (inr (inr (inl (omega arith, omega arith))))))) refl refl (rw is o)) (rw is o) (rw is) (rw is))
 
-  fetch-acts : s.kind ≡ 17 → Acts z p s (fetchTried p s.caller (call_of s))
+  fetch-acts : s.kind ≡ 17 → Acts z p s (fetch_tried p s.caller (call_of s))
   fetch-acts is =
       let o = object_of p c s a w 17 is in
-      tried (fetchTried p s.caller (call_of s))
+      tried (fetch_tried p s.caller (call_of s))
       (fetch-tries p w s.caller (call_of s)
       (tryer 17 is (inr (inr (inr (inr (inr (inl (omega arith, omega arith))))))) refl refl (rw is o)) (rw is o) (rw is) (rw is))
 
-  alloc-acts : s.kind ≡ 20 → Acts z p s (allocTried p s.caller (call_of s))
+  alloc-acts : s.kind ≡ 20 → Acts z p s (alloc_tried p s.caller (call_of s))
   alloc-acts is =
       let o = object_of p c s a w 20 is in
-      tried (allocTried p s.caller (call_of s))
+      tried (alloc_tried p s.caller (call_of s))
       (alloc-tries p w s.caller (call_of s) (tryer 20 is (inr (inr (inr (inr (inr (inr refl)))))) refl refl (rw is o)) is (rw is o))
 
   -- "Free and add put the object on top and signal"
-  put_in : (m : ℕ) → s.kind ≡ m → s.object < z.pools → s.a ≤ 31 → markAt (poolAt p s.object) (s.a % 256) ≢ free
-      → Acts z p s (finishedAtOnce (put_back p s.object (s.a % 256)) s.caller)
-  unfolding countIn
+  put_in : (m : ℕ) → s.kind ≡ m → s.object < z.pools → s.a ≤ 31 → mark_at (pool_at p s.object) (s.a % 256) ≢ free
+      → Acts z p s (finished_at_once (put_back p s.object (s.a % 256)) s.caller)
+  unfolding count_in
   put_in m e l v f =
-      at-once (put_back p s.object (s.a % 256)) (signalAt (poolPlace s.object) ∷ [])
+      at-once (put_back p s.object (s.a % 256)) (signal_at (pool_place s.object) ∷ [])
       (put-acts p w s.object l (s.a % 256) (omega arith) f) refl
 
   -- 21: "free of an object not out" is refused; 22: "add of one not absent"
-  puts : (s.kind ≡ 21) ⊎ (s.kind ≡ 22) → Acts z p s (finishedAtOnce (put_back p s.object (s.a % 256)) s.caller)
+  puts : (s.kind ≡ 21) ⊎ (s.kind ≡ 22) → Acts z p s (finished_at_once (put_back p s.object (s.a % 256)) s.caller)
   puts (inl e) =
       put_in 21 e (object_of p c s a w 21 e) (leb-true s.a 31 (rw e at a.value))
-      (λ f. absurd (omega (arith, eqb-true (markAt (poolAt p s.object) (s.a % 256)) out (rw e at a.state), f)))
+      (λ f. absurd (omega (arith, eqb-true (mark_at (pool_at p s.object) (s.a % 256)) out (rw e at a.state), f)))
   puts (inr e) =
       put_in 22 e (object_of p c s a w 22 e) (leb-true s.a 31 (rw e at a.value))
-      (λ f. absurd (omega (arith, eqb-true (markAt (poolAt p s.object) (s.a % 256)) absent (rw e at a.state), f)))
+      (λ f. absurd (omega (arith, eqb-true (mark_at (pool_at p s.object) (s.a % 256)) absent (rw e at a.state), f)))
 
   box-effects : 15 ≤ s.kind → eqb s.kind 15 ≡ false → eqb s.kind 16 ≡ false → eqb s.kind 17 ≡ false → eqb s.kind 20 ≡ false
-      → Acts z p s (finishedAtOnce (boxEffected p s) s.caller)
-  unfolding boxEffected countIn
+      → Acts z p s (finished_at_once (box_effected p s) s.caller)
+  unfolding box_effected count_in
   box-effects l e15 e16 e17 e20 =
-      chosen (λ (h : Plant). Acts z p s (finishedAtOnce h s.caller)) (eqb s.kind 18)
-      (λ e. let is = eqb-true s.kind 18 e in at-once (mailboxReset p s.object) []
+      chosen (λ (h : Plant). Acts z p s (finished_at_once h s.caller)) (eqb s.kind 18)
+      (λ e. let is = eqb-true s.kind 18 e in at-once (mailbox_reset p s.object) []
       (reset-acts p w s.object (object_of p c s a w 18 is)) refl)
-      (λ e18. chosen (λ (h : Plant). Acts z p s (finishedAtOnce h s.caller)) (eqb s.kind 19)
-      (λ e. let is = eqb-true s.kind 19 e in at-once (mailboxResumed p s.object) []
+      (λ e18. chosen (λ (h : Plant). Acts z p s (finished_at_once h s.caller)) (eqb s.kind 19)
+      (λ e. let is = eqb-true s.kind 19 e in at-once (mailbox_resumed p s.object) []
       (resume-acts p w s.object (object_of p c s a w 19 is)) refl)
       (λ e19. puts
       (two-left s.kind l (leb-true s.kind 22 (both-means (leb 1 s.kind) (leb s.kind 22) a.kind).1)
@@ -144,7 +144,7 @@ module _ (p : Plant) (c : Clock) (s : Step) (a : Accepted p c s) (w : Whole p.si
 
   -- EVERY ACCEPTED STEP IS A CHAIN, AND LEAVES THE TABLES WHOLE
   pub step-acts : Acts z p s (acted p c.time s)
-  unfolding acted actedOnBox
+  unfolding acted acted_on_box
   step-acts =
       chosen (Acts z p s) (leb s.kind 14) (λ e. kernel-acts p c s a w (leb-true s.kind 14 e))
       (λ e. chosen (Acts z p s) (eqb s.kind 15) (λ f. post-acts s.kind refl (inl (eqb-true s.kind 15 f)))

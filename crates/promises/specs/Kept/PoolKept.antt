@@ -7,8 +7,8 @@ use Rattle.std.proofs.Math.Seq.{set_out}
 use Rattle.std.specs.Int.Signed.{lt_z}
 use Rattle.kernel.specs.declared.records.Call.{Call}
 use Rattle.kernel.specs.declared.records.Kernel.{Kernel}
-use Rattle.kernel.specs.Places.{poolPlace}
-use Rattle.kernel.specs.Tables.{counterAt}
+use Rattle.kernel.specs.Places.{pool_place}
+use Rattle.kernel.specs.Tables.{counter_at}
 use Rattle.kernel.specs.Walk.{bit, count_of}
 use Rattle.kernel.specs.Queue.{enqueued}
 use Rattle.kernel.specs.Semaphore.{taken}
@@ -16,8 +16,8 @@ use Rattle.kernel.proofs.Cases.{split, same_or, in-or-out, contrary}
 use Rattle.kernel.proofs.WalkLaws.{count-agree, count_none}
 use Rattle.library.specs.declared.tables.Pool.{Pool}
 use Rattle.library.specs.declared.tables.Plant.{Plant}
-use Rattle.library.specs.Tables.{blankPool, poolAt, withKernel, withPool}
-use Rattle.library.specs.Pool.{absent, free, out, listed_at, markAt, top_of, popped, pushed, handedOver, allocTried, put_back}
+use Rattle.library.specs.Tables.{blank_pool, pool_at, with_kernel, with_pool}
+use Rattle.library.specs.Pool.{absent, free, out, listed_at, mark_at, top_of, popped, pushed, handed_over, alloc_tried, put_back}
 use Rattle.rules.specs.PoolRules.{occurrences, larger}
 use Rattle.promises.specs.Together.Tests.{used_all}
 use Rattle.promises.specs.Together.Good.{GoodPool}
@@ -25,10 +25,10 @@ use Rattle.promises.specs.Together.Good.{GoodPool}
 -- what a good pool is beside its counter and its promises
 pub record Listed (x : Pool) : Type 0 where
   pub length : x.length ≤ 32
-  pub once : (o : ℕ) → o < 32 → markAt x o ≡ free → occurrences x o ≡ 1
-  pub no_other : (o : ℕ) → o < 32 → markAt x o ≢ free → occurrences x o ≡ 0
+  pub once : (o : ℕ) → o < 32 → mark_at x o ≡ free → occurrences x o ≡ 1
+  pub no_other : (o : ℕ) → o < 32 → mark_at x o ≢ free → occurrences x o ≡ 0
   pub objects : (j : ℕ) → j < x.length → listed_at x j < 32
-  pub marks : (o : ℕ) → o < 32 → (markAt x o ≡ absent) ⊎ ((markAt x o ≡ free) ⊎ (markAt x o ≡ out))
+  pub marks : (o : ℕ) → o < 32 → (mark_at x o ≡ absent) ⊎ ((mark_at x o ≡ free) ⊎ (mark_at x o ≡ out))
 
 -- room for 32 objects
 pub record PoolSized (x : Pool) : Type 0 where
@@ -122,11 +122,11 @@ module _ (x : Pool) (g : Listed x) where
   -- no object is listed twice
   at-most-once : (o : ℕ) → o < 32 → count_of (entry x o) x.length ≤ 1
   at-most-once o h =
-      same_or (markAt x o) free (λ e. omega (arith, occurs x o g.length, g.once o h e))
+      same_or (mark_at x o) free (λ e. omega (arith, occurs x o g.length, g.once o h e))
       (λ d. omega (arith, occurs x o g.length, g.no_other o h d))
 
   -- one that is not free leaves a place of the list unused
-  module _ (o : ℕ) (within : o < 32) (unlisted : markAt x o ≢ free) where
+  module _ (o : ℕ) (within : o < 32) (unlisted : mark_at x o ≢ free) where
     below : (b : ℕ) → b ≤ 32 → count_of (λ j. ltb (listed_at x j) b) x.length + bit (ltb o b) ≤ b
     below zero h =
         rw (count_none (λ j. ltb (listed_at x j) 0) x.length (λ j l. le-ltb (listed_at x j) 0 (omega arith)), le-ltb o 0 (omega arith))
@@ -156,9 +156,9 @@ module _ (x : Pool) (g : Listed x) where
 -- the top of a pool x was free; in h it is out and off the list, and all else is as it was
 pub record Popped (x h : Pool) : Type 0 where
   pub object : top_of x < 32
-  pub was : markAt x (top_of x) ≡ free
-  pub now : markAt h (top_of x) ≡ out
-  pub others : (o : ℕ) → o ≢ top_of x → markAt h o ≡ markAt x o
+  pub was : mark_at x (top_of x) ≡ free
+  pub now : mark_at h (top_of x) ≡ out
+  pub others : (o : ℕ) → o ≢ top_of x → mark_at h o ≡ mark_at x o
   pub rest : (j : ℕ) → listed_at h j ≡ listed_at x j
   pub fewer : h.length + 1 ≡ x.length
   pub listed : Listed h
@@ -193,15 +193,15 @@ module _ (x : Pool) (g : Listed x) (s : PoolSized x) (some : 0 < x.length) where
       few : x.length - 1 ≤ 32
       few = omega (arith, g.length)
 
-  pop-now : markAt less (top_of x) ≡ out
+  pop-now : mark_at less (top_of x) ≡ out
   pop-now = get_or-set_same x.marks (top_of x) out absent (rw s.marks top-object)
 
-  pop-others : (o : ℕ) → o ≢ top_of x → markAt less o ≡ markAt x o
+  pop-others : (o : ℕ) → o ≢ top_of x → mark_at less o ≡ mark_at x o
   pop-others o d = get_or-set_other x.marks (top_of x) o out absent d
 
-  pop-was : markAt x (top_of x) ≡ free
+  pop-was : mark_at x (top_of x) ≡ free
   pop-was =
-      same_or (markAt x (top_of x)) free (λ e. e)
+      same_or (mark_at x (top_of x)) free (λ e. e)
       (λ d. absurd (omega (arith, rw (eq-eqb (top_of x) (top_of x) refl) at (pop-occurs (top_of x)), g.no_other (top_of x) top-object d)))
 
   -- an object other than the top is listed as often as it was
@@ -248,14 +248,14 @@ module _ (x : Pool) (g : Listed x) (s : PoolSized x) (some : 0 < x.length) where
 -- in h the object o is on top of a pool x and free, and all else is as it was
 pub record Pushed (x h : Pool) (o : ℕ) : Type 0 where
   pub top : top_of h ≡ o
-  pub now : markAt h o ≡ free
-  pub others : (a : ℕ) → a ≢ o → markAt h a ≡ markAt x a
+  pub now : mark_at h o ≡ free
+  pub others : (a : ℕ) → a ≢ o → mark_at h a ≡ mark_at x a
   pub rest : (j : ℕ) → j < x.length → listed_at h j ≡ listed_at x j
   pub more : h.length ≡ x.length + 1
   pub listed : Listed h
   pub sized : PoolSized h
 
-module _ (x : Pool) (g : Listed x) (s : PoolSized x) (o : ℕ) (object : o < 32) (unlisted : markAt x o ≢ free) where
+module _ (x : Pool) (g : Listed x) (s : PoolSized x) (o : ℕ) (object : o < 32) (unlisted : mark_at x o ≢ free) where
   abbrev pub more : Pool
   more = record { length = x.length + 1; list = set x.list x.length o; marks = set x.marks o free }
 
@@ -272,10 +272,10 @@ module _ (x : Pool) (g : Listed x) (s : PoolSized x) (o : ℕ) (object : o < 32)
   push-rest : (j : ℕ) → j < x.length → listed_at more j ≡ listed_at x j
   push-rest j h = get_or-set_other x.list x.length j o 0 (λ e. absurd (omega arith))
 
-  push-now : markAt more o ≡ free
+  push-now : mark_at more o ≡ free
   push-now = get_or-set_same x.marks o free absent (rw s.marks object)
 
-  push-others : (a : ℕ) → a ≢ o → markAt more a ≡ markAt x a
+  push-others : (a : ℕ) → a ≢ o → mark_at more a ≡ mark_at x a
   push-others a d = get_or-set_other x.marks o a free absent d
 
   push-occurs : (a : ℕ) → occurrences more a ≡ occurrences x a + bit (eqb o a)
@@ -337,23 +337,23 @@ module _ (x : Pool) (g : Listed x) (s : PoolSized x) (o : ℕ) (object : o < 32)
 
 -- each pool that the sizes have is listed rightly, and has room for 32 objects
 pub record PoolsListed (p : Plant) : Type 0 where
-  pub listed : (q : ℕ) → q < p.sizes.pools → Listed (poolAt p q)
-  pub sized : (q : ℕ) → q < p.sizes.pools → PoolSized (poolAt p q)
+  pub listed : (q : ℕ) → q < p.sizes.pools → Listed (pool_at p q)
+  pub sized : (q : ℕ) → q < p.sizes.pools → PoolSized (pool_at p q)
 
 -- a call on the pool n leaves all of them so, every other pool as it was, and touches neither sizes nor mailboxes
 pub record PoolsKept (p h : Plant) (n : ℕ) : Type 0 where
   pub all : PoolsListed h
-  pub others : (q : ℕ) → q ≢ n → poolAt h q ≡ poolAt p q
+  pub others : (q : ℕ) → q ≢ n → pool_at h q ≡ pool_at p q
   pub pools : length h.pools ≡ length p.pools
   pub sizes : h.sizes ≡ p.sizes
   pub mailboxes : h.mailboxes ≡ p.mailboxes
 
 -- a pool written
-pool-same : (p : Plant) (n : ℕ) (x : Pool) → n < length p.pools → poolAt (withPool p n x) n ≡ x
-pool-same p n x h = get_or-set_same p.pools n x blankPool h
+pool-same : (p : Plant) (n : ℕ) (x : Pool) → n < length p.pools → pool_at (with_pool p n x) n ≡ x
+pool-same p n x h = get_or-set_same p.pools n x blank_pool h
 
 module _ (p : Plant) (g : PoolsListed p) where
-  kernel-kept : (k : Kernel) (n : ℕ) → PoolsKept p (withKernel p k) n
+  kernel-kept : (k : Kernel) (n : ℕ) → PoolsKept p (with_kernel p k) n
   kernel-kept k n = record {
     all = record { listed = g.listed; sized = g.sized };
     others = λ q d. refl;
@@ -363,20 +363,20 @@ module _ (p : Plant) (g : PoolsListed p) where
   }
 
   -- what one pool written has, all have
-  written : (P : Pool → Type 0) (n : ℕ) (x : Pool) → P x → ((q : ℕ) → q < p.sizes.pools → P (poolAt p q))
-      → (q : ℕ) → q < p.sizes.pools → P (poolAt (withPool p n x) q)
+  written : (P : Pool → Type 0) (n : ℕ) (x : Pool) → P x → ((q : ℕ) → q < p.sizes.pools → P (pool_at p q))
+      → (q : ℕ) → q < p.sizes.pools → P (pool_at (with_pool p n x) q)
   written P n x f all q h =
       same_or q n
       (λ e. rw e
       (in-or-out n (length p.pools) (λ l. rw (pool-same p n x l) f)
       (λ l. rw (set_out p.pools n x l) (rw e at (all q h)))))
-      (λ d. rw (get_or-set_other p.pools n q x blankPool d) (all q h))
+      (λ d. rw (get_or-set_other p.pools n q x blank_pool d) (all q h))
 
-  pool-kept : (k : Kernel) (n : ℕ) (x : Pool) → Listed x → PoolSized x → PoolsKept p (withPool (withKernel p k) n x) n
+  pool-kept : (k : Kernel) (n : ℕ) (x : Pool) → Listed x → PoolSized x → PoolsKept p (with_pool (with_kernel p k) n x) n
   pool-kept k n x l s =
       record {
         all = record { listed = written Listed n x l g.listed; sized = written PoolSized n x s g.sized };
-        others = λ q d. get_or-set_other p.pools n q x blankPool d;
+        others = λ q d. get_or-set_other p.pools n q x blank_pool d;
         pools = length-set p.pools n x;
         sizes = refl;
         mailboxes = refl;
@@ -384,76 +384,76 @@ module _ (p : Plant) (g : PoolsListed p) where
 
   module _ (n : ℕ) (there : n < p.sizes.pools) where
     -- an object handed over
-    module _ (i : ℕ) (some : 0 < (poolAt p n).length) where
-      taken-top : Popped (poolAt p n) (popped (poolAt p n))
-      taken-top = pop_kept (poolAt p n) (g.listed n there) (g.sized n there) some
+    module _ (i : ℕ) (some : 0 < (pool_at p n).length) where
+      taken-top : Popped (pool_at p n) (popped (pool_at p n))
+      taken-top = pop_kept (pool_at p n) (g.listed n there) (g.sized n there) some
 
       -- all pools are kept
-      pub hand-over-kept : PoolsKept p (handedOver p i n) n
-      unfolding handedOver
-      hand-over-kept = pool-kept _ n (popped (poolAt p n)) taken-top.listed taken-top.sized
+      pub hand-over-kept : PoolsKept p (handed_over p i n) n
+      unfolding handed_over
+      hand-over-kept = pool-kept _ n (popped (pool_at p n)) taken-top.listed taken-top.sized
 
       -- and this one has lost its top
-      pub hand-over-popped : Popped (poolAt p n) (poolAt (handedOver p i n) n)
-      unfolding handedOver
-      hand-over-popped = rw (pool-same p n (popped (poolAt p n)) row) taken-top
+      pub hand-over-popped : Popped (pool_at p n) (pool_at (handed_over p i n) n)
+      unfolding handed_over
+      hand-over-popped = rw (pool-same p n (popped (pool_at p n)) row) taken-top
         where
           -- past the end of the table a pool is empty
           row : n < length p.pools
           row =
               in-or-out n (length p.pools) (λ h. h)
-              (λ h. absurd (omega (arith, rw (get_or-eq_default p.pools blankPool h) at some)))
+              (λ h. absurd (omega (arith, rw (get_or-eq_default p.pools blank_pool h) at some)))
 
     -- an object put back
-    module _ (o : ℕ) (object : o < 32) (unlisted : markAt (poolAt p n) o ≢ free) where
-      put-top : Pushed (poolAt p n) (pushed (poolAt p n) o) o
-      put-top = push_kept (poolAt p n) (g.listed n there) (g.sized n there) o object unlisted
+    module _ (o : ℕ) (object : o < 32) (unlisted : mark_at (pool_at p n) o ≢ free) where
+      put-top : Pushed (pool_at p n) (pushed (pool_at p n) o) o
+      put-top = push_kept (pool_at p n) (g.listed n there) (g.sized n there) o object unlisted
 
       -- all pools are kept
       pub put-back-kept : PoolsKept p (put_back p n o) n
       unfolding put_back
-      put-back-kept = pool-kept _ n (pushed (poolAt p n) o) put-top.listed put-top.sized
+      put-back-kept = pool-kept _ n (pushed (pool_at p n) o) put-top.listed put-top.sized
 
       -- and this one has the object on top
-      pub put-back-pushed : n < length p.pools → Pushed (poolAt p n) (poolAt (put_back p n o) n) o
+      pub put-back-pushed : n < length p.pools → Pushed (pool_at p n) (pool_at (put_back p n o) n) o
       unfolding put_back
-      put-back-pushed h = rw (pool-same p n (pushed (poolAt p n) o) h) put-top
+      put-back-pushed h = rw (pool-same p n (pushed (pool_at p n) o) h) put-top
 
 -- ---- alloc
 
 module _ (p : Plant) (i : ℕ) (call : Call) where
   abbrev c : ℤ
-  c = counterAt p.kernel (poolPlace call.object)
+  c = counter_at p.kernel (pool_place call.object)
 
   -- a counter above 0 is lowered and the top handed over
   pub alloc-above : lt_z (pos 0) c ≡ true
-      → allocTried p i call ≡ handedOver (withKernel p (taken p.kernel (poolPlace call.object))) i call.object
-  unfolding allocTried
+      → alloc_tried p i call ≡ handed_over (with_kernel p (taken p.kernel (pool_place call.object))) i call.object
+  unfolding alloc_tried
   alloc-above e = rw e
 
   -- any other is waited on
   pub alloc-not-above : lt_z (pos 0) c ≡ false
-      → allocTried p i call ≡ withKernel p (enqueued p.kernel i (poolPlace call.object) call)
-  unfolding allocTried
+      → alloc_tried p i call ≡ with_kernel p (enqueued p.kernel i (pool_place call.object) call)
+  unfolding alloc_tried
   alloc-not-above e = rw e
 
   module _ (g : PoolsListed p) (there : call.object < p.sizes.pools) where
-    begun : PoolsListed (withKernel p (taken p.kernel (poolPlace call.object)))
+    begun : PoolsListed (with_kernel p (taken p.kernel (pool_place call.object)))
     begun = record { listed = g.listed; sized = g.sized }
 
     -- all pools are kept
-    pub alloc-kept : (lt_z (pos 0) c ≡ true → 0 < (poolAt p call.object).length) → PoolsKept p (allocTried p i call) call.object
+    pub alloc-kept : (lt_z (pos 0) c ≡ true → 0 < (pool_at p call.object).length) → PoolsKept p (alloc_tried p i call) call.object
     alloc-kept some =
         split (lt_z (pos 0) c)
         (λ e.
-        let k = hand-over-kept (withKernel p (taken p.kernel (poolPlace call.object))) begun call.object there i (some e) in
+        let k = hand-over-kept (with_kernel p (taken p.kernel (pool_place call.object))) begun call.object there i (some e) in
         rw (alloc-above e)
         (record { all = k.all; others = k.others; pools = k.pools; sizes = k.sizes; mailboxes = k.mailboxes }))
-        (λ e. rw (alloc-not-above e) (kernel-kept p g (enqueued p.kernel i (poolPlace call.object) call) call.object))
+        (λ e. rw (alloc-not-above e) (kernel-kept p g (enqueued p.kernel i (pool_place call.object) call) call.object))
 
     -- and this one has lost its top, where the counter was above 0
-    pub alloc-popped : lt_z (pos 0) c ≡ true → 0 < (poolAt p call.object).length
-        → Popped (poolAt p call.object) (poolAt (allocTried p i call) call.object)
+    pub alloc-popped : lt_z (pos 0) c ≡ true → 0 < (pool_at p call.object).length
+        → Popped (pool_at p call.object) (pool_at (alloc_tried p i call) call.object)
     alloc-popped e some =
         rw (alloc-above e)
-        (hand-over-popped (withKernel p (taken p.kernel (poolPlace call.object))) begun call.object there i some)
+        (hand-over-popped (with_kernel p (taken p.kernel (pool_place call.object))) begun call.object there i some)

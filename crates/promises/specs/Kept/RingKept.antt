@@ -13,22 +13,22 @@ use Rattle.library.specs.declared.ring.Positions.{Positions}
 use Rattle.library.specs.declared.ring.Placed.{Placed}
 use Rattle.library.specs.declared.tables.Mailbox.{Mailbox}
 use Rattle.library.specs.declared.tables.Plant.{Plant}
-use Rattle.library.specs.Sizes.{slotsAt}
-use Rattle.library.specs.Ring.{no_slot, placeAfter, placeBefore, posted, postedAhead, fetched, emptied}
-use Rattle.library.specs.Tables.{blankMailbox, mailboxAt, withKernel, withMailbox}
-use Rattle.library.specs.Mailbox.{placedFor, postDone, postTried, fetchDone, fetchTried, mailboxReset, mailboxResumed}
+use Rattle.library.specs.Sizes.{slots_at}
+use Rattle.library.specs.Ring.{no_slot, place_after, place_before, posted, posted_ahead, fetched, emptied}
+use Rattle.library.specs.Tables.{blank_mailbox, mailbox_at, with_kernel, with_mailbox}
+use Rattle.library.specs.Mailbox.{placed_for, post_done, post_tried, fetch_done, fetch_tried, mailbox_reset, mailbox_resumed}
 use Rattle.library.proofs.RingLaws.{Fitting}
 
 -- ---- places in a ring
 
 -- the next place is one more, modulo slots
-pub after-mod : (p slots : ℕ) → p < slots → placeAfter p slots ≡ (p + 1) % slots
+pub after-mod : (p slots : ℕ) → p < slots → place_after p slots ≡ (p + 1) % slots
 after-mod p slots h =
     in-or-out (p + 1) slots (λ l. rw (lt-ltb (p + 1) slots l) (sym (mod-eq_of_lt l)))
     (λ l. let end : p + 1 ≡ slots = omega arith in rw (le-ltb (p + 1) slots l, end) (sym (mod_self slots)))
 
 -- and the one before is the place of which this is the next
-pub before-mod : (p slots : ℕ) → p < slots → (placeBefore p slots + 1) % slots ≡ p
+pub before-mod : (p slots : ℕ) → p < slots → (place_before p slots + 1) % slots ≡ p
 before-mod p slots h =
     in-or-out 0 p
     (λ l. let on : p - 1 + 1 ≡ p = omega arith in rw (lt-ltb 0 p l, on) (mod-eq_of_lt h))
@@ -38,7 +38,7 @@ before-mod p slots h =
     rw (le-ltb 0 p l, end, mod_self slots) (sym first))
 
 -- which is in the ring too
-pub before-lt : (p slots : ℕ) → p < slots → placeBefore p slots < slots
+pub before-lt : (p slots : ℕ) → p < slots → place_before p slots < slots
 before-lt p slots h = chosen (λ x. x < slots) (ltb 0 p) (λ e. omega arith) (λ e. omega arith)
 
 -- ---- the slot of a call, or none
@@ -49,11 +49,11 @@ pub record SlotGiven (x : Placed) (slots : ℕ) (barred : Type 0) : Type 0 where
   pub none : (x.slot ≡ no_slot) ↔ barred
 
 -- the positions r and the slot w where b, else no slot and the positions as they were
-abbrev placedIf : Bool → ℕ → Positions → Positions → Placed
-placedIf b w r q = cond b (record { slot = w; positions = r }) (record { slot = no_slot; positions = q })
+abbrev placed_if : Bool → ℕ → Positions → Positions → Placed
+placed_if b w r q = cond b (record { slot = w; positions = r }) (record { slot = no_slot; positions = q })
 
 given-if : (b : Bool) (w : ℕ) (r q : Positions) (slots : ℕ) (barred : Type 0) → slots ≤ 16 → w < slots
-    → (b ≡ true → barred → ⊥) → (b ≡ false → barred) → SlotGiven (placedIf b w r q) slots barred
+    → (b ≡ true → barred → ⊥) → (b ≡ false → barred) → SlotGiven (placed_if b w r q) slots barred
 given-if true w r q slots barred few h opens bars =
     record { within = λ d. h; none = (λ (e : w ≡ 255). absurd (omega arith), λ z. absurd (opens refl z)) }
 given-if false w r q slots barred few h opens bars =
@@ -86,8 +86,8 @@ module _ (q : Positions) (slots : ℕ) (g : Fitting q slots) where
       sum = let e : q.read + q.count + 1 ≡ q.read + (q.count + 1) = omega arith in ap (λ n. n % slots) e
 
   -- "ahead steps the read place back and writes there"
-  pub ahead-good : Fitting (postedAhead q slots).positions slots
-  unfolding postedAhead
+  pub ahead-good : Fitting (posted_ahead q slots).positions slots
+  unfolding posted_ahead
   ahead-good =
       chosen (λ (x : Placed). Fitting x.positions slots) (ltb q.count slots)
       (λ e. record {
@@ -96,14 +96,14 @@ module _ (q : Positions) (slots : ℕ) (g : Fitting q slots) where
         write = g.write;
         follows = g.follows
             ∙ ap (λ n. (n + q.count) % slots) (sym (before-mod q.read slots g.read))
-            ∙ mod-add-mod (placeBefore q.read slots + 1) slots q.count
+            ∙ mod-add-mod (place_before q.read slots + 1) slots q.count
             ∙ sum;
       })
       (λ e. g)
     where
-      sum : (placeBefore q.read slots + 1 + q.count) % slots ≡ (placeBefore q.read slots + (q.count + 1)) % slots
+      sum : (place_before q.read slots + 1 + q.count) % slots ≡ (place_before q.read slots + (q.count + 1)) % slots
       sum =
-          let e : placeBefore q.read slots + 1 + q.count ≡ placeBefore q.read slots + (q.count + 1) = omega arith in
+          let e : place_before q.read slots + 1 + q.count ≡ place_before q.read slots + (q.count + 1) = omega arith in
           ap (λ n. n % slots) e
 
   -- "fetch takes from the read place"
@@ -130,15 +130,15 @@ module _ (q : Positions) (slots : ℕ) (g : Fitting q slots) where
     unfolding posted
     posted-slot =
         given-if (ltb q.count slots) q.write
-        (record { read = q.read; write = placeAfter q.write slots; count = q.count + 1 }) q slots (q.count ≡ slots) few g.write
+        (record { read = q.read; write = place_after q.write slots; count = q.count + 1 }) q slots (q.count ≡ slots) few g.write
         room full
 
     -- and so is one ahead
-    pub ahead-slot : SlotGiven (postedAhead q slots) slots (q.count ≡ slots)
-    unfolding postedAhead
+    pub ahead-slot : SlotGiven (posted_ahead q slots) slots (q.count ≡ slots)
+    unfolding posted_ahead
     ahead-slot =
-        given-if (ltb q.count slots) (placeBefore q.read slots)
-        (record { read = placeBefore q.read slots; write = q.write; count = q.count + 1 }) q slots (q.count ≡ slots) few
+        given-if (ltb q.count slots) (place_before q.read slots)
+        (record { read = place_before q.read slots; write = q.write; count = q.count + 1 }) q slots (q.count ≡ slots) few
         (before-lt q.read slots g.read) room full
 
     -- a fetch is given one exactly where there is a message
@@ -146,7 +146,7 @@ module _ (q : Positions) (slots : ℕ) (g : Fitting q slots) where
     unfolding fetched
     fetched-slot =
         given-if (ltb 0 q.count) q.read
-        (record { read = placeAfter q.read slots; write = q.write; count = q.count - 1 }) q slots (q.count ≡ 0) few g.read
+        (record { read = place_after q.read slots; write = q.write; count = q.count - 1 }) q slots (q.count ≡ 0) few g.read
         (λ t e. absurd (omega (arith, ltb-true 0 q.count t))) (λ t. omega (arith, ltb-false 0 q.count t))
 
 -- "Reset empties, returns both places to 0"
@@ -158,80 +158,80 @@ emptied-good q slots h = record { count = omega arith; read = h; write = h; foll
 
 -- each mailbox that the sizes have is good
 abbrev pub MailboxesGood : Plant → Type 0
-MailboxesGood p = (m : ℕ) → m < p.sizes.mailboxes → Fitting (mailboxAt p m).positions (slotsAt p.sizes m)
+MailboxesGood p = (m : ℕ) → m < p.sizes.mailboxes → Fitting (mailbox_at p m).positions (slots_at p.sizes m)
 
 -- a call on one mailbox leaves all of them good, as many as there were, and touches neither sizes nor pools
 pub record MailboxesKept (p h : Plant) : Type 0 where
   pub good : MailboxesGood h
   pub boxes : length h.mailboxes ≡ length p.mailboxes
   -- and each has as many slots as it had
-  pub messages : (m : ℕ) → length (mailboxAt h m).messages ≡ length (mailboxAt p m).messages
+  pub messages : (m : ℕ) → length (mailbox_at h m).messages ≡ length (mailbox_at p m).messages
   pub sizes : h.sizes ≡ p.sizes
   pub pools : h.pools ≡ p.pools
 
 module _ (p : Plant) (g : MailboxesGood p) where
   -- the kernel part is no part of the mailboxes
-  kernel-kept : (k : Kernel) → MailboxesKept p (withKernel p k)
+  kernel-kept : (k : Kernel) → MailboxesKept p (with_kernel p k)
   kernel-kept k = record { good = g; boxes = refl; messages = λ m. refl; sizes = refl; pools = refl }
 
   -- one mailbox written
-  box-kept : (k : Kernel) (n : ℕ) (b : Mailbox) → Fitting b.positions (slotsAt p.sizes n)
-      → length b.messages ≡ length (mailboxAt p n).messages → MailboxesKept p (withMailbox (withKernel p k) n b)
+  box-kept : (k : Kernel) (n : ℕ) (b : Mailbox) → Fitting b.positions (slots_at p.sizes n)
+      → length b.messages ≡ length (mailbox_at p n).messages → MailboxesKept p (with_mailbox (with_kernel p k) n b)
   box-kept k n b f w =
       record {
         good = λ m h.
             same_or m n
             (λ e. rw e
-            (in-or-out n (length p.mailboxes) (λ l. rw (get_or-set_same p.mailboxes n b blankMailbox l) f)
+            (in-or-out n (length p.mailboxes) (λ l. rw (get_or-set_same p.mailboxes n b blank_mailbox l) f)
             (λ l. rw (set_out p.mailboxes n b l) (rw e at (g m h)))))
-            (λ d. rw (get_or-set_other p.mailboxes n m b blankMailbox d) (g m h));
+            (λ d. rw (get_or-set_other p.mailboxes n m b blank_mailbox d) (g m h));
         boxes = length-set p.mailboxes n b;
         messages = λ m.
             same_or m n
             (λ e. rw e
-            (in-or-out n (length p.mailboxes) (λ l. rw (get_or-set_same p.mailboxes n b blankMailbox l) w)
+            (in-or-out n (length p.mailboxes) (λ l. rw (get_or-set_same p.mailboxes n b blank_mailbox l) w)
             (λ l. rw (set_out p.mailboxes n b l))))
-            (λ d. rw (get_or-set_other p.mailboxes n m b blankMailbox d));
+            (λ d. rw (get_or-set_other p.mailboxes n m b blank_mailbox d));
         sizes = refl;
         pools = refl;
       }
 
   module _ (i : ℕ) (call : Call) where
     abbrev slots : ℕ
-    slots = slotsAt p.sizes call.object
+    slots = slots_at p.sizes call.object
 
     abbrev box : Mailbox
-    box = mailboxAt p call.object
+    box = mailbox_at p call.object
 
     -- a post that was given the positions of a good mailbox
-    pub post-done-kept : (x : Placed) → Fitting x.positions slots → MailboxesKept p (postDone p i call x)
-    unfolding postDone
+    pub post-done-kept : (x : Placed) → Fitting x.positions slots → MailboxesKept p (post_done p i call x)
+    unfolding post_done
     post-done-kept x f = box-kept _ call.object _ f (length-set box.messages x.slot call.operand)
 
     -- a fetch that was
-    pub fetch-done-kept : (x : Placed) → Fitting x.positions slots → MailboxesKept p (fetchDone p i call x)
-    unfolding fetchDone
+    pub fetch-done-kept : (x : Placed) → Fitting x.positions slots → MailboxesKept p (fetch_done p i call x)
+    unfolding fetch_done
     fetch-done-kept x f = box-kept _ call.object _ f refl
 
     module _ (there : call.object < p.sizes.mailboxes) where
-      placed-good : Fitting (placedFor box call.kind slots).positions slots
+      placed-good : Fitting (placed_for box call.kind slots).positions slots
       placed-good =
           chosen (λ (x : Placed). Fitting x.positions slots) (eqb call.kind 16)
           (λ e. ahead-good box.positions slots (g call.object there))
           (λ e. posted-good box.positions slots (g call.object there))
 
       -- a post, done or not
-      pub post-tried-kept : MailboxesKept p (postTried p i call)
-      unfolding postTried
+      pub post-tried-kept : MailboxesKept p (post_tried p i call)
+      unfolding post_tried
       post-tried-kept =
           chosen (MailboxesKept p) (eqb box.reset 0)
-          (λ e. chosen (MailboxesKept p) (eqb (placedFor box call.kind slots).slot no_slot) (λ f. kernel-kept _)
-          (λ f. post-done-kept (placedFor box call.kind slots) placed-good))
+          (λ e. chosen (MailboxesKept p) (eqb (placed_for box call.kind slots).slot no_slot) (λ f. kernel-kept _)
+          (λ f. post-done-kept (placed_for box call.kind slots) placed-good))
           (λ e. kernel-kept _)
 
       -- a fetch, done or not
-      pub fetch-tried-kept : MailboxesKept p (fetchTried p i call)
-      unfolding fetchTried
+      pub fetch-tried-kept : MailboxesKept p (fetch_tried p i call)
+      unfolding fetch_tried
       fetch-tried-kept =
           chosen (MailboxesKept p) (eqb box.reset 0)
           (λ e. chosen (MailboxesKept p) (eqb (fetched box.positions slots).slot no_slot) (λ f. kernel-kept _)
@@ -240,12 +240,12 @@ module _ (p : Plant) (g : MailboxesGood p) where
 
   module _ (n : ℕ) (there : n < p.sizes.mailboxes) where
     -- a reset
-    pub reset-kept : MailboxesKept p (mailboxReset p n)
-    unfolding mailboxReset
+    pub reset-kept : MailboxesKept p (mailbox_reset p n)
+    unfolding mailbox_reset
     reset-kept =
-        box-kept _ n _ (emptied-good (mailboxAt p n).positions (slotsAt p.sizes n) (omega (arith, (g n there).read))) refl
+        box-kept _ n _ (emptied-good (mailbox_at p n).positions (slots_at p.sizes n) (omega (arith, (g n there).read))) refl
 
     -- a resume
-    pub resume-kept : MailboxesKept p (mailboxResumed p n)
-    unfolding mailboxResumed
+    pub resume-kept : MailboxesKept p (mailbox_resumed p n)
+    unfolding mailbox_resumed
     resume-kept = box-kept p.kernel n _ (g n there) refl

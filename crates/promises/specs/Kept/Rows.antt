@@ -5,25 +5,25 @@ use Rattle.std.specs.Int.Bits.{bit_and}
 use Rattle.kernel.specs.declared.records.Call.{Call}
 use Rattle.kernel.specs.declared.records.Thread.{Thread}
 use Rattle.kernel.specs.Numbers.{ready, awaiting, infinite}
-use Rattle.kernel.specs.Moves.{readied, asleep, answered, ticksOf, awaitedBy}
-use Rattle.kernel.specs.Event.{withPending}
-use Rattle.kernel.specs.Ticking.{countedOff}
+use Rattle.kernel.specs.Moves.{readied, asleep, answered, ticks_of, awaited_by}
+use Rattle.kernel.specs.Event.{with_pending}
+use Rattle.kernel.specs.Ticking.{counted_off}
 use Rattle.kernel.proofs.Cases.{same_or}
 use Rattle.library.specs.declared.sizes.Sizes.{Sizes}
-use Rattle.library.specs.Calls.{keepsOperand}
-use Rattle.rules.specs.RowRules.{callLimit, waitState, waitPlace}
+use Rattle.library.specs.Calls.{keeps_operand}
+use Rattle.rules.specs.RowRules.{call_limit, wait_state, wait_place}
 use Rattle.promises.specs.Together.Good.{CallKind, GoodThread}
 
 -- a call with which a thread may sleep: "An unfinished call is of kind 2, 6, 9, 11, 12, 14 to 17 or 20, its timeout above 0"
 pub record CallSound (z : Sizes) (c : Call) : Type 0 where
   pub kind : CallKind c.kind
-  pub object : c.object < callLimit z c.kind
+  pub object : c.object < call_limit z c.kind
   pub timeout : 1 ≤ c.timeout
-  pub operand : keepsOperand c.kind ≡ false → c.operand ≡ 0
+  pub operand : keeps_operand c.kind ≡ false → c.operand ≡ 0
 
 -- how a call sleeps: in its kind's state, at its object's place
-abbrev pub asleepIn : Thread → Call → Thread
-asleepIn t c = asleep t (waitState c.kind) (waitPlace c.kind c.object) c
+abbrev pub asleep_in : Thread → Call → Thread
+asleep_in t c = asleep t (wait_state c.kind) (wait_place c.kind c.object) c
 
 -- ---- a record that hangs together stays so
 
@@ -73,22 +73,22 @@ readied-good z t m c n l g =
     }
 
 -- no kind of call sleeps ready
-pub waits-unready : (n : ℕ) → CallKind n → waitState n ≢ ready
+pub waits-unready : (n : ℕ) → CallKind n → wait_state n ≢ ready
 waits-unready =
-    each-kind (λ n. waitState n ≢ ready) (omega arith) (omega arith) (omega arith) (omega arith) (omega arith) (omega arith)
+    each-kind (λ n. wait_state n ≢ ready) (omega arith) (omega arith) (omega arith) (omega arith) (omega arith) (omega arith)
     (omega arith)
     (omega arith) (omega arith) (omega arith)
 
 -- "else 1 to the call's timeout"
-ticks-timed : (t : ℕ) → t ≢ infinite → ticksOf t ≡ t
+ticks-timed : (t : ℕ) → t ≢ infinite → ticks_of t ≡ t
 ticks-timed t n = rw (ne_eqb t infinite n)
 
-ticks-infinite : (t : ℕ) → t ≡ infinite → ticksOf t ≡ 0
+ticks-infinite : (t : ℕ) → t ≡ infinite → ticks_of t ≡ 0
 ticks-infinite t e = rw (eq-eqb t infinite e)
 
 pub asleep-good : (z : Sizes) (t : Thread) (c : Call) → CallSound z c
-    → (waitState c.kind ≡ awaiting → bit_and t.pending (awaitedBy c) ≡ 0) → t.cause ≤ 8
-    → GoodThread z (asleepIn t c)
+    → (wait_state c.kind ≡ awaiting → bit_and t.pending (awaited_by c) ≡ 0) → t.cause ≤ 8
+    → GoodThread z (asleep_in t c)
 asleep-good z t c f p l =
     record {
       object = λ n. f.object;
@@ -129,7 +129,7 @@ answered-good z t m d r g =
       cause = g.cause;
     }
 
-pub counted-good : (z : Sizes) (t : Thread) → t.remaining ≢ 1 → GoodThread z t → GoodThread z (countedOff t)
+pub counted-good : (z : Sizes) (t : Thread) → t.remaining ≢ 1 → GoodThread z t → GoodThread z (counted_off t)
 counted-good z t l g =
     record {
       object = g.object;
@@ -153,7 +153,7 @@ counted-good z t l g =
     fewer r t n h = (omega (arith, h.0), omega (arith, h.1))
 
 pub flags-good : (z : Sizes) (t : Thread) (f : ℕ) → (t.state ≡ awaiting → bit_and f t.awaited ≡ 0) → GoodThread z t
-    → GoodThread z (withPending t f)
+    → GoodThread z (with_pending t f)
 flags-good z t f p g =
     record {
       object = g.object;

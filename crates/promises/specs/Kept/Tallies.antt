@@ -6,12 +6,12 @@ use Rattle.std.specs.Int.Signed.{lt_z}
 use Rattle.kernel.specs.declared.records.Call.{Call}
 use Rattle.kernel.specs.declared.records.Thread.{Thread}
 use Rattle.kernel.specs.declared.records.Kernel.{Kernel}
-use Rattle.kernel.specs.Numbers.{ready, queued, timedOut}
-use Rattle.kernel.specs.Tables.{threadAt, counterAt, withThread}
+use Rattle.kernel.specs.Numbers.{ready, queued, timed_out}
+use Rattle.kernel.specs.Tables.{thread_at, counter_at, with_thread}
 use Rattle.kernel.specs.Moves.{woken, slept, finished}
 use Rattle.kernel.specs.Waiters.{queued_at}
-use Rattle.kernel.specs.Queue.{releasedAll}
-use Rattle.kernel.specs.Ticking.{countedOff, ticked}
+use Rattle.kernel.specs.Queue.{released_all}
+use Rattle.kernel.specs.Ticking.{counted_off, ticked}
 use Rattle.kernel.proofs.Cases.{split, same_or, in-or-out, first-fails}
 use Rattle.kernel.proofs.WalkLaws.{count-le, count-agree, count-change, count-some}
 use Rattle.kernel.proofs.TablesLaws.{thread-blank, thread-kept, counter-zero}
@@ -36,11 +36,11 @@ use Rattle.kernel.proofs.TickingLaws.{tick-keeps}
 
 -- of n threads as many are queued at the place p as its counter owes; from place 20 on, a queue's, the counter is never above 0
 pub record Tallies (n p : ℕ) (k : Kernel) : Type 0 where
-  pub tally : waiters k n p ≡ debt (counterAt k p)
-  pub level : 20 ≤ p → lt_z (pos 0) (counterAt k p) ≡ false
+  pub tally : waiters k n p ≡ debt (counter_at k p)
+  pub level : 20 ≤ p → lt_z (pos 0) (counter_at k p) ≡ false
 
 -- the rule stays where nobody's wait and no counter changes
-pub same-tallies : (k h : Kernel) (n p : ℕ) → ((i : ℕ) → waits h p i ≡ waits k p i) → counterAt h p ≡ counterAt k p → Tallies n p k
+pub same-tallies : (k h : Kernel) (n p : ℕ) → ((i : ℕ) → waits h p i ≡ waits k p i) → counter_at h p ≡ counter_at k p → Tallies n p k
     → Tallies n p h
 same-tallies k h n p w e g =
     record {
@@ -59,23 +59,23 @@ module _ (k : Kernel) (i : ℕ) (m : ℤ) (n p : ℕ) where
             split (waits k p i)
             (λ e. in-or-out p (length k.counters)
             (λ b. rw (wake-counter k i m p b, e)
-            (up-not-above (counterAt k p) (debt-below (counterAt k p) (omega (arith, g.tally, count-some (waits k p) n i h e)))))
+            (up-not-above (counter_at k p) (debt-below (counter_at k p) (omega (arith, g.tally, count-some (waits k p) n i h e)))))
             (λ b. rw (counter-zero (woken k i m) p (rw (wake-sizes k i m).counters b))))
             (λ e. rw (wake-counter-others k i m p e) (g.level l));
       }
 
 -- ---- a sleep, of a ready thread
 
-module _ (k : Kernel) (i p : ℕ) (c : Call) (n q : ℕ) (is-ready : (threadAt k i).state ≡ ready) where
+module _ (k : Kernel) (i p : ℕ) (c : Call) (n q : ℕ) (is-ready : (thread_at k i).state ≡ ready) where
   unqueued : waits k q i ≡ false
   unqueued = rw is-ready
 
   -- on a place whose counter is not above 0
-  pub sleep-tallies : n ≤ 16 → i < n → i < length k.threads → p < length k.counters → lt_z (pos 0) (counterAt k p) ≡ false
+  pub sleep-tallies : n ≤ 16 → i < n → i < length k.threads → p < length k.counters → lt_z (pos 0) (counter_at k p) ≡ false
       → Tallies n p k → Tallies n q k → Tallies n q (slept k i queued p c)
   sleep-tallies l h t b z own g =
       let here : i < 16 = omega arith in
-      let few : debt (counterAt k p) < 2147483648 = omega (arith, own.tally, count-le (waits k p) n) in
+      let few : debt (counter_at k p) < 2147483648 = omega (arith, own.tally, count-le (waits k p) n) in
       record {
         tally = omega (
           arith,
@@ -113,15 +113,15 @@ finish-tallies k i m d n p =
 
 module _ (k : Kernel) (n q : ℕ) where
   -- a row that waits as it did
-  pub row-tallies : (i : ℕ) (t : Thread) → ((p : ℕ) → queued_at p t ≡ queued_at p (threadAt k i)) → Tallies n q k
-      → Tallies n q (withThread k i t)
-  row-tallies i t e = same-tallies k (withThread k i t) n q (thread-kept k i t (queued_at q) (e q)) refl
+  pub row-tallies : (i : ℕ) (t : Thread) → ((p : ℕ) → queued_at p t ≡ queued_at p (thread_at k i)) → Tallies n q k
+      → Tallies n q (with_thread k i t)
+  row-tallies i t e = same-tallies k (with_thread k i t) n q (thread-kept k i t (queued_at q) (e q)) refl
 
 pub tick-tallies : (k : Kernel) (n q : ℕ) → Tallies n q k → Tallies n q (ticked k n)
 tick-tallies k n q =
-    tick-keeps k n (Tallies n q) (λ i l h. wake-tallies h i timedOut n q l)
-    (λ i h. row-tallies h n q i (countedOff (threadAt h i)) (λ p. refl))
+    tick-keeps k n (Tallies n q) (λ i l h. wake-tallies h i timed_out n q l)
+    (λ i h. row-tallies h n q i (counted_off (thread_at h i)) (λ p. refl))
 
 pub release-all-tallies : (k : Kernel) (p : ℕ) (m : ℤ) (n : ℕ) → n ≤ 16 → TellsAt n k p → (q : ℕ) → Tallies n q k
-    → Tallies n q (releasedAll k p m)
+    → Tallies n q (released_all k p m)
 release-all-tallies k p m n few told q = release-all-keeps k p m n few told (Tallies n q) (λ i l h e. wake-tallies h i m n q l)

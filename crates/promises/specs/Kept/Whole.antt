@@ -5,17 +5,17 @@ use Rattle.std.proofs.Common.{arith, sym, ap, ◌∙◌, subst, inl, inr}
 use Rattle.kernel.specs.declared.records.Thread.{Thread}
 use Rattle.kernel.specs.declared.records.Kernel.{Kernel}
 use Rattle.kernel.specs.Numbers.{nobody}
-use Rattle.kernel.specs.Places.{poolPlace}
-use Rattle.kernel.specs.Tables.{threadAt, counterAt, withCause}
-use Rattle.kernel.specs.Waiters.{isReady}
+use Rattle.kernel.specs.Places.{pool_place}
+use Rattle.kernel.specs.Tables.{thread_at, counter_at, with_cause}
+use Rattle.kernel.specs.Waiters.{is_ready}
 use Rattle.kernel.proofs.Cases.{second-fails}
 use Rattle.kernel.proofs.TablesLaws.{Sized}
 use Rattle.library.specs.declared.sizes.Sizes.{Sizes}
 use Rattle.library.specs.declared.tables.Plant.{Plant}
-use Rattle.library.specs.Causes.{causeOf, caused}
-use Rattle.library.specs.Tables.{mailboxAt, poolAt, withKernel}
+use Rattle.library.specs.Causes.{cause_of, caused}
+use Rattle.library.specs.Tables.{mailbox_at, pool_at, with_kernel}
 use Rattle.library.proofs.CausesLaws.{cause-listed}
-use Rattle.rules.specs.PoolRules.{promisedCount}
+use Rattle.rules.specs.PoolRules.{promised_count}
 use Rattle.promises.specs.Together.Good.{GoodSizes, Good}
 use Rattle.promises.specs.Kept.CounterRule.{counters-tally, tally-counters}
 use Rattle.promises.specs.Kept.ReferenceRule.{references-hold, holds-references}
@@ -23,17 +23,17 @@ use Rattle.promises.specs.Kept.WordRule.{words-said, said-words}
 use Rattle.promises.specs.Kept.RingKept.{MailboxesGood}
 use Rattle.promises.specs.Kept.PoolKept.{PoolsListed, PoolSized, stock, good-listed, listed-good, good_length, length-promises}
 use Rattle.promises.specs.Kept.Rows.{Idle}
-use Rattle.promises.specs.Kept.Chain.{Note, Move, one, Chained, countIn, isSlept, Sound, chain-sound, chain-idle}
+use Rattle.promises.specs.Kept.Chain.{Note, Move, one, Chained, count_in, is_slept, Sound, chain-sound, chain-idle}
 use Rattle.promises.specs.Kept.Moving.{Free, Caller}
-use Rattle.promises.specs.Kept.Owed.{isSignal, isTake, owed-is, chain-owed}
+use Rattle.promises.specs.Kept.Owed.{is_signal, is_take, owed-is, chain-owed}
 
 -- the lists are as long as the tables of a host
 pub record PlantSized (p : Plant) : Type 0 where
   pub kernel : Sized p.kernel
   pub mailboxes : length p.mailboxes ≡ 4
-  pub messages : (m : ℕ) → m < 4 → length (mailboxAt p m).messages ≡ 16
+  pub messages : (m : ℕ) → m < 4 → length (mailbox_at p m).messages ≡ 16
   pub pools : length p.pools ≡ 4
-  pub pool : (q : ℕ) → q < p.sizes.pools → PoolSized (poolAt p q)
+  pub pool : (q : ℕ) → q < p.sizes.pools → PoolSized (pool_at p q)
 
 -- all rules but that of the running thread
 pub record Whole (z : Sizes) (p : Plant) : Type 0 where
@@ -42,12 +42,12 @@ pub record Whole (z : Sizes) (p : Plant) : Type 0 where
   pub kernel : Sound z p.kernel
   pub mailboxes : MailboxesGood p
   pub boxes : length p.mailboxes ≡ 4
-  pub messages : (m : ℕ) → m < 4 → length (mailboxAt p m).messages ≡ 16
+  pub messages : (m : ℕ) → m < 4 → length (mailbox_at p m).messages ≡ 16
   pub pools : PoolsListed p
   pub rows : length p.pools ≡ 4
   -- "its length is the larger of counter and 0, plus" the objects promised
   pub lengths : (q : ℕ) → q < z.pools
-      → (poolAt p q).length ≡ stock (counterAt p.kernel (poolPlace q)) + promisedCount p.kernel z.threads q
+      → (pool_at p q).length ≡ stock (counter_at p.kernel (pool_place q)) + promised_count p.kernel z.threads q
 
 module _ (p : Plant) where
   -- good tables of a host are such
@@ -82,7 +82,7 @@ module _ (p : Plant) where
         mailboxes = w.mailboxes;
         pools = λ q h.
             listed-good (w.pools.listed q h)
-            (length-promises (poolAt p q) (counterAt p.kernel (poolPlace q)) (promisedCount p.kernel p.sizes.threads q)
+            (length-promises (pool_at p q) (counter_at p.kernel (pool_place q)) (promised_count p.kernel p.sizes.threads q)
             (w.lengths q h));
         threads = w.kernel.rows;
         words = said-words p.kernel p.sizes w.sizes w.kernel.rules.words;
@@ -101,7 +101,7 @@ module _ (p : Plant) where
 -- the pools of h are as much longer than those of p as the notes say
 abbrev pub InStep : Sizes → Plant → Plant → List Note → Type 0
 InStep z p h ms = (q : ℕ) → q < z.pools
-    → (poolAt h q).length + countIn (isTake (poolPlace q)) ms ≡ (poolAt p q).length + countIn (isSignal (poolPlace q)) ms
+    → (pool_at h q).length + count_in (is_take (pool_place q)) ms ≡ (pool_at p q).length + count_in (is_signal (pool_place q)) ms
 
 -- what an operation leaves: a chain from the kernel's tables to its own, with these notes, and whole tables
 pub record Done (z : Sizes) (p h : Plant) (ms : List Note) : Type 0 where
@@ -111,15 +111,15 @@ pub record Done (z : Sizes) (p h : Plant) (ms : List Note) : Type 0 where
 module _ (z : Sizes) (p h : Plant) (ms : List Note) (w : Whole z p) (c : Chained z p.kernel h.kernel ms) where
   -- what a pool owes goes with the notes
   pub owed-notes : (q : ℕ) (there : q < z.pools)
-      → stock (counterAt h.kernel (poolPlace q)) + promisedCount h.kernel z.threads q + countIn (isTake (poolPlace q)) ms
-      ≡ stock (counterAt p.kernel (poolPlace q)) + promisedCount p.kernel z.threads q + countIn (isSignal (poolPlace q)) ms
+      → stock (counter_at h.kernel (pool_place q)) + promised_count h.kernel z.threads q + count_in (is_take (pool_place q)) ms
+      ≡ stock (counter_at p.kernel (pool_place q)) + promised_count p.kernel z.threads q + count_in (is_signal (pool_place q)) ms
   owed-notes q there =
       rw (owed-is z w.sizes q there h.kernel, owed-is z w.sizes q there p.kernel)
       (chain-owed z w.sizes q there c w.kernel)
 
   -- whole tables, with mailboxes and pools kept in step
   pub done : h.sizes ≡ p.sizes → MailboxesGood h → length h.mailboxes ≡ 4
-      → ((m : ℕ) → m < 4 → length (mailboxAt h m).messages ≡ 16) → PoolsListed h → length h.pools ≡ 4 → InStep z p h ms
+      → ((m : ℕ) → m < 4 → length (mailbox_at h m).messages ≡ 16) → PoolsListed h → length h.pools ≡ 4 → InStep z p h ms
       → Done z p h ms
   done e m b x o r l =
       record {
@@ -139,38 +139,38 @@ module _ (z : Sizes) (p h : Plant) (ms : List Note) (w : Whole z p) (c : Chained
 
 -- the kernel's tables alone, by notes that give and take no pool anything
 pub kernel-done : (z : Sizes) (p : Plant) (k : Kernel) (ms : List Note) → Whole z p → Chained z p.kernel k ms
-    → ((q : ℕ) → q < z.pools → countIn (isTake (poolPlace q)) ms ≡ countIn (isSignal (poolPlace q)) ms) → Done z p (withKernel p k) ms
+    → ((q : ℕ) → q < z.pools → count_in (is_take (pool_place q)) ms ≡ count_in (is_signal (pool_place q)) ms) → Done z p (with_kernel p k) ms
 kernel-done z p k ms w c e =
-    done z p (withKernel p k) ms w c refl w.mailboxes w.boxes w.messages (record {
+    done z p (with_kernel p k) ms w c refl w.mailboxes w.boxes w.messages (record {
       listed =
           w.pools.listed;
       sized = w.pools.sized;
     }) w.rows
-    (λ q there. ap (λ (x : ℕ). (poolAt p q).length + x) (e q there))
+    (λ q there. ap (λ (x : ℕ). (pool_at p q).length + x) (e q there))
 
 -- another call is at work
 pub caused-done : (z : Sizes) (p : Plant) (kind : ℕ) → Whole z p → Done z p (caused p kind) []
-unfolding countIn
+unfolding count_in
 caused-done z p kind w =
-    kernel-done z p (withCause p.kernel (causeOf kind)) [] w (one (Move.causes (causeOf kind) (cause-listed kind))) (λ q l. refl)
+    kernel-done z p (with_cause p.kernel (cause_of kind)) [] w (one (Move.causes (cause_of kind) (cause-listed kind))) (λ q l. refl)
 
 -- ---- whose step it is
 
 -- an interrupt, or a thread without a call
 abbrev pub Stepper : Sizes → Kernel → ℕ → Type 0
-Stepper z k i = (i ≡ nobody) ⊎ ((i < z.threads) × Idle (threadAt k i))
+Stepper z k i = (i ≡ nobody) ⊎ ((i < z.threads) × Idle (thread_at k i))
 
 -- its call may finish
 pub idle-free : (t : Thread) → Idle t → Free t
-idle-free t a = record { is-ready = a.is-ready; unpromised = rw a.no_call (second-fails (isReady t) refl) }
+idle-free t a = record { is-ready = a.is-ready; unpromised = rw a.no_call (second-fails (is_ready t) refl) }
 
 pub stepper-caller : (z : Sizes) (k : Kernel) (i : ℕ) → Stepper z k i → Caller z k i
 stepper-caller z k i (inl e) = inl e
-stepper-caller z k i (inr a) = inr (a.0, idle-free (threadAt k i) a.1)
+stepper-caller z k i (inr a) = inr (a.0, idle-free (thread_at k i) a.1)
 
 -- and stays so while it does not sleep
 pub stepper-kept : (z : Sizes) (k h : Kernel) (i : ℕ) (ms : List Note) → GoodSizes z → Sound z k → Chained z k h ms
-    → countIn (isSlept i) ms ≡ 0
+    → count_in (is_slept i) ms ≡ 0
     → Stepper z k i → Stepper z h i
 stepper-kept z k h i ms g s c o (inl e) = inl e
 stepper-kept z k h i ms g s c o (inr a) = inr (a.0, chain-idle z g i a.0 c s o a.1)

@@ -5,13 +5,13 @@ use Rattle.std.proofs.Common.{arith, sym, ap, ◌∙◌, eqb-true, lt-ltb}
 use Rattle.kernel.specs.declared.records.Call.{Call}
 use Rattle.kernel.specs.declared.records.Thread.{Thread}
 use Rattle.kernel.specs.declared.records.Kernel.{Kernel}
-use Rattle.kernel.specs.Numbers.{ready, queued, timedOut}
-use Rattle.kernel.specs.Places.{semaphorePlace, poolPlace, queuePlace, writersPlace, readersPlace}
-use Rattle.kernel.specs.Tables.{usedRows, threadAt, withThread}
+use Rattle.kernel.specs.Numbers.{ready, queued, timed_out}
+use Rattle.kernel.specs.Places.{semaphore_place, pool_place, queue_place, writers_place, readers_place}
+use Rattle.kernel.specs.Tables.{used_rows, thread_at, with_thread}
 use Rattle.kernel.specs.Moves.{woken, slept, finished}
-use Rattle.kernel.specs.Ticking.{countedOff, ticked}
-use Rattle.kernel.specs.Waiters.{isReady, queued_at}
-use Rattle.kernel.specs.Words.{word_of, withBit, withoutBit, waitingAt}
+use Rattle.kernel.specs.Ticking.{counted_off, ticked}
+use Rattle.kernel.specs.Waiters.{is_ready, queued_at}
+use Rattle.kernel.specs.Words.{word_of, with_bit, without_bit, waiting_at}
 use Rattle.kernel.proofs.Cases.{split, same_or, contrary, first-fails}
 use Rattle.kernel.proofs.TablesLaws.{Sized, sized-kept, thread-sizes, thread-kept, used_all}
 use Rattle.kernel.proofs.MovesLaws.{
@@ -40,25 +40,25 @@ use Rattle.kernel.proofs.WordsLaws.{
   asleep-elsewhere,
 }
 use Rattle.library.specs.declared.sizes.Sizes.{Sizes}
-use Rattle.rules.specs.PlaceRules.{inUse}
-use Rattle.rules.specs.WordRules.{readyWord, waitingWord}
+use Rattle.rules.specs.PlaceRules.{in_use}
+use Rattle.rules.specs.WordRules.{ready_word, waiting_word}
 use Rattle.promises.specs.Together.Good.{GoodSizes, GoodWords}
 use Rattle.promises.specs.Kept.CounterRule.{semaphore-place, pool-place, queue-place, writers-place, readers-place}
 
 -- the rule stays where nobody's test changes
-same-tells : (n : ℕ) (test : Thread → Bool) (k h : Kernel) (w : ℕ) → ((j : ℕ) → test (threadAt h j) ≡ test (threadAt k j))
+same-tells : (n : ℕ) (test : Thread → Bool) (k h : Kernel) (w : ℕ) → ((j : ℕ) → test (thread_at h j) ≡ test (thread_at k j))
     → Tells n test k w → Tells n test h w
 same-tells n test k h w e g j = rw (e j) (g j)
 
 -- where nobody's but that of i, who then passes
-with-tells : (n : ℕ) (test : Thread → Bool) (k h : Kernel) (w i : ℕ) → i < 16 → i < n → test (threadAt h i) ≡ true
-    → ((j : ℕ) → j ≢ i → threadAt h j ≡ threadAt k j) → Tells n test k w → Tells n test h (withBit w i)
+with-tells : (n : ℕ) (test : Thread → Bool) (k h : Kernel) (w i : ℕ) → i < 16 → i < n → test (thread_at h i) ≡ true
+    → ((j : ℕ) → j ≢ i → thread_at h j ≡ thread_at k j) → Tells n test k w → Tells n test h (with_bit w i)
 with-tells n test k h w i few within passes others g j =
     same_or j i (λ e. rw (e, passes, lt-ltb i n within) (with-same w i few)) (λ d. rw (others j d) (with-other w i j d ∙ g j))
 
 -- .. or does not
-without-tells : (n : ℕ) (test : Thread → Bool) (k h : Kernel) (w i : ℕ) → i < 16 → i < n → test (threadAt h i) ≡ false
-    → ((j : ℕ) → j ≢ i → threadAt h j ≡ threadAt k j) → Tells n test k w → Tells n test h (withoutBit w i)
+without-tells : (n : ℕ) (test : Thread → Bool) (k h : Kernel) (w i : ℕ) → i < 16 → i < n → test (thread_at h i) ≡ false
+    → ((j : ℕ) → j ≢ i → thread_at h j ≡ thread_at k j) → Tells n test k w → Tells n test h (without_bit w i)
 without-tells n test k h w i few within fails others g j =
     same_or j i (λ e. rw (e, fails, lt-ltb i n within) (without-same w i few)) (λ d. rw (others j d) (without_other w i j d ∙ g j))
 
@@ -68,45 +68,45 @@ module _ (k : Kernel) (i : ℕ) (m : ℤ) (n : ℕ) (few : n ≤ 16) (within : i
   low : i < 16
   low = omega arith
 
-  wake-tells : Tells n isReady k k.words.ready → Tells n isReady (woken k i m) (woken k i m).words.ready
+  wake-tells : Tells n is_ready k k.words.ready → Tells n is_ready (woken k i m) (woken k i m).words.ready
   wake-tells g =
       rw (wake-words k i m)
-      (with-tells n isReady k (woken k i m) k.words.ready i low within (rw (wake-row k i m here)) (wake-others k i m) g)
+      (with-tells n is_ready k (woken k i m) k.words.ready i low within (rw (wake-row k i m here)) (wake-others k i m) g)
 
   wake-tells-at : (q : ℕ) → q < length k.words.waiting → TellsAt n k q
-      → Tells n (queued_at q) (woken k i m) (waitingAt (woken k i m).words q)
+      → Tells n (queued_at q) (woken k i m) (waiting_at (woken k i m).words q)
   wake-tells-at q h g =
-      rw (wake-words k i m, ready-waiting k.words i (threadAt k i).state (threadAt k i).place q h)
-      (split (queued_at q (threadAt k i))
-      (λ e. rw e (without-tells n (queued_at q) k (woken k i m) (waitingAt k.words q) i low within (rw (wake-row k i m here)) (wake-others k i m) g))
+      rw (wake-words k i m, ready-waiting k.words i (thread_at k i).state (thread_at k i).place q h)
+      (split (queued_at q (thread_at k i))
+      (λ e. rw e (without-tells n (queued_at q) k (woken k i m) (waiting_at k.words q) i low within (rw (wake-row k i m here)) (wake-others k i m) g))
       (λ e. rw e
-      (same-tells n (queued_at q) k (woken k i m) (waitingAt k.words q)
+      (same-tells n (queued_at q) k (woken k i m) (waiting_at k.words q)
       (λ j. same_or j i (λ s. rw (s, wake-row k i m here, e)) (λ d. ap (queued_at q) (wake-others k i m j d))) g)))
 
 -- ---- a sleep, of a ready thread, in any state but ready
 
 module _ (k : Kernel) (i s p : ℕ) (c : Call) (n : ℕ) (few : n ≤ 16) (within : i < n) (here : i < length k.threads)
-    (is-ready : (threadAt k i).state ≡ ready) where
+    (is-ready : (thread_at k i).state ≡ ready) where
   down-low : i < 16
   down-low = omega arith
 
-  sleep-tells : eqb s ready ≡ false → Tells n isReady k k.words.ready
-      → Tells n isReady (slept k i s p c) (slept k i s p c).words.ready
+  sleep-tells : eqb s ready ≡ false → Tells n is_ready k k.words.ready
+      → Tells n is_ready (slept k i s p c) (slept k i s p c).words.ready
   sleep-tells e g =
       rw (sleep-words k i s p c down-low)
-      (without-tells n isReady k (slept k i s p c) k.words.ready i down-low within (rw (sleep-row k i s p c down-low here) e)
+      (without-tells n is_ready k (slept k i s p c) k.words.ready i down-low within (rw (sleep-row k i s p c down-low here) e)
       (sleep-others k i s p c) g)
 
   sleep-tells-at : (q : ℕ) → q < length k.words.waiting → TellsAt n k q
-      → Tells n (queued_at q) (slept k i s p c) (waitingAt (slept k i s p c).words q)
+      → Tells n (queued_at q) (slept k i s p c) (waiting_at (slept k i s p c).words q)
   sleep-tells-at q h g =
       rw (sleep-words k i s p c down-low, asleep-waiting k.words i s p q h)
       (split (eqb s queued && eqb p q)
       (λ e. rw e
-      (with-tells n (queued_at q) k (slept k i s p c) (waitingAt k.words q) i down-low within
+      (with-tells n (queued_at q) k (slept k i s p c) (waiting_at k.words q) i down-low within
       (rw (sleep-row k i s p c down-low here) e) (sleep-others k i s p c) g))
       (λ e. rw e
-      (same-tells n (queued_at q) k (slept k i s p c) (waitingAt k.words q)
+      (same-tells n (queued_at q) k (slept k i s p c) (waiting_at k.words q)
       (λ j. same_or j i (λ a. rw (a, sleep-row k i s p c down-low here, e, is-ready)) (λ d. ap (queued_at q) (sleep-others k i s p c j d)))
       g)))
 
@@ -114,24 +114,24 @@ module _ (k : Kernel) (i s p : ℕ) (c : Call) (n : ℕ) (few : n ≤ 16) (withi
 
 -- the ready word, and the word of each place in use
 pub record Said (z : Sizes) (k : Kernel) : Type 0 where
-  pub ready : Tells z.threads isReady k k.words.ready
-  pub waiting : (q : ℕ) → q < 36 → inUse z q ≡ true → TellsAt z.threads k q
+  pub ready : Tells z.threads is_ready k k.words.ready
+  pub waiting : (q : ℕ) → q < 36 → in_use z q ≡ true → TellsAt z.threads k q
 
 -- they stay where no word and nobody's wait changes
-pub same-said : (z : Sizes) (k h : Kernel) → h.words ≡ k.words → ((j : ℕ) → (threadAt h j).state ≡ (threadAt k j).state)
-    → ((j : ℕ) → (threadAt h j).place ≡ (threadAt k j).place) → Said z k → Said z h
+pub same-said : (z : Sizes) (k h : Kernel) → h.words ≡ k.words → ((j : ℕ) → (thread_at h j).state ≡ (thread_at k j).state)
+    → ((j : ℕ) → (thread_at h j).place ≡ (thread_at k j).place) → Said z k → Said z h
 same-said z k h e s p g =
     record {
-      ready = rw e (same-tells z.threads isReady k h k.words.ready (λ j. rw (s j)) g.ready);
+      ready = rw e (same-tells z.threads is_ready k h k.words.ready (λ j. rw (s j)) g.ready);
       waiting = λ q l u.
-          rw e (same-tells z.threads (queued_at q) k h (waitingAt k.words q) (λ j. rw (s j, p j)) (g.waiting q l u));
+          rw e (same-tells z.threads (queued_at q) k h (waiting_at k.words q) (λ j. rw (s j, p j)) (g.waiting q l u));
     }
 
 -- one row written, that waits as before
-pub row-said : (z : Sizes) (k : Kernel) (i : ℕ) (t : Thread) → t.state ≡ (threadAt k i).state → t.place ≡ (threadAt k i).place
-    → Said z k → Said z (withThread k i t)
+pub row-said : (z : Sizes) (k : Kernel) (i : ℕ) (t : Thread) → t.state ≡ (thread_at k i).state → t.place ≡ (thread_at k i).place
+    → Said z k → Said z (with_thread k i t)
 row-said z k i t s p =
-    same-said z k (withThread k i t) refl (thread-kept k i t (λ x. x.state) s) (thread-kept k i t (λ x. x.place) p)
+    same-said z k (with_thread k i t) refl (thread-kept k i t (λ x. x.state) s) (thread-kept k i t (λ x. x.place) p)
 
 module _ (z : Sizes) (few : z.threads ≤ 16) where
   pub wake-said : (k : Kernel) (i : ℕ) (m : ℤ) → i < z.threads → Sized k → Said z k → Said z (woken k i m)
@@ -142,7 +142,7 @@ module _ (z : Sizes) (few : z.threads ≤ 16) where
         waiting = λ q h u. wake-tells-at k i m z.threads few l here q (omega (arith, s.waiting)) (g.waiting q h u);
       }
 
-  pub sleep-said : (k : Kernel) (i s p : ℕ) (c : Call) → i < z.threads → (threadAt k i).state ≡ ready → eqb s ready ≡ false → Sized k
+  pub sleep-said : (k : Kernel) (i s p : ℕ) (c : Call) → i < z.threads → (thread_at k i).state ≡ ready → eqb s ready ≡ false → Sized k
       → Said z k → Said z (slept k i s p c)
   sleep-said k i s p c l r e d g =
       let here : i < length k.threads = omega (arith, d.threads) in
@@ -154,10 +154,10 @@ module _ (z : Sizes) (few : z.threads ≤ 16) where
   pub tick-said : (k : Kernel) → Sized k → Said z k → Said z (ticked k z.threads)
   tick-said k s g =
       (tick-keeps k z.threads (λ h. Sized h × Said z h)
-      (λ i l h x. (sized-kept (wake-sizes h i timedOut) x.0, wake-said h i timedOut l x.0 x.1))
+      (λ i l h x. (sized-kept (wake-sizes h i timed_out) x.0, wake-said h i timed_out l x.0 x.1))
       (λ i h x. (
-        sized-kept (thread-sizes h i (countedOff (threadAt h i))) x.0,
-        row-said z h i (countedOff (threadAt h i)) refl refl x.1,
+        sized-kept (thread-sizes h i (counted_off (thread_at h i))) x.0,
+        row-said z h i (counted_off (thread_at h i)) refl refl x.1,
       ))
       (s, g)).1
 
@@ -170,11 +170,11 @@ finish-said z k i m d =
 
 -- no thread waits at one
 abbrev pub Placed : Sizes → Kernel → Type 0
-Placed z k = (i : ℕ) → i < z.threads → (q : ℕ) → inUse z q ≡ false → queued_at q (threadAt k i) ≡ false
+Placed z k = (i : ℕ) → i < z.threads → (q : ℕ) → in_use z q ≡ false → queued_at q (thread_at k i) ≡ false
 
 -- their words, and the filler, are as they were
 pub record Rest (z : Sizes) (k h : Kernel) : Type 0 where
-  pub waiting : (q : ℕ) → inUse z q ≡ false → waitingAt h.words q ≡ waitingAt k.words q
+  pub waiting : (q : ℕ) → in_use z q ≡ false → waiting_at h.words q ≡ waiting_at k.words q
   pub filler : h.words.unused ≡ k.words.unused
 
 pub rest-same : (z : Sizes) (k h : Kernel) → h.words ≡ k.words → Rest z k h
@@ -187,18 +187,18 @@ module _ (z : Sizes) (k : Kernel) (i : ℕ) where
   pub wake-rest : (m : ℤ) → i < z.threads → Placed z k → Rest z k (woken k i m)
   wake-rest m l p =
       record {
-        waiting = λ q u. rw (wake-words k i m) (ready-elsewhere k.words i (threadAt k i).state (threadAt k i).place q (p i l q u));
+        waiting = λ q u. rw (wake-words k i m) (ready-elsewhere k.words i (thread_at k i).state (thread_at k i).place q (p i l q u));
         filler = rw (wake-words k i m);
       }
 
-  pub sleep-rest : (s p : ℕ) (c : Call) → i < 16 → (eqb s queued ≡ true → inUse z p ≡ true) → Rest z k (slept k i s p c)
+  pub sleep-rest : (s p : ℕ) (c : Call) → i < 16 → (eqb s queued ≡ true → in_use z p ≡ true) → Rest z k (slept k i s p c)
   sleep-rest s p c l e =
       record {
         waiting = λ q u. rw (sleep-words k i s p c l) (asleep-elsewhere k.words i s p q (elsewhere q u));
         filler = rw (sleep-words k i s p c l);
       }
     where
-      elsewhere : (q : ℕ) → inUse z q ≡ false → eqb s queued && eqb p q ≡ false
+      elsewhere : (q : ℕ) → in_use z q ≡ false → eqb s queued && eqb p q ≡ false
       elsewhere q u =
           split (eqb s queued)
           (λ a. split (eqb p q) (λ b. contrary (rw (eqb-true p q b) at (e a)) u) (λ b. rw (a, b)))
@@ -213,61 +213,61 @@ tick-rest z few k s p =
     (tick-keeps k z.threads (λ h. Sized h × (Placed z h × Rest z k h))
     (λ i l h x.
     let here : i < length h.threads = omega (arith, x.0.threads) in (
-      sized-kept (wake-sizes h i timedOut) x.0,
-      (wake-placed z h i timedOut here x.1.0, rest-trans x.1.1 (wake-rest z h i timedOut l x.1.0)),
+      sized-kept (wake-sizes h i timed_out) x.0,
+      (wake-placed z h i timed_out here x.1.0, rest-trans x.1.1 (wake-rest z h i timed_out l x.1.0)),
     ))
     (λ i h x. (
-      sized-kept (thread-sizes h i (countedOff (threadAt h i))) x.0,
-      (λ j l q u. thread-kept h i (countedOff (threadAt h i)) (queued_at q) refl j ∙ x.1.0 j l q u, rest-trans x.1.1 (rest-same z h (withThread h i (countedOff (threadAt h i))) refl)),
+      sized-kept (thread-sizes h i (counted_off (thread_at h i))) x.0,
+      (λ j l q u. thread-kept h i (counted_off (thread_at h i)) (queued_at q) refl j ∙ x.1.0 j l q u, rest-trans x.1.1 (rest-same z h (with_thread h i (counted_off (thread_at h i))) refl)),
     ))
     (s, (p, rest-same z k k refl))).1.1
 
 -- ---- the rule in its two forms: the walk's word, and its digits
 
 module _ (k : Kernel) (z : Sizes) (s : GoodSizes z) where
-  rows-used : usedRows z.threads ≡ z.threads
+  rows-used : used_rows z.threads ≡ z.threads
   rows-used = used_all z.threads s.threads.1
 
   -- a word that is the walk's tells what the walk does, and the other way round
-  pub walk-tells : (test : Thread → Bool) (w : ℕ) → w ≡ word_of (λ i. test (threadAt k i)) (usedRows z.threads) → Tells z.threads test k w
-  walk-tells test w e j = rw (e, rows-used) (word-digit (λ i. test (threadAt k i)) z.threads j)
+  pub walk-tells : (test : Thread → Bool) (w : ℕ) → w ≡ word_of (λ i. test (thread_at k i)) (used_rows z.threads) → Tells z.threads test k w
+  walk-tells test w e j = rw (e, rows-used) (word-digit (λ i. test (thread_at k i)) z.threads j)
 
-  pub tells-walk : (test : Thread → Bool) (w : ℕ) → Tells z.threads test k w → w ≡ word_of (λ i. test (threadAt k i)) (usedRows z.threads)
+  pub tells-walk : (test : Thread → Bool) (w : ℕ) → Tells z.threads test k w → w ≡ word_of (λ i. test (thread_at k i)) (used_rows z.threads)
   tells-walk test w g =
       rw rows-used
-      (same_digits w (word_of (λ i. test (threadAt k i)) z.threads)
-      (λ j. g j ∙ sym (word-digit (λ i. test (threadAt k i)) z.threads j)))
+      (same_digits w (word_of (λ i. test (thread_at k i)) z.threads)
+      (λ j. g j ∙ sym (word-digit (λ i. test (thread_at k i)) z.threads j)))
 
   pub words-said : GoodWords k z → Said z k
-  unfolding readyWord waitingWord
+  unfolding ready_word waiting_word
   words-said g =
       record {
-        ready = walk-tells isReady k.words.ready g.ready;
-        waiting = λ q h u. walk-tells (queued_at q) (waitingAt k.words q) (g.waiting q h u);
+        ready = walk-tells is_ready k.words.ready g.ready;
+        waiting = λ q h u. walk-tells (queued_at q) (waiting_at k.words q) (g.waiting q h u);
       }
 
   pub said-words : Said z k → GoodWords k z
-  unfolding readyWord waitingWord
+  unfolding ready_word waiting_word
   said-words g =
       record {
-        ready = tells-walk isReady k.words.ready g.ready;
-        waiting = λ q h u. tells-walk (queued_at q) (waitingAt k.words q) (g.waiting q h u);
+        ready = tells-walk is_ready k.words.ready g.ready;
+        waiting = λ q h u. tells-walk (queued_at q) (waiting_at k.words q) (g.waiting q h u);
       }
 
 -- ---- the word of an object's place tells who waits there
 
 module _ (k : Kernel) (z : Sizes) (g : GoodSizes z) (s : Said z k) (o : ℕ) where
-  pub semaphore-told : o < z.semaphores → TellsAt z.threads k (semaphorePlace o)
+  pub semaphore-told : o < z.semaphores → TellsAt z.threads k (semaphore_place o)
   semaphore-told l = let x = semaphore-place k z g o l in s.waiting o (omega (arith, x.0)) x.1
 
-  pub pool-told : o < z.pools → TellsAt z.threads k (poolPlace o)
-  pool-told l = let x = pool-place k z g o l (poolPlace o) refl in s.waiting (poolPlace o) (omega (arith, x.1.0)) x.1.1
+  pub pool-told : o < z.pools → TellsAt z.threads k (pool_place o)
+  pool-told l = let x = pool-place k z g o l (pool_place o) refl in s.waiting (pool_place o) (omega (arith, x.1.0)) x.1.1
 
-  pub queue-told : o < z.queues → TellsAt z.threads k (queuePlace o)
-  queue-told l = let x = queue-place k z g o l (queuePlace o) refl in s.waiting (queuePlace o) (omega (arith, x.1.0)) x.1.1
+  pub queue-told : o < z.queues → TellsAt z.threads k (queue_place o)
+  queue-told l = let x = queue-place k z g o l (queue_place o) refl in s.waiting (queue_place o) (omega (arith, x.1.0)) x.1.1
 
-  pub writers-told : o < z.mailboxes → TellsAt z.threads k (writersPlace o)
-  writers-told l = let x = writers-place k z g o l (writersPlace o) refl in s.waiting (writersPlace o) (omega (arith, x.1.0)) x.1.1
+  pub writers-told : o < z.mailboxes → TellsAt z.threads k (writers_place o)
+  writers-told l = let x = writers-place k z g o l (writers_place o) refl in s.waiting (writers_place o) (omega (arith, x.1.0)) x.1.1
 
-  pub readers-told : o < z.mailboxes → TellsAt z.threads k (readersPlace o)
-  readers-told l = let x = readers-place k z g o l (readersPlace o) refl in s.waiting (readersPlace o) (omega (arith, x.1.0)) x.1.1
+  pub readers-told : o < z.mailboxes → TellsAt z.threads k (readers_place o)
+  readers-told l = let x = readers-place k z g o l (readers_place o) refl in s.waiting (readers_place o) (omega (arith, x.1.0)) x.1.1

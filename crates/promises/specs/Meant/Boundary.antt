@@ -22,28 +22,28 @@ use Rattle.trace.specs.declared.decoding.Found.{Found}
 use Rattle.trace.specs.declared.decoding.Found.TheVariants as found
 use Rattle.trace.specs.declared.writer.Written.{Written}
 use Rattle.trace.specs.declared.writer.Written.TheVariants as written
-use Rattle.trace.specs.Decoding.{foundCode, nextRead}
-use Rattle.trace.specs.Writer.{writtenCode, sizesAnswer, sizesWritten, stepAnswer, stepWritten}
+use Rattle.trace.specs.Decoding.{found_code, next_read}
+use Rattle.trace.specs.Writer.{written_code, sizes_answer, sizes_written, step_answer, step_written}
 use Rattle.pipes.specs.declared.table.Pipes.{Pipes}
 use Rattle.pipes.specs.declared.opening.Opened.{Opened}
 use Rattle.pipes.specs.declared.transfer.Moved.{Moved}
-use Rattle.pipes.specs.Opening.{pipesFresh, pipeReset, pipeResumed}
-use Rattle.pipes.specs.Transfer.{writeAnswer, bufferWritten, readAnswer, targetRead}
+use Rattle.pipes.specs.Opening.{pipes_fresh, pipe_reset, pipe_resumed}
+use Rattle.pipes.specs.Transfer.{write_answer, buffer_written, read_answer, target_read}
 use Rattle.host.specs.declared.request.Request.{Request}
 use Rattle.host.specs.declared.request.StepResult.{StepResult}
 use Rattle.host.specs.declared.reads.ReadResult.{ReadResult}
 use Rattle.host.specs.Request.{step_of, result_of}
-use Rattle.host.specs.Setup.{madeFor, prepared, tablesSet, clockSet}
-use Rattle.host.specs.Reads.{requestIn, foundNumber, readAt}
-use Rattle.host.specs.Times.{addedTime, differedTime, inRangeNumber, ticksCode, ticksIn, unitsCode, unitsOf}
-use Rattle.host.specs.Writes.{placeWritten}
-use Rattle.promises.specs.Paper.Answers.{Said, foundSaid}
+use Rattle.host.specs.Setup.{made_for, prepared, tables_set, clock_set}
+use Rattle.host.specs.Reads.{request_in, found_number, read_at}
+use Rattle.host.specs.Times.{added_time, differed_time, in_range_number, ticks_code, ticks_in, units_code, units_of}
+use Rattle.host.specs.Writes.{place_written}
+use Rattle.promises.specs.Paper.Answers.{Said, found_said}
 use Rattle.promises.specs.Paper.Boundary.{asked, StepCall, FreshCall, StepGiven, ReadCall, PlaceKept, SizesCall, RecordCall, AddCall, DifferenceCall, RangeCall, TicksCall, UnitsCall}
 use Rattle.promises.specs.Paper.Boundary.{PipeFreshCall, PipeResetCall, PipeResumeCall, PipeWriteCall, PipeReadCall}
 use Rattle.promises.specs.Paper.Pipes.{HostPipes}
 use Rattle.promises.specs.Meant.Step.{demand-two}
 use Rattle.promises.specs.Paper.Host.{Host}
-use Rattle.promises.specs.Paper.Writer.{writtenSaid}
+use Rattle.promises.specs.Paper.Writer.{written_said}
 use Rattle.promises.specs.Meant.Only.{step-only}
 use Rattle.promises.specs.Meant.Time.{
   sum_is,
@@ -94,13 +94,13 @@ step-call-one {t} {c} {q} {o = o} {p = p} a b =
 
 -- ---- nil_fresh
 
-pub fresh-call-is : (z : Sizes) (f : ℕ) (t : Tables) (c : Clock) → FreshCall z f t c (prepared z f).code (tablesSet z f t) (clockSet z f c)
+pub fresh-call-is : (z : Sizes) (f : ℕ) (t : Tables) (c : Clock) → FreshCall z f t c (prepared z f).code (tables_set z f t) (clock_set z f c)
 fresh-call-is z f t c =
-    split (eqb (madeFor z f).code 0)
+    split (eqb (made_for z f).code 0)
     (λ e. rw e
-    (let ok : (madeFor z f).code ≡ 0 = eqb-true (madeFor z f).code 0 e in
+    (let ok : (made_for z f).code ≡ 0 = eqb-true (made_for z f).code 0 e in
     FreshCall.set-up (made z (Given f)) (made-is z (Given f)) ok ok refl refl))
-    (λ e. rw e (FreshCall.refused (made z (Given f)) (made-is z (Given f)) (eqb-false (madeFor z f).code 0 e) refl refl refl))
+    (λ e. rw e (FreshCall.refused (made z (Given f)) (made-is z (Given f)) (eqb-false (made_for z f).code 0 e) refl refl refl))
 
 pub fresh-call-one : {z : Sizes} {f : ℕ} {t : Tables} {c : Clock} {m n : ℕ} {u v : Tables} {d e : Clock}
     → FreshCall z f t c m u d → FreshCall z f t c n v e → (m ≡ n) × ((u ≡ v) × (d ≡ e))
@@ -113,35 +113,35 @@ fresh-call-one (FreshCall.set-up m a b c d e) (FreshCall.set-up n f g h i j) =
 
 -- ---- nil_read
 
-step_given : (f : Found) → StepGiven (foundSaid f) (requestIn f)
+step_given : (f : Found) → StepGiven (found_said f) (request_in f)
 step_given found.Opened = StepGiven.none (λ e. omega arith) refl
 step_given (found.Stepped x) = StepGiven.step refl refl refl
 step_given found.Ended = StepGiven.none (λ e. omega arith) refl
 step_given (found.Refused c n) = StepGiven.none (λ e. omega arith) refl
 
-found_number : (f : Found) → foundNumber f ≡ (foundSaid f).gives
+found_number : (f : Found) → found_number f ≡ (found_said f).gives
 found_number found.Opened = refl
 found_number (found.Stepped x) = refl
 found_number found.Ended = refl
 found_number (found.Refused c n) = refl
 
-found-code : (f : Found) → foundCode f ≡ (foundSaid f).code
+found-code : (f : Found) → found_code f ≡ (found_said f).code
 found-code found.Opened = refl
 found-code (found.Stepped x) = refl
 found-code found.Ended = refl
 found-code (found.Refused c n) = refl
 
-pub read-call-is : (s : List ℕ) (at : ℕ) → ReadCall s at (readAt s at)
+pub read-call-is : (s : List ℕ) (at : ℕ) → ReadCall s at (read_at s at)
 read-call-is s at =
     record {
-      done = nextRead s at;
+      done = next_read s at;
       is_read = read_is s at;
       next = refl;
       number = number_is at;
-      step = step_given (nextRead s at).found;
+      step = step_given (next_read s at).found;
       sizes = refl;
-      found = found_number (nextRead s at).found;
-      code = found-code (nextRead s at).found;
+      found = found_number (next_read s at).found;
+      code = found-code (next_read s at).found;
     }
 
 same-request : (p q : Request) → p.kind ≡ q.kind → p.caller ≡ q.caller → p.object ≡ q.object → p.unused ≡ q.unused → p.a ≡ q.a
@@ -164,8 +164,8 @@ given-one x p q (StepGiven.none a b) (StepGiven.none d e) = b ∙ sym e
 pub read-call-one : {s : List ℕ} {at : ℕ} {x y : ReadResult} → ReadCall s at x → ReadCall s at y → x ≡ y
 read-call-one {s} {at} {x} {y} a b =
     let same : a.done ≡ b.done = read_one a.is_read b.is_read in
-    let given : StepGiven (foundSaid b.done.found) x.step = rw same at a.step in
-    let step : x.step ≡ y.step = given-one (foundSaid b.done.found) x.step y.step given b.step in
+    let given : StepGiven (found_said b.done.found) x.step = rw same at a.step in
+    let step : x.step ≡ y.step = given-one (found_said b.done.found) x.step y.step given b.step in
     let parts : ◌≡◌ {A = ReadResult}
     (record { next = x.next; number = x.number; step = x.step; sizes = x.sizes; found = x.found; code = x.code })
     (record { next = y.next; number = y.number; step = y.step; sizes = y.sizes; found = y.found; code = y.code }) =
@@ -174,11 +174,11 @@ read-call-one {s} {at} {x} {y} a b =
 
 -- ---- nil_write_sizes, nil_write_step
 
-written-coded : (w : Written) → writtenCode w ≡ (writtenSaid w).code
+written-coded : (w : Written) → written_code w ≡ (written_said w).code
 written-coded (written.Upto n) = refl
 written-coded (written.Refused c) = refl
 
-place_kept : (w : Written) (place : ℕ) → PlaceKept (writtenSaid w) place (placeWritten w place)
+place_kept : (w : Written) (place : ℕ) → PlaceKept (written_said w) place (place_written w place)
 place_kept (written.Upto n) place = PlaceKept.moves refl refl
 place_kept (written.Refused c) place = PlaceKept.stays (λ e. omega arith) refl
 
@@ -189,59 +189,59 @@ kept-one x place m n (PlaceKept.stays a b) (PlaceKept.moves c d) = absurd (a c)
 kept-one x place m n (PlaceKept.stays a b) (PlaceKept.stays c d) = b ∙ sym d
 
 pub sizes-call-is : (z : Sizes) (l : List ℕ) (place : ℕ)
-    → SizesCall z l place (writtenCode (sizesAnswer z l)) (sizesWritten z l) (placeWritten (sizesAnswer z l) place)
+    → SizesCall z l place (written_code (sizes_answer z l)) (sizes_written z l) (place_written (sizes_answer z l) place)
 sizes-call-is z l place =
     record {
-      done = sizesAnswer z l;
+      done = sizes_answer z l;
       is-write = sizes-write-is z l;
-      coded = written-coded (sizesAnswer z l);
-      placed = place_kept (sizesAnswer z l) place;
+      coded = written-coded (sizes_answer z l);
+      placed = place_kept (sizes_answer z l) place;
     }
 
 pub sizes-call-one : {z : Sizes} {l : List ℕ} {place c d : ℕ} {k j : List ℕ} {m n : ℕ} → SizesCall z l place c k m → SizesCall z l place d j n
     → (c ≡ d) × ((k ≡ j) × (m ≡ n))
 sizes-call-one {place = place} {m = m} {n = n} a b =
     let same = sizes-write-one a.is-write b.is-write in
-    let placed : PlaceKept (writtenSaid b.done) place m = rw same.0 at a.placed in (
-      a.coded ∙ ap (λ (w : Written). (writtenSaid w).code) same.0 ∙ sym b.coded,
-      (same.1, kept-one (writtenSaid b.done) place m n placed b.placed),
+    let placed : PlaceKept (written_said b.done) place m = rw same.0 at a.placed in (
+      a.coded ∙ ap (λ (w : Written). (written_said w).code) same.0 ∙ sym b.coded,
+      (same.1, kept-one (written_said b.done) place m n placed b.placed),
     )
 
 pub record-call-is : (q : Request) (at : ℕ) (l : List ℕ) (place : ℕ)
-    → RecordCall q at l place (writtenCode (stepAnswer at l)) (stepWritten (step_of q) at l) (placeWritten (stepAnswer at l) place)
+    → RecordCall q at l place (written_code (step_answer at l)) (step_written (step_of q) at l) (place_written (step_answer at l) place)
 record-call-is q at l place =
     record {
-      done = stepAnswer at l;
+      done = step_answer at l;
       is-write = step-write-is (asked q) at l;
-      coded = written-coded (stepAnswer at l);
-      placed = place_kept (stepAnswer at l) place;
+      coded = written-coded (step_answer at l);
+      placed = place_kept (step_answer at l) place;
     }
 
 pub record-call-one : {q : Request} {at : ℕ} {l : List ℕ} {place c d : ℕ} {k j : List ℕ} {m n : ℕ}
     → RecordCall q at l place c k m → RecordCall q at l place d j n → (c ≡ d) × ((k ≡ j) × (m ≡ n))
 record-call-one {place = place} {m = m} {n = n} a b =
     let same = step-write-one a.is-write b.is-write in
-    let placed : PlaceKept (writtenSaid b.done) place m = rw same.0 at a.placed in (
-      a.coded ∙ ap (λ (w : Written). (writtenSaid w).code) same.0 ∙ sym b.coded,
-      (same.1, kept-one (writtenSaid b.done) place m n placed b.placed),
+    let placed : PlaceKept (written_said b.done) place m = rw same.0 at a.placed in (
+      a.coded ∙ ap (λ (w : Written). (written_said w).code) same.0 ∙ sym b.coded,
+      (same.1, kept-one (written_said b.done) place m n placed b.placed),
     )
 
 -- ---- time for a host
 
-pub add-call-is : (time interval : ℕ) → time < 4294967296 → interval < 4294967296 → AddCall time interval (addedTime time interval)
+pub add-call-is : (time interval : ℕ) → time < 4294967296 → interval < 4294967296 → AddCall time interval (added_time time interval)
 add-call-is time interval h g = sum_is (record { 0 = time }) (record { 0 = interval }) h g
 
 pub add-call-one : {time interval r q : ℕ} → AddCall time interval r → AddCall time interval q → r ≡ q
 add-call-one a b = ap (λ (x : SystemTime). x.0) (sum_one a b)
 
-pub difference-call-is : (start end : ℕ) → start < 4294967296 → end < 4294967296 → DifferenceCall start end (differedTime start end)
+pub difference-call-is : (start end : ℕ) → start < 4294967296 → end < 4294967296 → DifferenceCall start end (differed_time start end)
 difference-call-is start end h g = difference-is (record { 0 = start }) (record { 0 = end }) h g
 
 pub difference-call-one : {start end r q : ℕ} → DifferenceCall start end r → DifferenceCall start end q → r ≡ q
 difference-call-one a b = ap (λ (x : Interval). x.0) (difference-one a b)
 
 pub range-call-is : (time start end : ℕ) → time < 4294967296 → start < 4294967296 → end < 4294967296
-    → RangeCall time start end (inRangeNumber time start end)
+    → RangeCall time start end (in_range_number time start end)
 range-call-is time start end h g i =
     let is = range-is (record { 0 = time }) (record { 0 = start }) (record { 0 = end }) h g i in
     split (in_range (record { 0 = time }) (record { 0 = start }) (record { 0 = end }))
@@ -254,7 +254,7 @@ range-call-one (RangeCall.inside a) (RangeCall.outside b) = contrary refl (range
 range-call-one (RangeCall.outside a) (RangeCall.inside b) = contrary refl (range-one b a)
 range-call-one (RangeCall.outside a) (RangeCall.outside b) = refl
 
-pub ticks-call-is : (u : Unit) (x frequency : ℕ) → TicksCall u x frequency (ticksCode u x frequency) (ticksIn u x frequency)
+pub ticks-call-is : (u : Unit) (x frequency : ℕ) → TicksCall u x frequency (ticks_code u x frequency) (ticks_in u x frequency)
 ticks-call-is u x frequency = ticks-is u x (Given frequency)
 
 pub ticks-call-one : {u : Unit} {x frequency c d m n : ℕ} → TicksCall u x frequency c m → TicksCall u x frequency d n → (c ≡ d) × (m ≡ n)
@@ -263,7 +263,7 @@ ticks-call-one a b =
     (ap (λ (r : Ticks). r.code) same, ap (λ (r : Ticks). r.interval.0) same)
 
 pub units-call-is : (u : Unit) (ticks frequency : ℕ) → ticks < 4294967296
-    → UnitsCall u ticks frequency (unitsCode u ticks frequency) (unitsOf u ticks frequency)
+    → UnitsCall u ticks frequency (units_code u ticks frequency) (units_of u ticks frequency)
 units-call-is u ticks frequency h = units-is u (record { 0 = ticks }) (Given frequency) h
 
 pub units-call-one : {u : Unit} {ticks frequency c d m n : ℕ} → UnitsCall u ticks frequency c m → UnitsCall u ticks frequency d n
@@ -282,27 +282,27 @@ moved-parts : {c d : ℕ} {u v : Pipes} {y z : ℤ}
     → ◌≡◌ {A = Moved} (record { pipes = u; code = c; moved = y }) (record { pipes = v; code = d; moved = z }) → (c ≡ d) × ((u ≡ v) × (y ≡ z))
 moved-parts e = (ap (λ (m : Moved). m.code) e, (ap (λ (m : Moved). m.pipes) e, ap (λ (m : Moved). m.moved) e))
 
-pub pipe-fresh-call-is : (t : Pipes) (number : ℕ) → PipeFreshCall t number (pipesFresh t number).code (pipesFresh t number).pipes
+pub pipe-fresh-call-is : (t : Pipes) (number : ℕ) → PipeFreshCall t number (pipes_fresh t number).code (pipes_fresh t number).pipes
 pipe-fresh-call-is t number = pipes-fresh-is t number
 
 pub pipe-fresh-call-one : {t : Pipes} {number c d : ℕ} {u v : Pipes} → PipeFreshCall t number c u → PipeFreshCall t number d v → (c ≡ d) × (u ≡ v)
 pipe-fresh-call-one a b = opened-parts (pipes-fresh-one a b)
 
 module _ (t : Pipes) (h : HostPipes t) (i : ℕ) where
-  pub pipe-reset-call-is : (n : ℕ) → PipeResetCall t i n (pipeReset t i n).code (pipeReset t i n).pipes
+  pub pipe-reset-call-is : (n : ℕ) → PipeResetCall t i n (pipe_reset t i n).code (pipe_reset t i n).pipes
   pipe-reset-call-is n = pipe-reset-is t h i n
 
-  pub pipe-resume-call-is : (n : ℕ) → PipeResumeCall t i n (pipeResumed t i n).code (pipeResumed t i n).pipes
+  pub pipe-resume-call-is : (n : ℕ) → PipeResumeCall t i n (pipe_resumed t i n).code (pipe_resumed t i n).pipes
   pipe-resume-call-is n = pipe-resume-is t h i n
 
   pub pipe-write-call-is : (b l : List ℕ)
-      → PipeWriteCall t i b l (writeAnswer t i (length b) (length l)).code (writeAnswer t i (length b) (length l)).pipes (bufferWritten t i b l)
-      (writeAnswer t i (length b) (length l)).moved
+      → PipeWriteCall t i b l (write_answer t i (length b) (length l)).code (write_answer t i (length b) (length l)).pipes (buffer_written t i b l)
+      (write_answer t i (length b) (length l)).moved
   pipe-write-call-is b l = pipe-write-is t h i b l
 
   pub pipe-read-call-is : (b g : List ℕ)
-      → PipeReadCall t i b g (readAnswer t i (length b) (length g)).code (readAnswer t i (length b) (length g)).pipes (targetRead t i b g)
-      (readAnswer t i (length b) (length g)).moved
+      → PipeReadCall t i b g (read_answer t i (length b) (length g)).code (read_answer t i (length b) (length g)).pipes (target_read t i b g)
+      (read_answer t i (length b) (length g)).moved
   pipe-read-call-is b g = pipe-read-is t h i b g
 
 module _ {t : Pipes} {i c d : ℕ} {u v : Pipes} where

@@ -11,12 +11,12 @@ use Rattle.kernel.proofs.Cases.{split, same_or, in-or-out}
 use Rattle.library.specs.declared.sizes.Sizes.{Sizes}
 use Rattle.library.specs.declared.tables.Plant.{Plant}
 use Rattle.library.specs.declared.tables.Tables.{Tables}
-use Rattle.library.specs.Sizes.{sizesFit}
+use Rattle.library.specs.Sizes.{sizes_fit}
 use Rattle.library.specs.Tables.{opened}
 use Rattle.rules.specs.declared.finding.Broken.{Broken}
-use Rattle.rules.specs.Finding.{badAt, broken, or_else}
-use Rattle.rules.proofs.FindingLaws.{foundTo, found_all}
-use Rattle.host.specs.Broken.{brokenNumber}
+use Rattle.rules.specs.Finding.{bad_at, broken, or_else}
+use Rattle.rules.proofs.FindingLaws.{found_to, found_all}
+use Rattle.host.specs.Broken.{broken_number}
 use Rattle.host.specs.Layout.{layout}
 use Rattle.host.proofs.BrokenLaws.{number-none}
 use Rattle.promises.specs.Paper.World.{found}
@@ -85,15 +85,15 @@ module _ (t : Tables) (c : Clock) where
   ruled (BreaksRule.cause a b d) = (omega arith, omega arith)
 
   sizes-kept : (m : ℕ) → 1 ≤ m → Kept m → GoodSizes z
-  sizes-kept m h kept = split (sizesFit z) (places.sizes-good z) (λ e. absurd (kept 1 0 h (BreaksRule.sizes (out-of-limits z e))))
+  sizes-kept m h kept = split (sizes_fit z) (places.sizes-good z) (λ e. absurd (kept 1 0 h (BreaksRule.sizes (out-of-limits z e))))
 
   module _ (rows : length t.kernel.threads ≡ 16) where
-    all_found : FoundTo 15 (foundTo p c 15)
-    unfolding foundTo
+    all_found : FoundTo 15 (found_to p c 15)
+    unfolding found_to
     all_found =
-        let by : ℕ → Broken = foundTo p c in
+        let by : ℕ → Broken = found_to p c in
         let after : (m : ℕ) → FoundTo m (by m) → (Kept m → RuleFound t c (suc m)) → FoundTo (suc m) (by (suc m)) =
-        λ m. found-next m (by m) (badAt p c (suc m)) in
+        λ m. found-next m (by m) (bad_at p c (suc m)) in
         let asked : (m : ℕ) → 1 ≤ m → FoundTo m (by m) → (GoodSizes z → RuleFound t c (suc m)) → FoundTo (suc m) (by (suc m)) =
         λ m h x rule. after m x (λ kept. rule (sizes-kept m h kept)) in
         let f1 = after 0 (FoundTo.nothing refl refl (λ r j h b. absurd (omega (arith, (ruled b).0)))) (λ kept. sizes-rule t c) in
@@ -112,15 +112,15 @@ module _ (t : Tables) (c : Clock) where
         let f14 = asked 13 (omega arith) f13 (waiting-rule t c) in
         asked 14 (omega arith) f14 (cause-rule t c)
 
-    first_found : FoundTo 15 (broken p c) → BrokenCall t c (brokenNumber t c)
+    first_found : FoundTo 15 (broken p c) → BrokenCall t c (broken_number t c)
     first_found (FoundTo.nothing e f kept) = rw (e, f) (BrokenFirst.none (λ rule row b. kept rule row (ruled b).1 b))
     first_found (FoundTo.one d l f) =
-        let rule : brokenNumber t c / 256 ≡ (broken p c).rule = omega arith in
-        let row : brokenNumber t c % 256 ≡ (broken p c).row = omega arith in
+        let rule : broken_number t c / 256 ≡ (broken p c).rule = omega arith in
+        let row : broken_number t c % 256 ≡ (broken p c).row = omega arith in
         rw (rule, row) f
 
 -- what nil_broken gives is the first rule that is broken, and its first row
-pub broken-call-is : (t : Tables) (c : Clock) → HostTables t → BrokenCall t c (brokenNumber t c)
+pub broken-call-is : (t : Tables) (c : Clock) → HostTables t → BrokenCall t c (broken_number t c)
 broken-call-is t c host = first_found t c host.threads (subst (FoundTo t c 15) (found_all (opened t) c) (all_found t c host.threads))
 
 -- ---- no choice
@@ -172,9 +172,9 @@ module _ (t : Tables) (c : Clock) where
   pub none-together : HostTables t → BrokenFirst t c 0 0 ↔ HangTogether (found t) t.kernel.words c
   none-together host = (
     λ f.
-        let none : brokenNumber t c ≡ 0 = broken-call-one {n = brokenNumber t c} {m = 0} (broken-call-is t c host) f in
+        let none : broken_number t c ≡ 0 = broken-call-one {n = broken_number t c} {m = 0} (broken-call-is t c host) f in
         rules.rules-together t c
-        (test-hangs (opened t) c (sym (number-none t c host.threads) ∙ eq-eqb (brokenNumber t c) 0 none)),
+        (test-hangs (opened t) c (sym (number-none t c host.threads) ∙ eq-eqb (broken_number t c) 0 none)),
     λ h. BrokenFirst.none (λ rule row b. together-keeps h b),
   )
 

@@ -4,7 +4,7 @@ use Rattle.std.proofs.Common.{◌∙◌, inl, inr, eqb-true}
 use Rattle.kernel.specs.declared.clock.Clock.{Clock}
 use Rattle.kernel.specs.declared.records.Kernel.{Kernel}
 use Rattle.kernel.specs.Numbers.{nobody}
-use Rattle.kernel.specs.Waiters.{firstReady}
+use Rattle.kernel.specs.Waiters.{first_ready}
 use Rattle.library.specs.declared.calls.Step.{Step}
 use Rattle.library.specs.declared.tables.Plant.{Plant}
 use Rattle.promises.specs.Together.Tests.{either-means}
@@ -34,11 +34,11 @@ module _ (p : Plant) (c : Clock) (s : Step) (a : Accepted p c s) where
   -- 3: the caller is an interrupt, or the first ready thread
   pub caller_runs : (i ≡ nobody) ⊎ FirstReady k n i
   caller_runs =
-      elim (either-means (eqb i nobody) (eqb i (firstReady k)) a.caller) [
+      elim (either-means (eqb i nobody) (eqb i (first_ready k)) a.caller) [
         | inl b ↦ inl (eqb-true i nobody b)
-        | inr b ↦ of-running (eqb-true i (firstReady k) b) (running-first p whole.good)
+        | inr b ↦ of-running (eqb-true i (first_ready k) b) (running-first p whole.good)
       ]
     where
-      of-running : i ≡ firstReady k → FirstReady k n (firstReady k) ⊎ NobodyReady k n (firstReady k) → (i ≡ nobody) ⊎ FirstReady k n i
+      of-running : i ≡ first_ready k → FirstReady k n (first_ready k) ⊎ NobodyReady k n (first_ready k) → (i ≡ nobody) ⊎ FirstReady k n i
       of-running e (inl f) = inr (rw e f)
       of-running e (inr f) = inl (e ∙ f.nobody)

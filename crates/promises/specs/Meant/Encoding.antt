@@ -8,10 +8,10 @@ use Rattle.library.specs.declared.sizes.Sizes.{Sizes}
 use Rattle.trace.specs.declared.decoding.Read.{Read}
 use Rattle.promises.specs.Paper.Together.{SizesFit}
 use Rattle.promises.specs.Paper.Fresh.{nothing}
-use Rattle.promises.specs.Paper.Answers.{foundSaid}
-use Rattle.promises.specs.Paper.Reader.{byte, two, four, sizesIn, HeadBroken, RecordBroken, Gives, HeadRead, LaterRead, ReadOf}
+use Rattle.promises.specs.Paper.Answers.{found_said}
+use Rattle.promises.specs.Paper.Reader.{byte, two, four, sizes_in, HeadBroken, RecordBroken, Gives, HeadRead, LaterRead, ReadOf}
 use Rattle.promises.specs.Paper.Writer.{HeadIn, FourIn, RecordIn, AnyStep}
-use Rattle.promises.specs.Paper.Traces.{sizesHeld}
+use Rattle.promises.specs.Paper.Traces.{sizes_held}
 
 -- ---- steps
 
@@ -52,14 +52,14 @@ module _ (x : Step) (at : ℕ) (l k : List ℕ) (any : AnyStep x) (behind : 0 < 
 -- ---- sizes
 
 -- the sizes that stand in a head are those that it holds
-pub head-held : {z : Sizes} {l k : List ℕ} → HeadIn z l k → sizesIn k ≡ sizesHeld z
+pub head-held : {z : Sizes} {l k : List ℕ} → HeadIn z l k → sizes_in k ≡ sizes_held z
 head-held {z} {l} {k} w = rw (held 0, held 1, held 2, held 3, w.threads, w.semaphores, w.queues, w.references, w.mailboxes, w.pools)
   where
     held : (m : ℕ) → cond (ltb m (byte k 7)) (byte k (9 + m)) 0 ≡ cond (ltb m z.mailboxes) (get_or z.slots m 0) 0
     held m = rw w.mailboxes (split (ltb m z.mailboxes) (λ e. rw e (w.slots m (ltb-true m z.mailboxes e))) (λ e. rw e))
 
 -- a mailbox that is there has its slots
-slot_held : (z : Sizes) (m : ℕ) → m < z.mailboxes → m < 4 → get_or (sizesHeld z).slots m 0 ≡ get_or z.slots m 0
+slot_held : (z : Sizes) (m : ℕ) → m < z.mailboxes → m < 4 → get_or (sizes_held z).slots m 0 ≡ get_or z.slots m 0
 slot_held z zero h g = rw (lt-ltb 0 z.mailboxes h)
 slot_held z (suc zero) h g = rw (lt-ltb 1 z.mailboxes h)
 slot_held z (suc (suc zero)) h g = rw (lt-ltb 2 z.mailboxes h)
@@ -67,7 +67,7 @@ slot_held z (suc (suc (suc zero))) h g = rw (lt-ltb 3 z.mailboxes h)
 slot_held z (suc (suc (suc (suc m)))) h g = absurd (omega arith)
 
 -- so they are in their limits with the sizes that were given
-held-limits : (z : Sizes) → SizesFit z → SizesFit (sizesHeld z)
+held-limits : (z : Sizes) → SizesFit z → SizesFit (sizes_held z)
 held-limits z g =
     record {
       threads = g.threads;
@@ -94,7 +94,7 @@ module _ (z : Sizes) (l k : List ℕ) (limits : SizesFit z) (room : 9 + z.mailbo
 
   -- sizes, written at the beginning, are read as those sizes, with 0 for the mailboxes that are not there, whatever stood there
   pub sizes-read-back : (r : Read) → ReadOf k 0 r
-      → (foundSaid r.found ≡ record { code = 0; gives = 1; values = [] }) × ((r.sizes ≡ sizesHeld z) × (r.next ≡ 9 + z.mailboxes))
+      → (found_said r.found ≡ record { code = 0; gives = 1; values = [] }) × ((r.sizes ≡ sizes_held z) × (r.next ≡ 9 + z.mailboxes))
   sizes-read-back r (ReadOf.head a (HeadRead.refused n f g)) = absurd (head-whole n f.broken)
   sizes-read-back r (ReadOf.head a (HeadRead.opened f g)) =
       (g.found, (g.sized ∙ head-held written, g.place ∙ ap (λ (m : ℕ). 9 + m) written.mailboxes))

@@ -5,7 +5,7 @@ use Rattle.kernel.specs.declared.clock.Clock.{Clock}
 use Rattle.kernel.specs.declared.units.Rate.{Rate}
 use Rattle.kernel.specs.declared.records.Thread.{Thread}
 use Rattle.kernel.specs.declared.records.Words.{Words}
-use Rattle.kernel.specs.Units.{frequencyFits}
+use Rattle.kernel.specs.Units.{frequency_fits}
 use Rattle.kernel.proofs.Cases.{split, contrary}
 use Rattle.kernel.proofs.TablesLaws.{used_all}
 use Rattle.library.specs.declared.sizes.Sizes.{Sizes}
@@ -13,14 +13,14 @@ use Rattle.library.specs.declared.tables.Mailbox.{Mailbox}
 use Rattle.library.specs.declared.tables.Pool.{Pool}
 use Rattle.library.specs.declared.tables.Tables.{Tables}
 use Rattle.library.specs.declared.fresh.Made.{Made}
-use Rattle.library.specs.Sizes.{sizesFit}
-use Rattle.library.specs.Fresh.{freshTables, freshClock, made}
-use Rattle.promises.specs.Paper.Time.{ticksInSecond}
+use Rattle.library.specs.Sizes.{sizes_fit}
+use Rattle.library.specs.Fresh.{fresh_tables, fresh_clock, made}
+use Rattle.promises.specs.Paper.Time.{ticks_in_second}
 use Rattle.promises.specs.Paper.Fresh.{FreshTables, FreshClock, Legal, nothing, MadeWith, MadeOf}
 use Rattle.promises.specs.Meant.Time.{same-rate, possible-fits, fits-possible}
 use Rattle.promises.specs.Meant.Sizes.{fit-limits, limits-fit, out-of-limits}
 
-fresh-tables : (z : Sizes) → z.threads ≤ 16 → FreshTables z (freshTables z)
+fresh-tables : (z : Sizes) → z.threads ≤ 16 → FreshTables z (fresh_tables z)
 fresh-tables z few =
     record {
       sizes = refl;
@@ -33,17 +33,17 @@ fresh-tables z few =
       pools = refl;
     }
 
-fresh-clock : (f : ℕ) → FreshClock f (freshClock f)
+fresh-clock : (f : ℕ) → FreshClock f (fresh_clock f)
 fresh-clock f = record { time = refl; frequency = refl }
 
 pub made-is : (z : Sizes) (rate : Rate) → MadeOf z rate (made z rate)
 unfolding made
 made-is z rate =
-    let f : ℕ = ticksInSecond rate in
+    let f : ℕ = ticks_in_second rate in
     rw (same-rate rate)
-    (split (sizesFit z)
+    (split (sizes_fit z)
     (λ e. rw e
-    (split (frequencyFits f)
+    (split (frequency_fits f)
     (λ p. rw p
     (MadeOf.fresh (fit-limits z e) (possible-fits f p) (record { code = refl; tables = fresh-tables z (fit-limits z e).threads.1; clock = fresh-clock f })))
     (λ p. rw p
@@ -53,14 +53,14 @@ made-is z rate =
 
 -- of legal sizes and frequency fresh tables are made, and are not refused
 pub made-fresh : (z : Sizes) (rate : Rate) → Legal z rate
-    → made z rate ≡ record { code = 0; tables = freshTables z; clock = freshClock (ticksInSecond rate) }
+    → made z rate ≡ record { code = 0; tables = fresh_tables z; clock = fresh_clock (ticks_in_second rate) }
 unfolding made
-made-fresh z rate legal = rw (same-rate rate, limits-fit z legal.sizes, fits-possible (ticksInSecond rate) legal.frequency)
+made-fresh z rate legal = rw (same-rate rate, limits-fit z legal.sizes, fits-possible (ticks_in_second rate) legal.frequency)
 
-pub made-legal : (z : Sizes) (rate : Rate) → Legal z rate → MadeWith 0 z (ticksInSecond rate) (made z rate)
+pub made-legal : (z : Sizes) (rate : Rate) → Legal z rate → MadeWith 0 z (ticks_in_second rate) (made z rate)
 made-legal z rate legal =
     rw (made-fresh z rate legal)
-    (record { code = refl; tables = fresh-tables z legal.sizes.threads.1; clock = fresh-clock (ticksInSecond rate) })
+    (record { code = refl; tables = fresh-tables z legal.sizes.threads.1; clock = fresh-clock (ticks_in_second rate) })
 
 -- and of no others
 pub code-legal : (z : Sizes) (rate : Rate) → (made z rate).code ≡ 0 → Legal z rate

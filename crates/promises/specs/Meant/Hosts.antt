@@ -23,7 +23,7 @@ use Rattle.library.specs.contracts.tables.Tables as tables
 use Rattle.steps.proofs.stepping.step.Kinds as step-kinds
 use Rattle.host.specs.declared.request.Request.{Request}
 use Rattle.host.specs.contracts.request.Request as request
-use Rattle.promises.specs.Paper.World.{noBox, noPool}
+use Rattle.promises.specs.Paper.World.{no_box, no_pool}
 use Rattle.promises.specs.Paper.Host.{HostTables, HostStep, Host}
 use Rattle.promises.specs.Paper.Boundary.{asked}
 
@@ -55,16 +55,16 @@ tables-fit t vs is =
     let k = x.0.1.1 in
     let boxes = length-mapped _ t.mailboxes 4 x.1.0.1.0.1 in
     let pools = length-mapped _ t.pools 4 x.1.1.0.1.0.1 in
-    let pool-at : (q : ℕ) → (length (get_or t.pools q noPool).list ≡ 32) × (length (get_or t.pools q noPool).marks ≡ 32) =
+    let pool-at : (q : ℕ) → (length (get_or t.pools q no_pool).list ≡ 32) × (length (get_or t.pools q no_pool).marks ≡ 32) =
     λ q.
     in-or-out q 4
     (λ l.
-    let y = (element (pool.the_field).row _ t.pools x.1.1.0.0 x.1.1.0.1.1 q (omega (arith, pools)) noPool).1.1.1 in (
-      length-mapped _ (get_or t.pools q noPool).list 32 y.1.0.1.0.1,
-      length-mapped _ (get_or t.pools q noPool).marks 32 y.1.1.0.1.0.1,
+    let y = (element (pool.the_field).row _ t.pools x.1.1.0.0 x.1.1.0.1.1 q (omega (arith, pools)) no_pool).1.1.1 in (
+      length-mapped _ (get_or t.pools q no_pool).list 32 y.1.0.1.0.1,
+      length-mapped _ (get_or t.pools q no_pool).marks 32 y.1.1.0.1.0.1,
     ))
     (λ l.
-    let past : noPool ≡ get_or t.pools q noPool = read_past t.pools 4 q pools l noPool in
+    let past : no_pool ≡ get_or t.pools q no_pool = read_past t.pools 4 q pools l no_pool in
     (ap (λ (p : Pool). length p.list) (sym past), ap (λ (p : Pool). length p.marks) (sym past))) in
     record {
       threads = length-mapped _ t.kernel.threads 16 k.0.1.0.1;
@@ -73,8 +73,8 @@ tables-fit t vs is =
       waiting = length-mapped _ t.kernel.words.waiting 36 k.1.1.1.0.1.1.1.0.1.0.1;
       mailboxes = boxes;
       messages = λ m l.
-          let box = (element (mailbox.the_field).row _ t.mailboxes x.1.0.0 x.1.0.1.1 m (omega (arith, boxes)) noBox).1 in
-          length-mapped _ (get_or t.mailboxes m noBox).messages 16 box.1.1.1.1.0.1.0.1;
+          let box = (element (mailbox.the_field).row _ t.mailboxes x.1.0.0 x.1.0.1.1 m (omega (arith, boxes)) no_box).1 in
+          length-mapped _ (get_or t.mailboxes m no_box).messages 16 box.1.1.1.1.0.1.0.1;
       pools = pools;
       lists = λ q l. (pool-at q).0;
       marks = λ q l. (pool-at q).1;

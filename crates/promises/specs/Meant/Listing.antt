@@ -12,39 +12,39 @@ use Rattle.library.specs.declared.sizes.Sizes.{Sizes}
 use Rattle.library.specs.declared.fresh.Made.{Made}
 use Rattle.library.specs.declared.tables.Tables.{Tables}
 use Rattle.library.specs.Fresh.{made}
-use Rattle.library.specs.Sizes.{noSizes}
+use Rattle.library.specs.Sizes.{no_sizes}
 use Rattle.steps.specs.declared.stepping.Stepped.{Stepped}
 use Rattle.steps.specs.Stepping.{stepped}
 use Rattle.trace.specs.declared.decoding.Found.{Found}
 use Rattle.trace.specs.declared.decoding.Found.TheVariants as found
 use Rattle.trace.specs.declared.decoding.Read.{Read}
-use Rattle.trace.specs.Ordered.{getN}
-use Rattle.trace.specs.Decoding.{headRefusal, stepRefusal, decodedStep, nextRead}
-use Rattle.trace.specs.Traces.{Reading, readFrom, read_all}
+use Rattle.trace.specs.Ordered.{get_n}
+use Rattle.trace.specs.Decoding.{head_refusal, step_refusal, decoded_step, next_read}
+use Rattle.trace.specs.Traces.{Reading, read_from, read_all}
 use Rattle.trace.proofs.Framing.{Head, head, stands}
 use Rattle.trace.proofs.ReadingLaws.{ends, steps_on, refuses}
 use Rattle.text.specs.declared.views.Parts.{Parts}
 use Rattle.text.specs.declared.views.Seen.{Seen}
 use Rattle.text.specs.declared.views.View.{View}
-use Rattle.text.specs.Decimal.{digitsN, decimal}
-use Rattle.text.specs.Rows.{rows, wordText, rowText}
-use Rattle.text.specs.Views.{partsText, viewParts, listedRate, freshSeen, seenAfter, stopText, recordsText, readingText, viewText}
+use Rattle.text.specs.Decimal.{digits_n, decimal}
+use Rattle.text.specs.Rows.{rows, word_text, row_text}
+use Rattle.text.specs.Views.{parts_text, view_parts, listed_rate, fresh_seen, seen_after, stop_text, records_text, reading_text, view_text}
 use Rattle.text.proofs.DecimalLaws.{one-digit, more-digits}
 use Rattle.text.proofs.ViewLaws.{opens, refused}
-use Rattle.promises.specs.Paper.Answers.{Said, foundSaid}
+use Rattle.promises.specs.Paper.Answers.{Said, found_said}
 use Rattle.promises.specs.Paper.Time.{Possible}
 use Rattle.promises.specs.Paper.Fresh.{MadeOf}
 use Rattle.promises.specs.Paper.Reader.{ReadOf}
-use Rattle.promises.specs.Paper.Run.{Moment, momentBy, momentsBy}
+use Rattle.promises.specs.Paper.Run.{Moment, moment_by, moments_by}
 use Rattle.promises.specs.Paper.Listing.{InDecimal, Line, Stop, StepsFound, TraceFound, StopLine, EachText, Printed, Told}
 use Rattle.promises.specs.Meant.Fresh.{made-is, made_one}
 use Rattle.promises.specs.Meant.Reader.{read_is, read_one}
-use Rattle.promises.specs.Runs.Frequency.{momentAt, Alike, fresh-alike}
+use Rattle.promises.specs.Runs.Frequency.{moment_at, Alike, fresh-alike}
 
 -- ---- numbers
 
-in-digits : (f n : ℕ) → n < f → InDecimal n (digitsN f n)
-unfolding digitsN
+in-digits : (f n : ℕ) → n < f → InDecimal n (digits_n f n)
+unfolding digits_n
 in-digits zero n h = absurd (omega arith)
 in-digits (suc f) n h =
     split (ltb n 10)
@@ -52,7 +52,7 @@ in-digits (suc f) n h =
     (λ e.
     let ten : 10 ≤ n = ltb-false n 10 e in
     let same : n / 10 * 10 + n % 10 ≡ n = omega arith in
-    rw e (subst (λ (k : ℕ). InDecimal k (digitsN f (n / 10) ++ ((48 + n % 10) ∷ []))) same
+    rw e (subst (λ (k : ℕ). InDecimal k (digits_n f (n / 10) ++ ((48 + n % 10) ∷ []))) same
     (InDecimal.more {n = n / 10} {d = n % 10} (omega arith) (omega arith) (in-digits f (n / 10) (omega arith)))))
 
 pub in-decimal : (n : ℕ) → InDecimal n (decimal n)
@@ -73,88 +73,88 @@ decimal-one (InDecimal.more {n} {d} {ds} p h r) =
 -- ---- lines
 
 -- the text of a line of numbers
-abbrev pub lineText : ℕ → List ℕ → List ℕ
-lineText n [] = decimal n ++ (10 ∷ [])
-lineText n (m ∷ ns) = decimal n ++ (32 ∷ lineText m ns)
+abbrev pub line_text : ℕ → List ℕ → List ℕ
+line_text n [] = decimal n ++ (10 ∷ [])
+line_text n (m ∷ ns) = decimal n ++ (32 ∷ line_text m ns)
 
-pub line-is : (n : ℕ) (ns : List ℕ) → Line (n ∷ ns) (lineText n ns)
+pub line-is : (n : ℕ) (ns : List ℕ) → Line (n ∷ ns) (line_text n ns)
 line-is n [] = Line.last (in-decimal n)
 line-is n (m ∷ ns) = Line.more (in-decimal n) (line-is m ns)
 
-pub line-one : {n : ℕ} {ns l : List ℕ} → Line (n ∷ ns) l → l ≡ lineText n ns
+pub line-one : {n : ℕ} {ns l : List ℕ} → Line (n ∷ ns) l → l ≡ line_text n ns
 line-one (Line.last d) = ap (λ (a : List ℕ). a ++ (10 ∷ [])) (decimal-one d)
 line-one (Line.more {n} {ns = m ∷ ns} {rest = rest} d r) =
     ap (λ (a : List ℕ). a ++ (32 ∷ rest)) (decimal-one d) ∙ ap (λ (a : List ℕ). decimal n ++ (32 ∷ a)) (line-one r)
 
 -- further numbers, each behind a blank
-abbrev numbersText : List ℕ → List ℕ
-numbersText [] = []
-numbersText (n ∷ ns) = 32 ∷ decimal n ++ numbersText ns
+abbrev numbers_text : List ℕ → List ℕ
+numbers_text [] = []
+numbers_text (n ∷ ns) = 32 ∷ decimal n ++ numbers_text ns
 
-pub numbers-line : (n : ℕ) (ns : List ℕ) → (decimal n ++ numbersText ns) ++ (10 ∷ []) ≡ lineText n ns
+pub numbers-line : (n : ℕ) (ns : List ℕ) → (decimal n ++ numbers_text ns) ++ (10 ∷ []) ≡ line_text n ns
 numbers-line n [] = ap (λ (l : List ℕ). l ++ (10 ∷ [])) (append-nil (decimal n))
 numbers-line n (m ∷ ns) =
-    append_assoc (decimal n) (32 ∷ decimal m ++ numbersText ns) (10 ∷ []) ∙ ap (λ (l : List ℕ). decimal n ++ (32 ∷ l)) (numbers-line m ns)
+    append_assoc (decimal n) (32 ∷ decimal m ++ numbers_text ns) (10 ∷ []) ∙ ap (λ (l : List ℕ). decimal n ++ (32 ∷ l)) (numbers-line m ns)
 
 -- ---- what a trace holds
 
 -- how a reading stopped
-abbrev stopOf : Found → Stop
-stopOf found.Opened = Stop.ended
-stopOf (found.Stepped x) = Stop.ended
-stopOf found.Ended = Stop.ended
-stopOf (found.Refused code number) = Stop.bad number code
+abbrev stop_of : Found → Stop
+stop_of found.Opened = Stop.ended
+stop_of (found.Stepped x) = Stop.ended
+stop_of found.Ended = Stop.ended
+stop_of (found.Refused code number) = Stop.bad number code
 
-said : {a b : Read} → a ≡ b → foundSaid a.found ≡ foundSaid b.found
-said e = ap (λ (r : Read). foundSaid r.found) e
+said : {a b : Read} → a ≡ b → found_said a.found ≡ found_said b.found
+said e = ap (λ (r : Read). found_said r.found) e
 
 -- behind record 0, where the reads are enough for the bytes that are left
 steps-found : (n : ℕ) (s : List ℕ) (at : ℕ) → 0 < at → at ≤ length s → length s < at + n
-    → StepsFound s at (readFrom n s at).steps (stopOf (readFrom n s at).stop)
-unfolding readFrom
+    → StepsFound s at (read_from n s at).steps (stop_of (read_from n s at).stop)
+unfolding read_from
 steps-found zero s at h l k = absurd (omega arith)
 steps-found (suc n) s at h l k =
     split (eqb at (length s))
     (λ e.
     let is = ends s at h (eqb-true at (length s) e) in
-    rw is (StepsFound.ended (nextRead s at) (read_is s at) (said is)))
+    rw is (StepsFound.ended (next_read s at) (read_is s at) (said is)))
     (λ f.
     let here : at ≢ length s = eqb-false at (length s) f in
-    split (eqb (stepRefusal s at) 0)
+    split (eqb (step_refusal s at) 0)
     (λ e.
-    let r : stepRefusal s at ≡ 0 = eqb-true (stepRefusal s at) 0 e in
+    let r : step_refusal s at ≡ 0 = eqb-true (step_refusal s at) 0 e in
     let is = steps_on s at h here r in
-    let next : (nextRead s at).next ≡ at + 13 = ap (λ (x : Read). x.next) is in
-    let y = decodedStep (take 11 (drop (at + 2) s)) in
+    let next : (next_read s at).next ≡ at + 13 = ap (λ (x : Read). x.next) is in
+    let y = decoded_step (take 11 (drop (at + 2) s)) in
     let rest = steps-found n s (at + 13) (omega arith) (stands s at r).within (omega arith) in
     rw is
-    (StepsFound.more {at = at} {x = y} (nextRead s at) (read_is s at) (said is)
-    (subst (λ (p : ℕ). StepsFound s p (readFrom n s (at + 13)).steps (stopOf (readFrom n s (at + 13)).stop)) (sym next) rest)))
+    (StepsFound.more {at = at} {x = y} (next_read s at) (read_is s at) (said is)
+    (subst (λ (p : ℕ). StepsFound s p (read_from n s (at + 13)).steps (stop_of (read_from n s (at + 13)).stop)) (sym next) rest)))
     (λ g.
-    let is = refuses s at h here (eqb-false (stepRefusal s at) 0 g) in
-    rw is (StepsFound.bad (nextRead s at) (read_is s at) (said is))))
+    let is = refuses s at h here (eqb-false (step_refusal s at) 0 g) in
+    rw is (StepsFound.bad (next_read s at) (read_is s at) (said is))))
 
 trace-found : (n : ℕ) (s : List ℕ) → length s ≤ n
-    → TraceFound s (readFrom (suc n) s 0).sizes (readFrom (suc n) s 0).steps (stopOf (readFrom (suc n) s 0).stop)
-unfolding readFrom
+    → TraceFound s (read_from (suc n) s 0).sizes (read_from (suc n) s 0).steps (stop_of (read_from (suc n) s 0).stop)
+unfolding read_from
 trace-found n s k =
-    split (eqb (headRefusal s) 0)
+    split (eqb (head_refusal s) 0)
     (λ e.
-    let none : headRefusal s ≡ 0 = eqb-true (headRefusal s) 0 e in
+    let none : head_refusal s ≡ 0 = eqb-true (head_refusal s) 0 e in
     let h : Head s = head s none in
-    let long : getN 2 s 1 ≡ 6 + get_or s 7 0 = h.opens.sized in
+    let long : get_n 2 s 1 ≡ 6 + get_or s 7 0 = h.opens.sized in
     let is = opens s none in
-    let next : (nextRead s 0).next ≡ 3 + getN 2 s 1 = ap (λ (x : Read). x.next) is in
-    let rest = steps-found n s (3 + getN 2 s 1) (omega arith) h.opens.within (omega arith) in
-    let all : TraceFound s (nextRead s 0).sizes (readFrom n s (3 + getN 2 s 1)).steps (stopOf (readFrom n s (3 + getN 2 s 1)).stop) =
-    TraceFound.opened (nextRead s 0) (read_is s 0) (said is)
-    (subst (λ (p : ℕ). StepsFound s p (readFrom n s (3 + getN 2 s 1)).steps (stopOf (readFrom n s (3 + getN 2 s 1)).stop)) (sym next) rest) in
-    rw is (subst (λ (z : Sizes). TraceFound s z (readFrom n s (3 + getN 2 s 1)).steps (stopOf (readFrom n s (3 + getN 2 s 1)).stop)) (ap (λ (x : Read). x.sizes) is) all))
+    let next : (next_read s 0).next ≡ 3 + get_n 2 s 1 = ap (λ (x : Read). x.next) is in
+    let rest = steps-found n s (3 + get_n 2 s 1) (omega arith) h.opens.within (omega arith) in
+    let all : TraceFound s (next_read s 0).sizes (read_from n s (3 + get_n 2 s 1)).steps (stop_of (read_from n s (3 + get_n 2 s 1)).stop) =
+    TraceFound.opened (next_read s 0) (read_is s 0) (said is)
+    (subst (λ (p : ℕ). StepsFound s p (read_from n s (3 + get_n 2 s 1)).steps (stop_of (read_from n s (3 + get_n 2 s 1)).stop)) (sym next) rest) in
+    rw is (subst (λ (z : Sizes). TraceFound s z (read_from n s (3 + get_n 2 s 1)).steps (stop_of (read_from n s (3 + get_n 2 s 1)).stop)) (ap (λ (x : Read). x.sizes) is) all))
     (λ f.
-    let is = refused s (eqb-false (headRefusal s) 0 f) in
-    rw is (TraceFound.bad (nextRead s 0) (read_is s 0) (said is)))
+    let is = refused s (eqb-false (head_refusal s) 0 f) in
+    rw is (TraceFound.bad (next_read s 0) (read_is s 0) (said is)))
 
-pub all_found : (s : List ℕ) → TraceFound s (read_all s).sizes (read_all s).steps (stopOf (read_all s).stop)
+pub all_found : (s : List ℕ) → TraceFound s (read_all s).sizes (read_all s).steps (stop_of (read_all s).stop)
 unfolding read_all
 all_found s = trace-found (length s) s (omega arith)
 
@@ -177,7 +177,7 @@ given v = v.gives
 abbrev many : Said → ℕ
 many v = length v.values
 
-same-said : {s : List ℕ} {at : ℕ} {r q : Read} {a b : Said} → ReadOf s at r → ReadOf s at q → foundSaid r.found ≡ a → foundSaid q.found ≡ b → a ≡ b
+same-said : {s : List ℕ} {at : ℕ} {r q : Read} {a b : Said} → ReadOf s at r → ReadOf s at q → found_said r.found ≡ a → found_said q.found ≡ b → a ≡ b
 same-said c d e f = sym e ∙ said (read_one c d) ∙ f
 
 -- the paper leaves no choice of what a trace holds
@@ -225,10 +225,10 @@ module _ (each : ℕ → Moment → List ℕ → Type 0) (end : Made → List Mo
   printed-one {f} {heading} {k} (Printed.printed {z} {xs} {stop} {m} {a} {b} {c} t d e n l h) (Printed.printed {xs = ys} {m = o} {a = a'} {b = b'} {c = c'} t' d' e' n' l' h') =
       let same = trace-one t t' in
       let making : m ≡ o = made_one (subst (λ (y : Sizes). MadeOf y (Given f) m) same.0 d) d' in
-      let run : momentsBy k m.tables m.clock xs ≡ momentsBy k o.tables o.clock ys =
-      ap (λ (x : Made). momentsBy k x.tables x.clock xs) making ∙ ap (λ (zs : List Step). momentsBy k o.tables o.clock zs) same.1.0 in
+      let run : moments_by k m.tables m.clock xs ≡ moments_by k o.tables o.clock ys =
+      ap (λ (x : Made). moments_by k x.tables x.clock xs) making ∙ ap (λ (zs : List Step). moments_by k o.tables o.clock zs) same.1.0 in
       let lines = texts-one (subst (λ (ms : List Moment). EachText each 1 ms a) run e) e' in
-      let last = end-one o (momentsBy k o.tables o.clock ys) b b' (subst (λ (x : Made). end x (momentsBy k o.tables o.clock ys) b) making (subst (λ (ms : List Moment). end m ms b) run n)) n' in
+      let last = end-one o (moments_by k o.tables o.clock ys) b b' (subst (λ (x : Made). end x (moments_by k o.tables o.clock ys) b) making (subst (λ (ms : List Moment). end m ms b) run n)) n' in
       let stops = stop-line-one (subst (λ (x : Stop). StopLine x c) same.1.1 l) l' in
       h ∙ ap (λ (x : List ℕ). heading ++ (x ++ (b ++ c))) lines ∙ ap (λ (x : List ℕ). heading ++ (a' ++ (x ++ c))) last
       ∙ ap (λ (x : List ℕ). heading ++ (a' ++ (b' ++ x))) stops ∙ sym h'
@@ -236,25 +236,25 @@ module _ (each : ℕ → Moment → List ℕ → Type 0) (end : Made → List Mo
 -- ---- what is printed
 
 -- what is known behind the last of some steps, the first of which is record n
-abbrev pub lastSeen : ℕ → Seen → List Step → Seen
-lastSeen n x [] = x
-lastSeen n x (s ∷ ss) = lastSeen (n + 1) (seenAfter n x s) ss
+abbrev pub last_seen : ℕ → Seen → List Step → Seen
+last_seen n x [] = x
+last_seen n x (s ∷ ss) = last_seen (n + 1) (seen_after n x s) ss
 
-eachText : Parts → ℕ → Seen → List Step → List ℕ
-eachText v n x [] = []
-eachText v n x (s ∷ ss) = partsText (seenAfter n x s) v.step v.steps ++ eachText v (n + 1) (seenAfter n x s) ss
+each_text : Parts → ℕ → Seen → List Step → List ℕ
+each_text v n x [] = []
+each_text v n x (s ∷ ss) = parts_text (seen_after n x s) v.step v.steps ++ each_text v (n + 1) (seen_after n x s) ss
 
 records-split : (v : Parts) (n : ℕ) (x : Seen) (ss : List Step) (stop : Found)
-    → recordsText v n x ss stop ≡ eachText v n x ss ++ (partsText (lastSeen n x ss) v.end v.ends ++ stopText stop)
-unfolding recordsText eachText
+    → records_text v n x ss stop ≡ each_text v n x ss ++ (parts_text (last_seen n x ss) v.end v.ends ++ stop_text stop)
+unfolding records_text each_text
 records-split v n x [] stop = refl
 records-split v n x (s ∷ ss) stop =
-    ap (λ (l : List ℕ). partsText (seenAfter n x s) v.step v.steps ++ l) (records-split v (n + 1) (seenAfter n x s) ss stop)
-    ∙ sym (append_assoc (partsText (seenAfter n x s) v.step v.steps) (eachText v (n + 1) (seenAfter n x s) ss)
-    (partsText (lastSeen (n + 1) (seenAfter n x s) ss) v.end v.ends ++ stopText stop))
+    ap (λ (l : List ℕ). parts_text (seen_after n x s) v.step v.steps ++ l) (records-split v (n + 1) (seen_after n x s) ss stop)
+    ∙ sym (append_assoc (parts_text (seen_after n x s) v.step v.steps) (each_text v (n + 1) (seen_after n x s) ss)
+    (parts_text (last_seen (n + 1) (seen_after n x s) ss) v.end v.ends ++ stop_text stop))
 
-stop_is : (f : Found) → StopLine (stopOf f) (stopText f)
-unfolding rowText wordText rows
+stop_is : (f : Found) → StopLine (stop_of f) (stop_text f)
+unfolding row_text word_text rows
 stop_is found.Opened = StopLine.none
 stop_is (found.Stepped x) = StopLine.none
 stop_is found.Ended = StopLine.none
@@ -262,63 +262,63 @@ stop_is (found.Refused code number) =
     rw (append-nil (decimal code), append_assoc (decimal number) (32 ∷ decimal code) (10 ∷ [])) (StopLine.stopped (line-is number (code ∷ [])))
 
 module _ (w : View) (heading : List ℕ) (each : ℕ → Moment → List ℕ → Type 0) (end : Made → List Moment → List ℕ → Type 0)
-    (head-is : partsText (freshSeen noSizes) (viewParts w).head (viewParts w).heads ≡ heading)
+    (head-is : parts_text (fresh_seen no_sizes) (view_parts w).head (view_parts w).heads ≡ heading)
     (each-is : (n : ℕ) (x : Seen) (s : Step)
-    → each n (momentBy stepped x.tables x.clock s) (partsText (seenAfter n x s) (viewParts w).step (viewParts w).steps))
+    → each n (moment_by stepped x.tables x.clock s) (parts_text (seen_after n x s) (view_parts w).step (view_parts w).steps))
     (end_is : (z : Sizes) (xs : List Step)
-    → end (made z listedRate) (momentsBy stepped (made z listedRate).tables (made z listedRate).clock xs)
-    (partsText (lastSeen 1 (freshSeen z) xs) (viewParts w).end (viewParts w).ends))
+    → end (made z listed_rate) (moments_by stepped (made z listed_rate).tables (made z listed_rate).clock xs)
+    (parts_text (last_seen 1 (fresh_seen z) xs) (view_parts w).end (view_parts w).ends))
     (each-one : (n : ℕ) (m : Moment) (a b : List ℕ) → each n m a → each n m b → a ≡ b)
     (end-one : (m : Made) (ms : List Moment) (a b : List ℕ) → end m ms a → end m ms b → a ≡ b) where
-  texts-are : (n : ℕ) (x : Seen) (ss : List Step) → EachText each n (momentsBy stepped x.tables x.clock ss) (eachText (viewParts w) n x ss)
-  unfolding eachText seenAfter
+  texts-are : (n : ℕ) (x : Seen) (ss : List Step) → EachText each n (moments_by stepped x.tables x.clock ss) (each_text (view_parts w) n x ss)
+  unfolding each_text seen_after
   texts-are n x [] = EachText.none
   texts-are n x (s ∷ ss) =
       EachText.more (each-is n x s)
       (subst
       (λ (i : ℕ).
-      EachText each i (momentsBy stepped (stepped x.tables x.clock s).tables (stepped x.tables x.clock s).clock ss)
-      (eachText (viewParts w) (n + 1) (seenAfter n x s) ss))
-      (add-one n) (texts-are (n + 1) (seenAfter n x s) ss))
+      EachText each i (moments_by stepped (stepped x.tables x.clock s).tables (stepped x.tables x.clock s).clock ss)
+      (each_text (view_parts w) (n + 1) (seen_after n x s) ss))
+      (add-one n) (texts-are (n + 1) (seen_after n x s) ss))
 
   -- the run at the frequency f of what a trace holds
   abbrev run_at : ℕ → List ℕ → List Moment
-  run_at f s = momentsBy stepped (made (read_all s).sizes (Given f)).tables (made (read_all s).sizes (Given f)).clock (read_all s).steps
+  run_at f s = moments_by stepped (made (read_all s).sizes (Given f)).tables (made (read_all s).sizes (Given f)).clock (read_all s).steps
 
-  abbrev stepsText : List ℕ → List ℕ
-  stepsText s = eachText (viewParts w) 1 (freshSeen (read_all s).sizes) (read_all s).steps
+  abbrev steps_text : List ℕ → List ℕ
+  steps_text s = each_text (view_parts w) 1 (fresh_seen (read_all s).sizes) (read_all s).steps
 
-  abbrev endText : List ℕ → List ℕ
-  endText s = partsText (lastSeen 1 (freshSeen (read_all s).sizes) (read_all s).steps) (viewParts w).end (viewParts w).ends
+  abbrev end_text : List ℕ → List ℕ
+  end_text s = parts_text (last_seen 1 (fresh_seen (read_all s).sizes) (read_all s).steps) (view_parts w).end (view_parts w).ends
 
   -- the view's text, if that run has it, is what the paper tells, and nothing else is
-  told_at : (f : ℕ) → ((s : List ℕ) → EachText each 1 (run_at f s) (stepsText s)) → ((s : List ℕ) → end (made (read_all s).sizes (Given f)) (run_at f s) (endText s))
-      → Told f heading each end stepped (viewText w)
-  unfolding viewText
+  told_at : (f : ℕ) → ((s : List ℕ) → EachText each 1 (run_at f s) (steps_text s)) → ((s : List ℕ) → end (made (read_all s).sizes (Given f)) (run_at f s) (end_text s))
+      → Told f heading each end stepped (view_text w)
+  unfolding view_text
   told_at f texts ends = record { is = is; only = λ s text p. printed-one each end each-one end-one p (is s) }
     where
-      is : (s : List ℕ) → Printed f heading each end stepped s (viewText w s)
+      is : (s : List ℕ) → Printed f heading each end stepped s (view_text w s)
       is s =
           let r : Reading = read_all s in
           Printed.printed (all_found s) (made-is r.sizes (Given f)) (texts s) (ends s) (stop_is r.stop)
-          (ap (λ (l : List ℕ). l ++ readingText (viewParts w) r) head-is
-          ∙ ap (λ (l : List ℕ). heading ++ l) (records-split (viewParts w) 1 (freshSeen r.sizes) r.steps r.stop))
+          (ap (λ (l : List ℕ). l ++ reading_text (view_parts w) r) head-is
+          ∙ ap (λ (l : List ℕ). heading ++ l) (records-split (view_parts w) 1 (fresh_seen r.sizes) r.steps r.stop))
 
-  given-texts : (s : List ℕ) → EachText each 1 (run_at 1000 s) (stepsText s)
-  given-texts s = texts-are 1 (freshSeen (read_all s).sizes) (read_all s).steps
+  given-texts : (s : List ℕ) → EachText each 1 (run_at 1000 s) (steps_text s)
+  given-texts s = texts-are 1 (fresh_seen (read_all s).sizes) (read_all s).steps
 
   -- at the frequency that is given
-  pub view-told : Told 1000 heading each end stepped (viewText w)
+  pub view-told : Told 1000 heading each end stepped (view_text w)
   view-told = told_at 1000 given-texts (λ s. end_is (read_all s).sizes (read_all s).steps)
 
   -- at any, if nothing that stands in the view is read off the clock
-  module _ (each-blind : (n : ℕ) (m : Moment) (d : Clock) (a : List ℕ) → each n m a → each n (momentAt d m) a)
+  module _ (each-blind : (n : ℕ) (m : Moment) (d : Clock) (a : List ℕ) → each n m a → each n (moment_at d m) a)
       (end-blind : (m o : Made) (ms ns : List Moment) (a : List ℕ) → m.tables ≡ o.tables → Alike ms ns → end m ms a → end o ns a) where
     texts-alike : {n : ℕ} {ms ns : List Moment} {a : List ℕ} → Alike ms ns → EachText each n ms a → EachText each n ns a
     texts-alike Alike.none EachText.none = EachText.none
     texts-alike (Alike.more {m} {d} r) (EachText.more {n} {a = a} x t) = EachText.more (each-blind n m d a x) (texts-alike r t)
 
-    pub view-any : (f : ℕ) → Possible f → Told f heading each end stepped (viewText w)
+    pub view-any : (f : ℕ) → Possible f → Told f heading each end stepped (view_text w)
     view-any f possible =
         told_at f (λ s. texts-alike (same s).1 (given-texts s)) (λ s. end-blind _ _ _ _ _ (same s).0 (same s).1 (end_is (read_all s).sizes (read_all s).steps))
       where

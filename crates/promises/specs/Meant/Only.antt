@@ -13,15 +13,15 @@ use Rattle.steps.specs.declared.stepping.Outcome.{Outcome}
 use Rattle.steps.specs.declared.stepping.Stepped.{Stepped}
 use Rattle.promises.specs.Paper.World.{
   World,
-  noThread,
-  noBox,
-  noPool,
+  no_thread,
+  no_box,
+  no_pool,
   found,
   Left,
-  counterTo,
-  boxTo,
-  poolTo,
-  madeReady,
+  counter_to,
+  box_to,
+  pool_to,
+  made_ready,
   ended,
   signed,
   Highest,
@@ -30,11 +30,11 @@ use Rattle.promises.specs.Paper.World.{
 }
 use Rattle.promises.specs.Paper.Rows.{
   written,
-  writtenAhead,
-  takenFrom,
+  written_ahead,
+  taken_from,
   slots_of,
-  inReset,
-  onTop,
+  in_reset,
+  on_top,
   TickOf,
   Ticks,
   Signal,
@@ -110,7 +110,7 @@ signal-only w p x y n m (Signal.raises a l e) (Signal.wakes b j g d) = contrary 
 signal-only w p x y n m (Signal.raises a l e) (Signal.at_top b d) = contrary l b
 signal-only w p x y n m (Signal.wakes a i f e) (Signal.raises b h d) = contrary a b
 signal-only w p x y n m (Signal.wakes a i f e) (Signal.wakes b j g d) =
-    (e ∙ ap (λ (k : ℕ). madeReady w k (pos 0) 1) (highest-only w p i j f g) ∙ sym d, refl)
+    (e ∙ ap (λ (k : ℕ). made_ready w k (pos 0) 1) (highest-only w p i j f g) ∙ sym d, refl)
 signal-only w p x y n m (Signal.wakes a i f e) (Signal.at_top b d) = contrary a (top-not-below (w.counter p) b)
 signal-only w p x y n m (Signal.at_top a e) (Signal.raises b h d) = contrary h a
 signal-only w p x y n m (Signal.at_top a e) (Signal.wakes b j g d) = contrary b (top-not-below (w.counter p) a)
@@ -135,7 +135,7 @@ semaphore-only w i p c x y (SemaphoreWait.not-above a e) (SemaphoreWait.above b 
 semaphore-only w i p c x y (SemaphoreWait.not-above a e) (SemaphoreWait.not-above b d) = waits-only w i 3 p c x y e d
 
 release-only : (w : World) (p : ℕ) (m : ℤ) (c : ℕ) (x y : World) → Release w p m c x → Release w p m c y → x ≡ y
-release-only w p m c x y (Release.first i f e) (Release.first j g d) = e ∙ ap (λ (k : ℕ). madeReady w k m c) (highest-only w p i j f g) ∙ sym d
+release-only w p m c x y (Release.first i f e) (Release.first j g d) = e ∙ ap (λ (k : ℕ). made_ready w k m c) (highest-only w p i j f g) ∙ sym d
 release-only w p m c x y (Release.first i f e) (Release.nobody g d) = absurd (g i f)
 release-only w p m c x y (Release.nobody f e) (Release.first j g d) = absurd (f j g)
 release-only w p m c x y (Release.nobody f e) (Release.nobody g d) = e ∙ sym d
@@ -186,7 +186,7 @@ post-only w i c x y (Post.in-reset a e) (Post.no_room b l d) = absurd (a b)
 post-only w i c x y (Post.behind a l k v r e) (Post.in-reset b d) = absurd (b a)
 post-only w i c x y (Post.behind a l k v r e) (Post.behind b m f u q d) =
     e
-    ∙ ap (λ (z : World). ended (boxTo z c.object (written (w.box c.object) (slots_of w c.object) c.operand)) i (pos 0) 0)
+    ∙ ap (λ (z : World). ended (box_to z c.object (written (w.box c.object) (slots_of w c.object) c.operand)) i (pos 0) 0)
     (release-only w (32 + c.object) (pos 0) 5 v u r q)
     ∙ sym d
 post-only w i c x y (Post.behind a l k v r e) (Post.ahead b m f u q d) = absurd (omega arith)
@@ -195,7 +195,7 @@ post-only w i c x y (Post.ahead a l k v r e) (Post.in-reset b d) = absurd (b a)
 post-only w i c x y (Post.ahead a l k v r e) (Post.behind b m f u q d) = absurd (omega arith)
 post-only w i c x y (Post.ahead a l k v r e) (Post.ahead b m f u q d) =
     e
-    ∙ ap (λ (z : World). ended (boxTo z c.object (writtenAhead (w.box c.object) (slots_of w c.object) c.operand)) i (pos 0) 0)
+    ∙ ap (λ (z : World). ended (box_to z c.object (written_ahead (w.box c.object) (slots_of w c.object) c.operand)) i (pos 0) 0)
     (release-only w (32 + c.object) (pos 0) 5 v u r q)
     ∙ sym d
 post-only w i c x y (Post.ahead a l k v r e) (Post.no_room b m d) = absurd (omega arith)
@@ -211,7 +211,7 @@ fetch-only w i c x y (Fetch.in-reset a e) (Fetch.no-message b l d) = absurd (a b
 fetch-only w i c x y (Fetch.message a l v r e) (Fetch.in-reset b d) = absurd (b a)
 fetch-only w i c x y (Fetch.message a l v r e) (Fetch.message b m u q d) =
     e
-    ∙ ap (λ (z : World). ended (boxTo z c.object (takenFrom (w.box c.object) (slots_of w c.object))) i (pos 0)
+    ∙ ap (λ (z : World). ended (box_to z c.object (taken_from (w.box c.object) (slots_of w c.object))) i (pos 0)
     (get_or (w.box c.object).messages (w.box c.object).positions.read 0))
     (release-only w (28 + c.object) (pos 0) 6 v u r q)
     ∙ sym d
@@ -249,7 +249,7 @@ module _ (t : Tables) (now : SystemTime) (s : Step) where
       e ∙ ap (λ (z : World). ended z i (cond j (pos 0) (pos 1)) 0) same.0 ∙ ap (λ (f : Bool). ended u i (cond f (pos 0) (pos 1)) 0) same.1
       ∙ sym d
   act-only n x y (Act.reset v a e) (Act.reset u b d) =
-      e ∙ ap (λ (z : World). done (counterTo z o (pos s.a))) (release-all-only w₀ o (negsuc 1) 7 t.sizes.threads v u a b) ∙ sym d
+      e ∙ ap (λ (z : World). done (counter_to z o (pos s.a))) (release-all-only w₀ o (negsuc 1) 7 t.sizes.threads v u a b) ∙ sym d
   act-only n x y (Act.binary-signal v a e) (Act.binary-signal u b d) = e ∙ ap done (binary-only w₀ o v u a b) ∙ sym d
   act-only n x y (Act.queue-wait a) (Act.queue-wait b) = waits-only w₀ i 3 (20 + o) _ x y a b
   act-only n x y (Act.release-first v a e) (Act.release-first u b d) = e ∙ ap done (release-only w₀ (20 + o) _ 2 v u a b) ∙ sym d
@@ -268,13 +268,13 @@ module _ (t : Tables) (now : SystemTime) (s : Step) where
       let second =
       release-all-only k (32 + o) (negsuc 1) 7 t.sizes.threads u l
       (subst (λ (z : World). ReleaseAll z (32 + o) (negsuc 1) 7 t.sizes.threads u) first b) g in
-      e ∙ ap (λ (z : World). done (boxTo z o (inReset (w₀.box o)))) second ∙ sym d
+      e ∙ ap (λ (z : World). done (box_to z o (in_reset (w₀.box o)))) second ∙ sym d
   act-only n x y (Act.mailbox-resume e) (Act.mailbox-resume d) = e ∙ sym d
   act-only n x y (Act.alloc a) (Act.alloc b) = alloc-only w₀ i _ x y a b
   act-only n x y (Act.free v j a e) (Act.free u k b d) =
-      e ∙ ap (λ (z : World). done (poolTo z o (onTop (w₀.pool o) s.a))) (signal-only w₀ (16 + o) v u j k a b).0 ∙ sym d
+      e ∙ ap (λ (z : World). done (pool_to z o (on_top (w₀.pool o) s.a))) (signal-only w₀ (16 + o) v u j k a b).0 ∙ sym d
   act-only n x y (Act.add v j a e) (Act.add u k b d) =
-      e ∙ ap (λ (z : World). done (poolTo z o (onTop (w₀.pool o) s.a))) (signal-only w₀ (16 + o) v u j k a b).0 ∙ sym d
+      e ∙ ap (λ (z : World). done (pool_to z o (on_top (w₀.pool o) s.a))) (signal-only w₀ (16 + o) v u j k a b).0 ∙ sym d
 
 -- ---- settling
 
@@ -363,11 +363,11 @@ result-only w caller o q a b =
 left-only : (w : World) (g : Words) (u v : Tables) → Left w u → Left w v → WordsLeft w g u.kernel.words → WordsLeft w g v.kernel.words
     → u ≡ v
 left-only w g u v a b x y =
-    let threads = list-only noThread u.kernel.threads v.kernel.threads (a.thread-rows ∙ sym b.thread-rows) (λ i. a.threads i ∙ sym (b.threads i)) in
+    let threads = list-only no_thread u.kernel.threads v.kernel.threads (a.thread-rows ∙ sym b.thread-rows) (λ i. a.threads i ∙ sym (b.threads i)) in
     let counters = list-only (pos 0) u.kernel.counters v.kernel.counters (a.counter-rows ∙ sym b.counter-rows) (λ i. a.counters i ∙ sym (b.counters i)) in
     let references = list-only 255 u.kernel.references v.kernel.references (a.reference-rows ∙ sym b.reference-rows) (λ i. a.references i ∙ sym (b.references i)) in
-    let boxes = list-only noBox u.mailboxes v.mailboxes (a.box-rows ∙ sym b.box-rows) (λ i. a.boxes i ∙ sym (b.boxes i)) in
-    let pools = list-only noPool u.pools v.pools (a.pool-rows ∙ sym b.pool-rows) (λ i. a.pools i ∙ sym (b.pools i)) in
+    let boxes = list-only no_box u.mailboxes v.mailboxes (a.box-rows ∙ sym b.box-rows) (λ i. a.boxes i ∙ sym (b.boxes i)) in
+    let pools = list-only no_pool u.pools v.pools (a.pool-rows ∙ sym b.pool-rows) (λ i. a.pools i ∙ sym (b.pools i)) in
     let sizes = a.sizes ∙ sym b.sizes in
     let ready = ready-only w g u.kernel.words v.kernel.words x y in
     let waiting = list-only 0 u.kernel.words.waiting v.kernel.words.waiting (x.places ∙ sym y.places) (waiting-only w g u.kernel.words v.kernel.words x y) in

@@ -7,25 +7,25 @@ use Rattle.std.proofs.Math.IntN.{pos, negsuc}
 use Rattle.std.proofs.Math.ListN.{length, get_or}
 use borrow.Author.Tests.{eq-eqb, ne_eqb, lt-leb, le-leb, ltb-true, ltb-false, leb-true, leb-false}
 use Rattle.kernel.proofs.Cases.{split, same_or, in-or-out, both-means, contrary}
-use Rattle.library.specs.Ring.{positionsFit}
+use Rattle.library.specs.Ring.{positions_fit}
 use Rattle.library.proofs.RingLaws.{fit_of}
 use Rattle.pipes.specs.declared.table.Pipe.{Pipe}
 use Rattle.pipes.specs.declared.table.Pipes.{Pipes}
 use Rattle.pipes.specs.declared.opening.Opened.{Opened}
 use Rattle.pipes.specs.declared.transfer.Moved.{Moved}
-use Rattle.pipes.specs.Table.{pipeAt, withPipe}
-use Rattle.pipes.specs.Carrying.{smallerOf, carried}
-use Rattle.pipes.specs.Judging.{isThere, lengthFits, pipeRefusal}
-use Rattle.pipes.specs.Opening.{pipesFresh, pipeReset, pipeResumed}
-use Rattle.pipes.specs.Transfer.{goesAhead, stopped, goneOn, writeCount, readCount, writeAnswer, bufferWritten, readAnswer, targetRead}
+use Rattle.pipes.specs.Table.{pipe_at, with_pipe}
+use Rattle.pipes.specs.Carrying.{smaller_of, carried}
+use Rattle.pipes.specs.Judging.{is_there, length_fits, pipe_refusal}
+use Rattle.pipes.specs.Opening.{pipes_fresh, pipe_reset, pipe_resumed}
+use Rattle.pipes.specs.Transfer.{goes_ahead, stopped, gone_on, write_count, read_count, write_answer, buffer_written, read_answer, target_read}
 use Rattle.pipes.proofs.CarryingLaws.{length-carried, carried-at, carried-off, least}
 use Rattle.pipes.proofs.TransferLaws.{Unrefused, unrefused}
 use Rattle.promises.specs.Paper.Writer.{LeastOf}
 use Rattle.promises.specs.Meant.Together.{fit-paper, paper-fit}
 use Rattle.promises.specs.Meant.Writer.{least-one}
 use Rattle.promises.specs.Paper.Pipes.{
-  noPipe,
-  pipeOf,
+  no_pipe,
+  pipe_of,
   HostPipes,
   PipeUnfit,
   PipeFits,
@@ -56,7 +56,7 @@ unfit-number (PipeUnfit.unfit h) = omega arith
 
 module _ (t : Pipes) (i n : ℕ) where
   -- what nothing refuses breaks no rule
-  pub accepted-fits : pipeRefusal t i n ≡ 0 → PipeFits t i n
+  pub accepted-fits : pipe_refusal t i n ≡ 0 → PipeFits t i n
   accepted-fits e m u = by (unrefused t i n e) u
     where
       by : Unrefused t i n → {m : ℕ} → PipeUnfit t i n m → ⊥
@@ -67,7 +67,7 @@ module _ (t : Pipes) (i n : ℕ) where
       by g (PipeUnfit.unfit h) = h (fit-paper g.fits)
 
   -- a rule of number 5 is broken where the pipe is not there or the length is not a buffer's
-  only-five : isThere t i ≡ true → lengthFits n ≡ true → PipeUnfit t i n 5 → ⊥
+  only-five : is_there t i ≡ true → length_fits n ≡ true → PipeUnfit t i n 5 → ⊥
   only-five x y u =
       let a = both-means (leb t.number 4) (ltb i t.number) x in
       let b = both-means (leb 1 n) (leb n 256) y in
@@ -80,13 +80,13 @@ module _ (t : Pipes) (i n : ℕ) where
       by few there some long e (PipeUnfit.long h) = omega arith
       by few there some long e (PipeUnfit.unfit h) = omega arith
 
-  not_there : isThere t i ≡ false → PipeUnfit t i n 5
+  not_there : is_there t i ≡ false → PipeUnfit t i n 5
   not_there x =
       split (leb t.number 4)
       (λ a. PipeUnfit.absent (ltb-false i t.number (rw a at x)))
       (λ a. PipeUnfit.too_many (leb-false t.number 4 a))
 
-  no_length : lengthFits n ≡ false → PipeUnfit t i n 5
+  no_length : length_fits n ≡ false → PipeUnfit t i n 5
   no_length y =
       split (leb 1 n)
       (λ a. PipeUnfit.long (leb-false n 256 (rw a at y)))
@@ -97,19 +97,19 @@ module _ (t : Pipes) (i n : ℕ) where
   five u = record { unfit = u; none_before = λ m l v. absurd (omega (arith, unfit-number v)) }
 
   -- what is refused is refused by the first rule that it breaks
-  pub refused-least : pipeRefusal t i n ≢ 0 → LeastOf (PipeUnfit t i n) (pipeRefusal t i n)
-  unfolding pipeRefusal
+  pub refused-least : pipe_refusal t i n ≢ 0 → LeastOf (PipeUnfit t i n) (pipe_refusal t i n)
+  unfolding pipe_refusal
   refused-least d =
-      split (isThere t i)
+      split (is_there t i)
       (λ x.
-      split (lengthFits n)
+      split (length_fits n)
       (λ y.
-      split (positionsFit (pipeAt t i).positions n)
+      split (positions_fit (pipe_at t i).positions n)
       (λ z. absurd (d (rw (x, y, z))))
       (λ z.
       rw (x, y, z)
       (record {
-        unfit = PipeUnfit.unfit (λ f. contrary (fit_of (pipeAt t i).positions n (paper-fit f)) z);
+        unfit = PipeUnfit.unfit (λ f. contrary (fit_of (pipe_at t i).positions n (paper-fit f)) z);
         none_before = λ m l u. only-five x y (five-of m l u);
       })))
       (λ y. rw (x, y) (five (no_length y))))
@@ -120,7 +120,7 @@ module _ (t : Pipes) (i n : ℕ) where
 
 -- ---- bytes
 
-smaller-is : (a b : ℕ) → SmallerOf a b (smallerOf a b)
+smaller-is : (a b : ℕ) → SmallerOf a b (smaller_of a b)
 smaller-is a b = in-or-out b a (λ l. rw (lt-leb a b l) (SmallerOf.second (omega arith))) (λ l. rw (le-leb a b l) (SmallerOf.first l))
 
 smaller-one : {a b k j : ℕ} → SmallerOf a b k → SmallerOf a b j → k ≡ j
@@ -145,18 +145,18 @@ bytes_one {k} {s} {from} {d} {to} {e} {f} a b =
 -- ---- the table
 
 -- one record is set anew
-only_set : (t : Pipes) (i : ℕ) (p : Pipe) → HostPipes t → i < 4 → OnlyPipe t i p (withPipe t i p)
+only_set : (t : Pipes) (i : ℕ) (p : Pipe) → HostPipes t → i < 4 → OnlyPipe t i p (with_pipe t i p)
 only_set t i p h l =
     record {
       number = refl;
       table = length-set t.pipes i p ∙ h;
-      record_of = get_or-set_same t.pipes i p noPipe (rw h l);
-      others = λ j d. get_or-set_other t.pipes i j p noPipe d;
+      record_of = get_or-set_same t.pipes i p no_pipe (rw h l);
+      others = λ j d. get_or-set_other t.pipes i j p no_pipe d;
     }
 
-pipes-one : (u v : Pipes) → HostPipes u → HostPipes v → u.number ≡ v.number → ((j : ℕ) → pipeOf u j ≡ pipeOf v j) → u ≡ v
+pipes-one : (u v : Pipes) → HostPipes u → HostPipes v → u.number ≡ v.number → ((j : ℕ) → pipe_of u j ≡ pipe_of v j) → u ≡ v
 pipes-one u v h g n f =
-    let rows : u.pipes ≡ v.pipes = ext_get_or noPipe u.pipes v.pipes (h ∙ sym g) (λ j l. f j) in
+    let rows : u.pipes ≡ v.pipes = ext_get_or no_pipe u.pipes v.pipes (h ∙ sym g) (λ j l. f j) in
     let parts : ◌≡◌ {A = Pipes} (record { pipes = u.pipes; number = u.number }) (record { pipes = v.pipes; number = v.number }) = rw (rows, n) in
     parts
 
@@ -168,45 +168,45 @@ only_one {t} {i} {p} {u} {v} a b =
 -- ---- transfers
 
 module _ (t : Pipes) (h : HostPipes t) (i : ℕ) (b : List ℕ) where
-  inside : pipeRefusal t i (length b) ≡ 0 → i < 4
+  inside : pipe_refusal t i (length b) ≡ 0 → i < 4
   inside e = let g = unrefused t i (length b) e in omega (arith, g.few, g.there)
 
   -- what both transfers have in common: x is what would move, k bytes of it, and e what is written to then
   transfer-is : (x : Transfer) (k : ℕ) (e : List ℕ) (m : Moved) (c : List ℕ) → SmallerOf x.wanted x.possible k
-      → (pipeRefusal t i (length b) ≡ 0 → BytesMoved k x.source x.from x.into x.to e)
-      → m ≡ cond (goesAhead t i (length b)) (goneOn t i (x.after k) k) (stopped t i (length b)) → c ≡ cond (goesAhead t i (length b)) e x.into
+      → (pipe_refusal t i (length b) ≡ 0 → BytesMoved k x.source x.from x.into x.to e)
+      → m ≡ cond (goes_ahead t i (length b)) (gone_on t i (x.after k) k) (stopped t i (length b)) → c ≡ cond (goes_ahead t i (length b)) e x.into
       → TransferOf t i (length b) x m c
-  unfolding goesAhead goneOn stopped
+  unfolding goes_ahead gone_on stopped
   transfer-is x k e m c s y em ec =
-      same_or (pipeRefusal t i (length b)) 0
+      same_or (pipe_refusal t i (length b)) 0
       (λ r.
-      same_or (pipeAt t i).reset 0
+      same_or (pipe_at t i).reset 0
       (λ z.
-      let free = eq-eqb (pipeRefusal t i (length b)) 0 r in
-      let live = eq-eqb (pipeAt t i).reset 0 z in
-      let m2 : m ≡ record { pipes = withPipe t i (record { positions = x.after k; reset = 0 }); code = 0; moved = pos k } = rw (free, live) at em in
+      let free = eq-eqb (pipe_refusal t i (length b)) 0 r in
+      let live = eq-eqb (pipe_at t i).reset 0 z in
+      let m2 : m ≡ record { pipes = with_pipe t i (record { positions = x.after k; reset = 0 }); code = 0; moved = pos k } = rw (free, live) at em in
       let c2 : c ≡ e = rw (free, live) at ec in
       rw (m2, c2)
       (TransferOf.moves (accepted-fits t i (length b) r) z k s (y r) refl refl (only_set t i (record { positions = x.after k; reset = 0 }) h (inside r))))
       (λ z.
-      let free = eq-eqb (pipeRefusal t i (length b)) 0 r in
-      let still = ne_eqb (pipeAt t i).reset 0 z in
+      let free = eq-eqb (pipe_refusal t i (length b)) 0 r in
+      let still = ne_eqb (pipe_at t i).reset 0 z in
       let m2 : m ≡ record { pipes = t; code = 0; moved = negsuc 1 } = rw (free, still, r) at em in
       let c2 : c ≡ x.into = rw (free, still) at ec in
       TransferOf.in-reset (accepted-fits t i (length b) r) z m2 c2))
       (λ d.
-      let no = ne_eqb (pipeRefusal t i (length b)) 0 d in
-      let m2 : m ≡ record { pipes = t; code = pipeRefusal t i (length b); moved = pos 0 } = rw no at em in
+      let no = ne_eqb (pipe_refusal t i (length b)) 0 d in
+      let m2 : m ≡ record { pipes = t; code = pipe_refusal t i (length b); moved = pos 0 } = rw no at em in
       let c2 : c ≡ x.into = rw no at ec in
-      TransferOf.refused (pipeRefusal t i (length b)) (refused-least t i (length b) d) m2 c2)
+      TransferOf.refused (pipe_refusal t i (length b)) (refused-least t i (length b) d) m2 c2)
 
-  pub pipe-write-is : (l : List ℕ) → PipeWriteOf t i b l (writeAnswer t i (length b) (length l)) (bufferWritten t i b l)
-  unfolding writeAnswer bufferWritten
+  pub pipe-write-is : (l : List ℕ) → PipeWriteOf t i b l (write_answer t i (length b) (length l)) (buffer_written t i b l)
+  unfolding write_answer buffer_written
   pipe-write-is l =
-      let p = (pipeAt t i).positions in
-      let k = writeCount p (length b) (length l) in
+      let p = (pipe_at t i).positions in
+      let k = write_count p (length b) (length l) in
       let few = least (length l) (length b - p.count) k refl in
-      transfer-is (writing p b l) k (carried k l 0 b p.write) (writeAnswer t i (length b) (length l)) (bufferWritten t i b l)
+      transfer-is (writing p b l) k (carried k l 0 b p.write) (write_answer t i (length b) (length l)) (buffer_written t i b l)
       (smaller-is (length l) (length b - p.count))
       (λ r. record {
         size = length-carried k l 0 b p.write;
@@ -217,14 +217,14 @@ module _ (t : Pipes) (h : HostPipes t) (i : ℕ) (b : List ℕ) where
       })
       refl refl
 
-  pub pipe-read-is : (g : List ℕ) → PipeReadOf t i b g (readAnswer t i (length b) (length g)) (targetRead t i b g)
-  unfolding readAnswer targetRead
+  pub pipe-read-is : (g : List ℕ) → PipeReadOf t i b g (read_answer t i (length b) (length g)) (target_read t i b g)
+  unfolding read_answer target_read
   pipe-read-is g =
-      let p = (pipeAt t i).positions in
-      let k = readCount p (length g) in
+      let p = (pipe_at t i).positions in
+      let k = read_count p (length g) in
       let few = least (length g) p.count k refl in
       let at : (j : ℕ) → j < k → (0 + j) % length g ≡ j = λ j l. ap (λ (x : ℕ). x % length g) (zero-add j) ∙ mod-eq_of_lt (omega (arith, few.first)) in
-      transfer-is (reading p b g) k (carried k b p.read g 0) (readAnswer t i (length b) (length g)) (targetRead t i b g)
+      transfer-is (reading p b g) k (carried k b p.read g 0) (read_answer t i (length b) (length g)) (target_read t i b g)
       (smaller-is (length g) p.count)
       (λ r. record {
         size = length-carried k b p.read g 0;
@@ -261,23 +261,23 @@ transfer-one {t} {i} {n} {x} {m} {o} {e} {f} (TransferOf.moves q z k w y u v p) 
 
 module _ (t : Pipes) (h : HostPipes t) (i n : ℕ) where
   record_is : (p : Pipe) (o : Opened)
-      → o ≡ cond (eqb (pipeRefusal t i n) 0) (record { pipes = withPipe t i p; code = 0 }) (record { pipes = t; code = pipeRefusal t i n })
+      → o ≡ cond (eqb (pipe_refusal t i n) 0) (record { pipes = with_pipe t i p; code = 0 }) (record { pipes = t; code = pipe_refusal t i n })
       → RecordSet t i n p o
   record_is p o e =
-      same_or (pipeRefusal t i n) 0
+      same_or (pipe_refusal t i n) 0
       (λ r.
       let g = unrefused t i n r in
-      let o2 : o ≡ record { pipes = withPipe t i p; code = 0 } = rw (eq-eqb (pipeRefusal t i n) 0 r) at e in
+      let o2 : o ≡ record { pipes = with_pipe t i p; code = 0 } = rw (eq-eqb (pipe_refusal t i n) 0 r) at e in
       rw o2 (RecordSet.done (accepted-fits t i n r) refl (only_set t i p h (omega (arith, g.few, g.there)))))
-      (λ d. RecordSet.refused (pipeRefusal t i n) (refused-least t i n d) (rw (ne_eqb (pipeRefusal t i n) 0 d) at e))
+      (λ d. RecordSet.refused (pipe_refusal t i n) (refused-least t i n d) (rw (ne_eqb (pipe_refusal t i n) 0 d) at e))
 
-  pub pipe-reset-is : PipeResetOf t i n (pipeReset t i n)
-  unfolding pipeReset
-  pipe-reset-is = record_is (record { positions = record { read = 0; write = 0; count = 0 }; reset = 1 }) (pipeReset t i n) refl
+  pub pipe-reset-is : PipeResetOf t i n (pipe_reset t i n)
+  unfolding pipe_reset
+  pipe-reset-is = record_is (record { positions = record { read = 0; write = 0; count = 0 }; reset = 1 }) (pipe_reset t i n) refl
 
-  pub pipe-resume-is : PipeResumeOf t i n (pipeResumed t i n)
-  unfolding pipeResumed
-  pipe-resume-is = record_is (record { positions = (pipeAt t i).positions; reset = 0 }) (pipeResumed t i n) refl
+  pub pipe-resume-is : PipeResumeOf t i n (pipe_resumed t i n)
+  unfolding pipe_resumed
+  pipe-resume-is = record_is (record { positions = (pipe_at t i).positions; reset = 0 }) (pipe_resumed t i n) refl
 
 opened_one : (m n : Opened) → m.pipes ≡ n.pipes → m.code ≡ n.code → m ≡ n
 opened_one m n p c =
@@ -290,8 +290,8 @@ record-set-one (RecordSet.refused m a e) (RecordSet.done b c f) = absurd (b m a.
 record-set-one (RecordSet.done b c f) (RecordSet.refused m a e) = absurd (b m a.unfit)
 record-set-one {o = o} {q = q} (RecordSet.done b c f) (RecordSet.done a d g) = opened_one o q (only_one f g) (c ∙ sym d)
 
-pub pipes-fresh-is : (t : Pipes) (number : ℕ) → PipesFreshOf t number (pipesFresh t number)
-unfolding pipesFresh
+pub pipes-fresh-is : (t : Pipes) (number : ℕ) → PipesFreshOf t number (pipes_fresh t number)
+unfolding pipes_fresh
 pipes-fresh-is t number =
     in-or-out 4 number
     (λ l. let no = lt-leb number 4 l in PipesFreshOf.refused l (rw no))
@@ -299,7 +299,7 @@ pipes-fresh-is t number =
     rw (le-leb number 4 l)
     (PipesFreshOf.made l refl refl refl all-empty))
   where
-    all-empty : (i : ℕ) → get_or (noPipe ∷ noPipe ∷ noPipe ∷ noPipe ∷ []) i noPipe ≡ noPipe
+    all-empty : (i : ℕ) → get_or (no_pipe ∷ no_pipe ∷ no_pipe ∷ no_pipe ∷ []) i no_pipe ≡ no_pipe
     all-empty zero = refl
     all-empty (suc zero) = refl
     all-empty (suc (suc zero)) = refl

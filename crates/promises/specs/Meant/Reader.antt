@@ -8,37 +8,37 @@ use Rattle.std.proofs.Math.ListN.{length, get_or-eq_default}
 use borrow.Author.Tests.{ltb-true, ltb-false, eqb-true, eqb-false, ne_eqb}
 use Rattle.kernel.proofs.Cases.{split, same_or, in-or-out}
 use Rattle.library.specs.declared.sizes.Sizes.{Sizes}
-use Rattle.library.specs.Sizes.{sizesFit}
+use Rattle.library.specs.Sizes.{sizes_fit}
 use Rattle.trace.specs.declared.decoding.Found.TheVariants as found
 use Rattle.trace.specs.declared.decoding.Read.{Read}
 use Rattle.trace.specs.declared.cursor.Reader.{Reader}
-use Rattle.trace.specs.Ordered.{getN}
+use Rattle.trace.specs.Ordered.{get_n}
 use Rattle.trace.specs.Decoding.{
   number_at,
-  endsInside,
-  lengthRefusal,
-  headSizes,
-  headRefusal,
-  stepRefusal,
-  decodedSizes,
-  decodedStep,
-  openedRead,
-  steppedRead,
-  nextRead,
+  ends_inside,
+  length_refusal,
+  head_sizes,
+  head_refusal,
+  step_refusal,
+  decoded_sizes,
+  decoded_step,
+  opened_read,
+  stepped_read,
+  next_read,
 }
 use Rattle.trace.specs.Cursor.{moved}
 use Rattle.trace.proofs.Widths.{get-two, get-four, get-same}
 use Rattle.trace.proofs.BodyLaws.{take_short}
 use Rattle.trace.proofs.Framing.{whole}
 use Rattle.promises.specs.Paper.Together.{SizesFit}
-use Rattle.promises.specs.Paper.Answers.{Said, foundSaid}
+use Rattle.promises.specs.Paper.Answers.{Said, found_said}
 use Rattle.promises.specs.Paper.Reader.{
   byte,
   two,
   four,
-  sizesIn,
-  sizesOfBody,
-  stepOfBody,
+  sizes_in,
+  sizes_of_body,
+  step_of_body,
   NumberOf,
   HeadBroken,
   RecordBroken,
@@ -55,10 +55,10 @@ use Rattle.promises.specs.Meant.Said.{found-one}
 
 -- ---- bytes
 
-pub two_is : (s : List ℕ) (at : ℕ) → getN 2 s at ≡ two s at
+pub two_is : (s : List ℕ) (at : ℕ) → get_n 2 s at ≡ two s at
 two_is s at = sym (get-two s at (byte s at) (byte s (at + 1)) refl refl)
 
-pub four_is : (s : List ℕ) (at : ℕ) → getN 4 s at ≡ four s at
+pub four_is : (s : List ℕ) (at : ℕ) → get_n 4 s at ≡ four s at
 four_is s at = omega (arith, get-four s at (byte s at) (byte s (at + 1)) refl refl (byte s (at + 2)) (byte s (at + 3)) refl refl)
 
 -- the part of a trace from a place on, n bytes of it
@@ -70,7 +70,7 @@ module _ (s : List ℕ) (from n : ℕ) where
   part-past : (i : ℕ) → n ≤ i → get_or (take n (drop from s)) i 0 ≡ 0
   part-past i h = get_or-eq_default (take n (drop from s)) 0 {n = i} (omega (arith, take_short n (drop from s)))
 
-  part-four : (i : ℕ) → i + 4 ≤ n → getN 4 (take n (drop from s)) i ≡ getN 4 s (from + i)
+  part-four : (i : ℕ) → i + 4 ≤ n → get_n 4 (take n (drop from s)) i ≡ get_n 4 s (from + i)
   part-four i h =
       get-same 4 (take n (drop from s)) s i (from + i)
       (λ j l. part-byte (i + j) (omega arith) ∙ ap (byte s) (omega arith))
@@ -82,10 +82,10 @@ module _ (s : List ℕ) (from n : ℕ) where
       (λ t. rw t (part-byte (6 + m) (omega (arith, ltb-true m k t))))
       (λ t. rw t (part-past (6 + m) (omega (arith, ltb-false m k t))))
 
-pub head-sizes : (s : List ℕ) → getN 2 s 1 ≡ 6 + byte s 7 → headSizes s ≡ sizesIn s
-unfolding decodedSizes
+pub head-sizes : (s : List ℕ) → get_n 2 s 1 ≡ 6 + byte s 7 → head_sizes s ≡ sizes_in s
+unfolding decoded_sizes
 head-sizes s e =
-    let n : ℕ = getN 2 s 1 in
+    let n : ℕ = get_n 2 s 1 in
     rw (
       part-byte s 3 n 0 (omega arith),
       part-byte s 3 n 1 (omega arith),
@@ -100,18 +100,18 @@ head-sizes s e =
     )
 
 pub step-said : (s : List ℕ) (at : ℕ)
-    → foundSaid (found.Stepped (decodedStep (take 11 (drop (at + 2) s))))
+    → found_said (found.Stepped (decoded_step (take 11 (drop (at + 2) s))))
     ≡ record {
       code = 0;
       gives = 2;
       values = byte s (at + 2) ∷ byte s (at + 3) ∷ byte s (at + 4) ∷ four s (at + 5) ∷ four s (at + 9) ∷ [];
     }
-unfolding decodedStep
+unfolding decoded_step
 step-said s at =
     let one : (i to : ℕ) → i < 11 → at + 2 + i ≡ to → get_or (take 11 (drop (at + 2) s)) i 0 ≡ byte s to =
     λ i to h e. part-byte s (at + 2) 11 i h ∙ ap (byte s) e in
-    let all-four : (i to : ℕ) → i + 4 ≤ 11 → at + 2 + i ≡ to → getN 4 (take 11 (drop (at + 2) s)) i ≡ four s to =
-    λ i to h e. part-four s (at + 2) 11 i h ∙ ap (getN 4 s) e ∙ four_is s to in
+    let all-four : (i to : ℕ) → i + 4 ≤ 11 → at + 2 + i ≡ to → get_n 4 (take 11 (drop (at + 2) s)) i ≡ four s to =
+    λ i to h e. part-four s (at + 2) 11 i h ∙ ap (get_n 4 s) e ∙ four_is s to in
     rw (
       one 0 (at + 2) (omega arith) (omega arith),
       one 1 (at + 3) (omega arith) (omega arith),
@@ -121,12 +121,12 @@ step-said s at =
     )
 
 -- the decoders, on any body
-pub sizes-body-is : (b : List ℕ) → decodedSizes b ≡ sizesOfBody b
-unfolding decodedSizes
+pub sizes-body-is : (b : List ℕ) → decoded_sizes b ≡ sizes_of_body b
+unfolding decoded_sizes
 sizes-body-is b = refl
 
-pub step-body-is : (b : List ℕ) → decodedStep b ≡ stepOfBody b
-unfolding decodedStep
+pub step-body-is : (b : List ℕ) → decoded_step b ≡ step_of_body b
+unfolding decoded_step
 step-body-is b = rw (four_is b 3, four_is b 7)
 
 -- ---- the record's number
@@ -186,18 +186,18 @@ module _ (Broken : ℕ → Type 0) (numbers : (n : ℕ) → Broken n → (11 ≤
 -- ---- the version byte and record 0
 
 -- the input ends inside a length or body, as the code tests it
-ends-where : (s : List ℕ) (at : ℕ) {C : Type 0} → endsInside s at ≡ true → (length s < at + 2 → C) → (length s < at + 2 + two s at → C) → C
-unfolding endsInside
+ends-where : (s : List ℕ) (at : ℕ) {C : Type 0} → ends_inside s at ≡ true → (length s < at + 2 → C) → (length s < at + 2 + two s at → C) → C
+unfolding ends_inside
 ends-where s at e in-length in_Body =
     split (ltb (length s) (at + 2))
     (λ t. in-length (ltb-true (length s) (at + 2) t))
-    (λ f. in_Body (omega (arith, two_is s at, ltb-true (length s) (at + 2 + getN 2 s at) (rw f at e))))
+    (λ f. in_Body (omega (arith, two_is s at, ltb-true (length s) (at + 2 + get_n 2 s at) (rw f at e))))
 
 module _ (s : List ℕ) where
   -- what holds where no rule before n is broken
   none_of : (n : ℕ) → (order 15 < order n → length s ≤ 60000) → (order 11 < order n → byte s 0 ≡ 1)
       → (order 12 < order n → 3 + two s 1 ≤ length s) → (order 13 < order n → two s 1 ≡ 6 + byte s 7)
-      → (order 14 < order n → SizesFit (sizesIn s)) → (m : ℕ) → order m < order n → HeadBroken s m → ⊥
+      → (order 14 < order n → SizesFit (sizes_in s)) → (m : ℕ) → order m < order n → HeadBroken s m → ⊥
   none_of n a b c d e m l (HeadBroken.long x) = omega (arith, a l)
   none_of n a b c d e m l (HeadBroken.empty x) = omega (arith, b l, get_or-eq_default s 0 {n = 0} (omega arith))
   none_of n a b c d e m l (HeadBroken.version x) = x (b l)
@@ -206,13 +206,13 @@ module _ (s : List ℕ) where
   none_of n a b c d e m l (HeadBroken.wrong-length x) = x (d l)
   none_of n a b c d e m l (HeadBroken.size x) = x (e l)
 
-  head-refused : (n : ℕ) → headRefusal s ≡ n → n ≢ 0 → FirstOf (HeadBroken s) n → HeadRead s (openedRead s)
-  unfolding openedRead
+  head-refused : (n : ℕ) → head_refusal s ≡ n → n ≢ 0 → FirstOf (HeadBroken s) n → HeadRead s (opened_read s)
+  unfolding opened_read
   head-refused n e d f =
       rw (e, ne_eqb n 0 d) (HeadRead.refused n f (record { found = refl; sized = refl; place = refl }))
 
-  pub head-is : HeadRead s (openedRead s)
-  unfolding openedRead lengthRefusal
+  pub head-is : HeadRead s (opened_read s)
+  unfolding opened_read length_refusal
   head-is =
       split (ltb 60000 (length s))
       (λ a. head-refused 15 (rw a) (λ z. omega arith)
@@ -225,7 +225,7 @@ module _ (s : List ℕ) where
       split (eqb (byte s 0) 1)
       (λ b.
       let version : byte s 0 ≡ 1 = eqb-true (byte s 0) 1 b in
-      split (endsInside s 1)
+      split (ends_inside s 1)
       (λ c.
       let before = none_of 12 (λ l. short) (λ l. version) (λ l. absurd (omega arith)) (λ l. absurd (omega arith)) (λ l. absurd (omega arith)) in
       head-refused 12 (rw (a, b, c)) (λ z. omega arith)
@@ -234,25 +234,25 @@ module _ (s : List ℕ) where
       (λ l. record { broken = HeadBroken.in_Body l; none_before = before })))
       (λ c.
       let within : 3 + two s 1 ≤ length s = omega (arith, two_is s 1, whole s 1 c) in
-      split (eqb (getN 2 s 1) (6 + byte s 7))
+      split (eqb (get_n 2 s 1) (6 + byte s 7))
       (λ d.
-      let sized : getN 2 s 1 ≡ 6 + byte s 7 = eqb-true (getN 2 s 1) (6 + byte s 7) d in
+      let sized : get_n 2 s 1 ≡ 6 + byte s 7 = eqb-true (get_n 2 s 1) (6 + byte s 7) d in
       let right : two s 1 ≡ 6 + byte s 7 = sym (two_is s 1) ∙ sized in
-      split (sizesFit (headSizes s))
+      split (sizes_fit (head_sizes s))
       (λ e.
-      let limits : SizesFit (sizesIn s) = fit-limits (sizesIn s) (rw (head-sizes s sized) at e) in
+      let limits : SizesFit (sizes_in s) = fit-limits (sizes_in s) (rw (head-sizes s sized) at e) in
       rw (a, b, c, d, e)
       (HeadRead.opened
       (λ n x. none_of 16 (λ l. short) (λ l. version) (λ l. within) (λ l. right) (λ l. limits) n (order-under n (numbers-head x).1) x)
       (record { found = refl; sized = head-sizes s sized; place = omega arith })))
       (λ e. head-refused 14 (rw (a, b, c, d, e)) (λ z. omega arith)
       (record {
-        broken = HeadBroken.size (out-of-limits (sizesIn s) (rw (head-sizes s sized) at e));
+        broken = HeadBroken.size (out-of-limits (sizes_in s) (rw (head-sizes s sized) at e));
         none_before = none_of 14 (λ l. short) (λ l. version) (λ l. within) (λ l. right) (λ l. absurd (omega arith));
       })))
       (λ d. head-refused 13 (rw (a, b, c, d)) (λ z. omega arith)
       (record {
-        broken = HeadBroken.wrong-length (λ q. eqb-false (getN 2 s 1) (6 + byte s 7) d (two_is s 1 ∙ q));
+        broken = HeadBroken.wrong-length (λ q. eqb-false (get_n 2 s 1) (6 + byte s 7) d (two_is s 1 ∙ q));
         none_before = none_of 13 (λ l. short) (λ l. version) (λ l. within) (λ l. absurd (omega arith)) (λ l. absurd (omega arith));
       }))))
       (λ b. head-refused 11 (rw (a, b)) (λ z. omega arith)
@@ -270,20 +270,20 @@ module _ (s : List ℕ) (at : ℕ) where
   none_here n a b m l (RecordBroken.in_Body x) = omega (arith, a l)
   none_here n a b m l (RecordBroken.wrong-length x) = x (b l)
 
-  record-refused : (n : ℕ) → at ≢ length s → stepRefusal s at ≡ n → n ≢ 0 → FirstOf (RecordBroken s at) n → LaterRead s at (steppedRead s at)
-  unfolding steppedRead
+  record-refused : (n : ℕ) → at ≢ length s → step_refusal s at ≡ n → n ≢ 0 → FirstOf (RecordBroken s at) n → LaterRead s at (stepped_read s at)
+  unfolding stepped_read
   record-refused n here e d f =
       rw (ne_eqb at (length s) here, e, ne_eqb n 0 d)
       (LaterRead.refused here n (number_at at) f (number_is at) (record { found = refl; sized = refl; place = refl }))
 
-  pub later-is : LaterRead s at (steppedRead s at)
-  unfolding steppedRead stepRefusal
+  pub later-is : LaterRead s at (stepped_read s at)
+  unfolding stepped_read step_refusal
   later-is =
       split (eqb at (length s))
       (λ z. rw z (LaterRead.ended (eqb-true at (length s) z) (record { found = refl; sized = refl; place = refl })))
       (λ z.
       let here : at ≢ length s = eqb-false at (length s) z in
-      split (endsInside s at)
+      split (ends_inside s at)
       (λ a.
       let before = none_here 12 (λ l. absurd (omega arith)) (λ l. absurd (omega arith)) in
       record-refused 12 here (rw a) (λ n. omega arith)
@@ -292,24 +292,24 @@ module _ (s : List ℕ) (at : ℕ) where
       (λ l. record { broken = RecordBroken.in_Body l; none_before = before })))
       (λ a.
       let within : at + 2 + two s at ≤ length s = omega (arith, two_is s at, whole s at a) in
-      split (eqb (getN 2 s at) 11)
+      split (eqb (get_n 2 s at) 11)
       (λ b.
-      let right : two s at ≡ 11 = sym (two_is s at) ∙ eqb-true (getN 2 s at) 11 b in
+      let right : two s at ≡ 11 = sym (two_is s at) ∙ eqb-true (get_n 2 s at) 11 b in
       rw (z, a, b)
       (LaterRead.stepped here
       (λ n x. none_here 16 (λ l. within) (λ l. right) n (order-under n (numbers-record x).1) x)
       (record { found = step-said s at; sized = refl; place = refl })))
       (λ b. record-refused 13 here (rw (a, b)) (λ n. omega arith)
       (record {
-        broken = RecordBroken.wrong-length (λ q. eqb-false (getN 2 s at) 11 b (two_is s at ∙ q));
+        broken = RecordBroken.wrong-length (λ q. eqb-false (get_n 2 s at) 11 b (two_is s at ∙ q));
         none_before = none_here 13 (λ l. within) (λ l. absurd (omega arith));
       }))))
 
 -- ---- one read
 
 -- a read of any bytes, at any place, is what the paper tells of it
-pub read_is : (s : List ℕ) (at : ℕ) → ReadOf s at (nextRead s at)
-unfolding nextRead
+pub read_is : (s : List ℕ) (at : ℕ) → ReadOf s at (next_read s at)
+unfolding next_read
 read_is s at =
     split (eqb at 0)
     (λ z. rw z (ReadOf.head (eqb-true at 0 z) (head-is s)))
@@ -359,7 +359,7 @@ pub moved-is : (r : Reader) (x : Read) → ReadOf r.trace.now r.at x → moved r
 moved-is r x a =
     ap (λ (y : Read). record { trace = r.trace; at = y.next }) (read_one (read_is r.trace.now r.at) a)
 
-given-no : {r : Read} {c n : ℕ} {v : List ℕ} {z : Sizes} → Gives r (record { code = c; gives = 0; values = v }) z n → (foundSaid r.found).gives ≡ 0
+given-no : {r : Read} {c n : ℕ} {v : List ℕ} {z : Sizes} → Gives r (record { code = c; gives = 0; values = v }) z n → (found_said r.found).gives ≡ 0
 given-no g = ap (λ (x : Said). x.gives) g.found
 
 -- where a reader stands after records: behind record 0 and so many later ones
@@ -374,7 +374,7 @@ opened-stands : {s : List ℕ} {at : ℕ} → ((n : ℕ) → HeadBroken s n → 
 opened-stands {s} none e =
     let short : length s ≤ 60000 = in-or-out 60000 (length s) (λ l. absurd (none 15 (HeadBroken.long l))) (λ l. l) in
     let few : byte s 7 ≤ 4 =
-    in-or-out 4 (byte s 7) (λ l. absurd (none 14 (HeadBroken.size (λ (g : SizesFit (sizesIn s)). omega (arith, g.mailboxes))))) (λ l. l) in
+    in-or-out 4 (byte s 7) (λ l. absurd (none 14 (HeadBroken.size (λ (g : SizesFit (sizes_in s)). omega (arith, g.mailboxes))))) (λ l. l) in
     let sized : two s 1 ≡ 6 + byte s 7 = same_or (two s 1) (6 + byte s 7) (λ q. q) (λ q. absurd (none 13 (HeadBroken.wrong-length q))) in
     let body : 3 + two s 1 ≤ length s =
     in-or-out (length s) (3 + two s 1) (λ l. absurd (none 12 (HeadBroken.in_Body l))) (λ l. l) in

@@ -1,4 +1,4 @@
--- A step is refused with the number of the first rule that it breaks, and accepted exactly if it breaks none: each test of `refusalOf`
+-- A step is refused with the number of the first rule that it breaks, and accepted exactly if it breaks none: each test of `refusal_of`
 -- fails just where its rule of Paper/Refusals is broken.
 use Rattle.std.specs.Prelude.{ℕ, ◌≤◌, ◌<◌, ◌≡◌, refl, ◌≢◌, ◌⊎◌, Bool, true, false, cond, not, ◌||◌, eqb, leb, length}
 use Rattle.std.proofs.Common.{arith, ◌∙◌, inl, inr, eqb-true, ne_eqb, leb-true, leb-false, le-leb, lt-ltb, le-ltb}
@@ -6,21 +6,21 @@ use Rattle.std.proofs.lemmas.Bool.{eqb-false, lt-leb, not-true, not-false}
 use Rattle.kernel.specs.declared.clock.Clock.{Clock}
 use Rattle.kernel.specs.Numbers.{nobody, infinite}
 use Rattle.kernel.specs.Time.{differed}
-use Rattle.kernel.specs.Tables.{holderAt}
-use Rattle.kernel.specs.Waiters.{firstReady}
-use Rattle.kernel.specs.Walk.{firstFrom}
+use Rattle.kernel.specs.Tables.{holder_at}
+use Rattle.kernel.specs.Waiters.{first_ready}
+use Rattle.kernel.specs.Walk.{first_from}
 use Rattle.kernel.proofs.Cases.{next, split, same_or, in-or-out, contrary, both_true, both-means, second-fails}
 use Rattle.kernel.proofs.WalkLaws.{Least, first-cases}
 use Rattle.library.specs.declared.calls.Step.{Step}
 use Rattle.library.specs.declared.sizes.Sizes.{Sizes}
 use Rattle.library.specs.declared.tables.Plant.{Plant}
 use Rattle.library.specs.declared.tables.Tables.{Tables}
-use Rattle.library.specs.Tables.{opened, poolAt}
-use Rattle.library.specs.Pool.{absent, out, markAt}
-use Rattle.library.specs.Acting.{kernelWaits}
-use Rattle.library.specs.Settling.{isBoxCall}
-use Rattle.rules.specs.Hanging.{hangsTogether}
-use Rattle.steps.specs.Refusal.{kindFits, callerFits, contextFits, objectLimit, isSpan, valueFits, stateFits, refusalOf}
+use Rattle.library.specs.Tables.{opened, pool_at}
+use Rattle.library.specs.Pool.{absent, out, mark_at}
+use Rattle.library.specs.Acting.{kernel_waits}
+use Rattle.library.specs.Settling.{is_box_call}
+use Rattle.rules.specs.Hanging.{hangs_together}
+use Rattle.steps.specs.Refusal.{kind_fits, caller_fits, context_fits, object_limit, is_span, value_fits, state_fits, refusal_of}
 use Rattle.promises.specs.Together.Tests.{either-means, neither-means}
 use Rattle.promises.specs.Together.Good.{Good}
 use Rattle.promises.specs.Together.Hanging.{test-hangs, hangs-test}
@@ -35,16 +35,16 @@ use Rattle.promises.specs.Meant.Only.{first-only}
 
 -- how many objects of its sort there are, by kind
 module _ (z : Sizes) (k : ℕ) where
-  limit-semaphores : 2 ≤ k → k ≤ 5 → objectLimit z k ≡ z.semaphores
+  limit-semaphores : 2 ≤ k → k ≤ 5 → object_limit z k ≡ z.semaphores
   limit-semaphores a b = rw (lt-leb k 1 (omega arith), le-leb k 5 b)
 
-  limit-queues : 6 ≤ k → k ≤ 8 → objectLimit z k ≡ z.queues
+  limit-queues : 6 ≤ k → k ≤ 8 → object_limit z k ≡ z.queues
   limit-queues a b = rw (lt-leb k 1 (omega arith), lt-leb k 5 (omega arith), le-leb k 8 b)
 
-  limit-references : 9 ≤ k → k ≤ 10 → objectLimit z k ≡ z.references
+  limit-references : 9 ≤ k → k ≤ 10 → object_limit z k ≡ z.references
   limit-references a b = rw (lt-leb k 1 (omega arith), lt-leb k 5 (omega arith), lt-leb k 8 (omega arith), le-leb k 10 b)
 
-  beyond : 15 ≤ k → objectLimit z k ≡ cond (leb k 19) z.mailboxes z.pools
+  beyond : 15 ≤ k → object_limit z k ≡ cond (leb k 19) z.mailboxes z.pools
   beyond a =
       rw (
         lt-leb k 1 (omega arith),
@@ -55,13 +55,13 @@ module _ (z : Sizes) (k : ℕ) where
         lt-leb k 14 (omega arith),
       )
 
-  limit-mailboxes : 15 ≤ k → k ≤ 19 → objectLimit z k ≡ z.mailboxes
+  limit-mailboxes : 15 ≤ k → k ≤ 19 → object_limit z k ≡ z.mailboxes
   limit-mailboxes a b = beyond a ∙ rw (le-leb k 19 b)
 
-  limit-pools : 20 ≤ k → objectLimit z k ≡ z.pools
+  limit-pools : 20 ≤ k → object_limit z k ≡ z.pools
   limit-pools a = beyond (omega arith) ∙ rw (lt-leb k 19 a)
 
-  limit-none : 11 ≤ k → k ≤ 14 → k ≢ 13 → objectLimit z k ≡ 256
+  limit-none : 11 ≤ k → k ≤ 14 → k ≢ 13 → object_limit z k ≡ 256
   limit-none a b d =
       rw (
         lt-leb k 1 (omega arith),
@@ -72,7 +72,7 @@ module _ (z : Sizes) (k : ℕ) where
         le-leb k 14 b,
       )
 
-kernel-wait : (n : ℕ) → KernelWait n → kernelWaits n ≡ true
+kernel-wait : (n : ℕ) → KernelWait n → kernel_waits n ≡ true
 kernel-wait n (inl e) = rw e
 kernel-wait n (inr (inl e)) = rw e
 kernel-wait n (inr (inr (inl e))) = rw e
@@ -84,24 +84,24 @@ kernel-wait n (inr (inr (inr (inr (inr e))))) = rw e
 one_of : {A : Type 0} (n k : ℕ) (b : Bool) → (b ≡ true → A) → eqb n k || b ≡ true → (n ≡ k) ⊎ A
 one_of n k b f e = elim (either-means (eqb n k) b e) [ inl h ↦ inl (eqb-true n k h) | inr h ↦ inr (f h) ]
 
-waits-kernel : (n : ℕ) → kernelWaits n ≡ true → KernelWait n
+waits-kernel : (n : ℕ) → kernel_waits n ≡ true → KernelWait n
 waits-kernel n =
     one_of n 2 _ (one_of n 6 _ (one_of n 9 _ (one_of n 11 _ (one_of n 12 _ (eqb-true n 14)))))
 
-calls-box : (n : ℕ) → isBoxCall n ≡ true → BoxWait n
+calls-box : (n : ℕ) → is_box_call n ≡ true → BoxWait n
 calls-box n = one_of n 15 _ (one_of n 16 _ (one_of n 17 _ (eqb-true n 20)))
 
-box-call : (n : ℕ) → BoxWait n → (isBoxCall n ≡ true) × (kernelWaits n ≡ false)
+box-call : (n : ℕ) → BoxWait n → (is_box_call n ≡ true) × (kernel_waits n ≡ false)
 box-call n (inl e) = rw e (refl, refl)
 box-call n (inr (inl e)) = rw e (refl, refl)
 box-call n (inr (inr (inl e))) = rw e (refl, refl)
 box-call n (inr (inr (inr e))) = rw e (refl, refl)
 
-no_span : (d : ℕ) → NoSpan d → isSpan d ≡ false
+no_span : (d : ℕ) → NoSpan d → is_span d ≡ false
 no_span d (inl e) = rw e
 no_span d (inr h) = second-fails (leb 1 d) (le-ltb d infinite h)
 
-span-not : (d : ℕ) → isSpan d ≡ false → NoSpan d
+span-not : (d : ℕ) → is_span d ≡ false → NoSpan d
 span-not d e =
     same_or d 0 inl
     (λ n. inr (in-or-out d 4294967295 (λ h. contrary (both_true (le-leb 1 d (omega arith)) (lt-ltb d infinite h)) e) (λ h. h)))
@@ -111,7 +111,7 @@ module _ (t : Tables) (c : Clock) (s : Step) where
   p = opened t
 
   abbrev r : ℕ
-  r = firstReady p.kernel
+  r = first_ready p.kernel
 
   -- the running thread is the first ready one
   first_runs : Good p → s.caller ≢ 255 → s.caller ≡ r → First (world t) s.caller
@@ -131,33 +131,33 @@ module _ (t : Tables) (c : Clock) (s : Step) where
   -- the test of each rule
   abbrev passes : ℕ → Bool
   passes n =
-      cond (eqb n 1) (hangsTogether p c)
-      (cond (eqb n 2) (kindFits s.kind)
-      (cond (eqb n 3) (callerFits r s.caller)
-      (cond (eqb n 4) (contextFits s)
-      (cond (eqb n 5) (not (leb (objectLimit p.sizes s.kind) s.object))
-      (cond (eqb n 6) (valueFits c.time s) (cond (eqb n 7) (stateFits p.kernel.references p.pools s) true))))))
+      cond (eqb n 1) (hangs_together p c)
+      (cond (eqb n 2) (kind_fits s.kind)
+      (cond (eqb n 3) (caller_fits r s.caller)
+      (cond (eqb n 4) (context_fits s)
+      (cond (eqb n 5) (not (leb (object_limit p.sizes s.kind) s.object))
+      (cond (eqb n 6) (value_fits c.time s) (cond (eqb n 7) (state_fits p.kernel.references p.pools s) true))))))
 
   -- the refusal is the first number whose rule fails, or 0
   abbrev found : ℕ
-  found = firstFrom (λ n. not (passes n)) 0 8
+  found = first_from (λ n. not (passes n)) 0 8
 
-  refusal-found : refusalOf p c s ≡ cond (eqb found nobody) 0 found
-  unfolding refusalOf firstFrom
+  refusal-found : refusal_of p c s ≡ cond (eqb found nobody) 0 found
+  unfolding refusal_of first_from
   refusal-found =
-      split (hangsTogether p c)
+      split (hangs_together p c)
       (λ e1. rw e1
-      (split (kindFits s.kind)
+      (split (kind_fits s.kind)
       (λ e2. rw e2
-      (split (callerFits r s.caller)
+      (split (caller_fits r s.caller)
       (λ e3. rw e3
-      (split (contextFits s)
+      (split (context_fits s)
       (λ e4. rw e4
-      (split (leb (objectLimit p.sizes s.kind) s.object)
+      (split (leb (object_limit p.sizes s.kind) s.object)
       (λ e5. rw e5)
       (λ e5. rw e5
-      (split (valueFits c.time s)
-      (λ e6. rw e6 (split (stateFits p.kernel.references p.pools s) (λ e7. rw e7) (λ e7. rw e7)))
+      (split (value_fits c.time s)
+      (λ e6. rw e6 (split (state_fits p.kernel.references p.pools s) (λ e7. rw e7) (λ e7. rw e7)))
       (λ e6. rw e6)))))
       (λ e4. rw e4)))
       (λ e3. rw e3)))
@@ -166,7 +166,7 @@ module _ (t : Tables) (c : Clock) (s : Step) where
 
   -- a rule that is broken fails its test
   broken-fails : {n : ℕ} → (n ≡ 3 → Good p) → Broken t c s n → passes n ≡ false
-  broken-fails good (Broken.tables h) = split (hangsTogether p c) (λ e. absurd (h (rules-together t c (test-hangs p c e)))) (λ e. e)
+  broken-fails good (Broken.tables h) = split (hangs_together p c) (λ e. absurd (h (rules-together t c (test-hangs p c e)))) (λ e. e)
   broken-fails good (Broken.no_kind e) = rw e
   broken-fails good (Broken.other-kind h) = second-fails (leb 1 s.kind) (lt-leb s.kind 22 h)
   broken-fails good (Broken.caller a b) = rw (ne_eqb s.caller 255 a, ne_eqb s.caller r (λ e. b (first_runs (good refl) a e)))
@@ -185,34 +185,34 @@ module _ (t : Tables) (c : Clock) (s : Step) where
   broken-fails good (Broken.mask e z) = rw (e, z)
   broken-fails good (Broken.sleep-for e d) = rw (e, no_span s.timeout d)
   broken-fails good (Broken.sleep-until e d) = rw (e, no_span (differed c.time (record { 0 = s.a })).0 d)
-  broken-fails good (Broken.suspend e d) = rw (e, ne_eqb (holderAt p.kernel s.object) 255 d)
-  broken-fails good (Broken.free e h d) = rw (e, object-byte s h, ne_eqb (markAt (poolAt p s.object) s.a) out d)
-  broken-fails good (Broken.add e h d) = rw (e, object-byte s h, ne_eqb (markAt (poolAt p s.object) s.a) absent d)
+  broken-fails good (Broken.suspend e d) = rw (e, ne_eqb (holder_at p.kernel s.object) 255 d)
+  broken-fails good (Broken.free e h d) = rw (e, object-byte s h, ne_eqb (mark_at (pool_at p s.object) s.a) out d)
+  broken-fails good (Broken.add e h d) = rw (e, object-byte s h, ne_eqb (mark_at (pool_at p s.object) s.a) absent d)
 
   -- ---- and a test that fails has its rule broken
 
-  kind-broken : kindFits s.kind ≡ false → Broken t c s 2
+  kind-broken : kind_fits s.kind ≡ false → Broken t c s 2
   kind-broken e =
       same_or s.kind 0 Broken.no_kind
       (λ d. in-or-out 22 s.kind Broken.other-kind
       (λ h. contrary (both_true (le-leb 1 s.kind (omega arith)) (le-leb s.kind 22 h)) e))
 
-  caller-broken : Good p → callerFits r s.caller ≡ false → Broken t c s 3
+  caller-broken : Good p → caller_fits r s.caller ≡ false → Broken t c s 3
   caller-broken good e =
       let x = neither-means (eqb s.caller nobody) (eqb s.caller r) e in
       Broken.caller (eqb-false s.caller nobody x.0) (λ f. eqb-false s.caller r x.1 (runs-first good f))
 
-  context-broken : contextFits s ≡ false → Broken t c s 4
+  context-broken : context_fits s ≡ false → Broken t c s 4
   context-broken e =
       split (eqb s.caller nobody)
       (λ a.
       let i = eqb-true s.caller nobody a in
-      split (kernelWaits s.kind) (λ k. Broken.wait i (waits-kernel s.kind k))
-      (λ k. split (isBoxCall s.kind) (λ b. Broken.box-wait i (calls-box s.kind b) (eqb-false s.timeout 0 (rw (a, k, b) at e)))
+      split (kernel_waits s.kind) (λ k. Broken.wait i (waits-kernel s.kind k))
+      (λ k. split (is_box_call s.kind) (λ b. Broken.box-wait i (calls-box s.kind b) (eqb-false s.timeout 0 (rw (a, k, b) at e)))
       (λ b. contrary refl (rw (a, k, b) at e))))
       (λ a. Broken.tick (eqb-false s.caller nobody a) (eqb-true s.kind 1 (not-false (eqb s.kind 1) (rw a at e))))
 
-  object-broken : s.object < 256 → kindFits s.kind ≡ true → objectLimit p.sizes s.kind ≤ s.object → Broken t c s 5
+  object-broken : s.object < 256 → kind_fits s.kind ≡ true → object_limit p.sizes s.kind ≤ s.object → Broken t c s 5
   object-broken byte fits h =
       let k = s.kind in
       let z = p.sizes in
@@ -226,7 +226,7 @@ module _ (t : Tables) (c : Clock) (s : Step) where
       (λ g. in-or-out k 20 (λ l. Broken.mailbox g (omega arith) (rw (limit-mailboxes z k g (omega arith)) at h))
       (λ l. Broken.pool l top (rw (limit-pools z k l) at h)))))))
 
-  value-broken : valueFits c.time s ≡ false → Broken t c s 6
+  value-broken : value_fits c.time s ≡ false → Broken t c s 6
   value-broken h =
       let k = s.kind in
       same_or k 4 (λ e. Broken.reset e (leb-false s.a 2147483647 (rw e at h)))
@@ -242,18 +242,18 @@ module _ (t : Tables) (c : Clock) (s : Step) where
       none : s.a < 1 → s.a ≡ 0
       none l = omega arith
 
-  state-broken : valueFits c.time s ≡ true → stateFits p.kernel.references p.pools s ≡ false → Broken t c s 7
+  state-broken : value_fits c.time s ≡ true → state_fits p.kernel.references p.pools s ≡ false → Broken t c s 7
   state-broken v h =
       let k = s.kind in
-      same_or k 9 (λ e. Broken.suspend e (eqb-false (holderAt p.kernel s.object) nobody (rw e at h)))
+      same_or k 9 (λ e. Broken.suspend e (eqb-false (holder_at p.kernel s.object) nobody (rw e at h)))
       (λ n9. same_or k 21
       (λ e.
       let l = leb-true s.a 31 (rw e at v) in
-      Broken.free e l (eqb-false (markAt (poolAt p s.object) s.a) out (rw (e, object-byte s l) at h)))
+      Broken.free e l (eqb-false (mark_at (pool_at p s.object) s.a) out (rw (e, object-byte s l) at h)))
       (λ n21. same_or k 22
       (λ e.
       let l = leb-true s.a 31 (rw e at v) in
-      Broken.add e l (eqb-false (markAt (poolAt p s.object) s.a) absent (rw (e, object-byte s l) at h)))
+      Broken.add e l (eqb-false (mark_at (pool_at p s.object) s.a) absent (rw (e, object-byte s l) at h)))
       (λ n22. contrary refl (rw (ne_eqb k 9 n9, ne_eqb k 21 n21, ne_eqb k 22 n22) at h))))
 
   -- the rule of a number whose test is the first to fail
@@ -267,9 +267,9 @@ module _ (t : Tables) (c : Clock) (s : Step) where
       (λ a6. next n 6 a6 (λ e. rw e (value-broken (rw e at h)))
       (λ a7. let e : n ≡ 7 = omega arith in rw e (state-broken (before 6 (omega arith)) (rw e at h))))))))
     where
-      over : not (leb (objectLimit p.sizes s.kind) s.object) ≡ false → objectLimit p.sizes s.kind ≤ s.object
+      over : not (leb (object_limit p.sizes s.kind) s.object) ≡ false → object_limit p.sizes s.kind ≤ s.object
       over e =
-          let limit = objectLimit p.sizes s.kind in
+          let limit = object_limit p.sizes s.kind in
           leb-true limit s.object (not-false (leb limit s.object) e)
 
   -- there is no eighth rule
@@ -297,7 +297,7 @@ module _ (t : Tables) (c : Clock) (s : Step) (rows : length t.kernel.threads ≡
   good-then e = (test-hangs (opened t) c e).good
 
   -- "Refusal numbers, in the order of checking"
-  pub first-broken : FirstBroken t c s (refusalOf (opened t) c s)
+  pub first-broken : FirstBroken t c s (refusal_of (opened t) c s)
   first-broken =
       rw (refusal-found t c s)
       (elim (first-cases (λ n. not (passes t c s n)) 8) [

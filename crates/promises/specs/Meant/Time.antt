@@ -13,8 +13,8 @@ use Rattle.kernel.specs.declared.units.Rate.TheVariants.{Given, Standard}
 use Rattle.kernel.specs.declared.units.Ticks.{Ticks}
 use Rattle.kernel.specs.declared.units.Units.{Units}
 use Rattle.kernel.specs.Time.{added, differed, in_range, advanced}
-use Rattle.kernel.specs.Clock.{tickedClock}
-use Rattle.kernel.specs.Units.{perSecond, frequencyOf, frequencyFits, roundedUp, inTicks, ofTicks}
+use Rattle.kernel.specs.Clock.{ticked_clock}
+use Rattle.kernel.specs.Units.{per_second, frequency_of, frequency_fits, rounded_up, in_ticks, of_ticks}
 use Rattle.kernel.proofs.Cases.{split, in-or-out, both_true, both-means, contrary}
 use Rattle.kernel.proofs.UnitsLaws.{round-up-covers, round-up-least}
 use Rattle.promises.specs.Paper.Time.{
@@ -23,8 +23,8 @@ use Rattle.promises.specs.Paper.Time.{
   RangeOf,
   TimeAfter,
   ClockTick,
-  inSecond,
-  ticksInSecond,
+  in_second,
+  ticks_in_second,
   Possible,
   RoundedUp,
   TicksOf,
@@ -92,7 +92,7 @@ advance-one (TimeAfter.next a b) (TimeAfter.wraps c d) = absurd (omega arith)
 advance-one (TimeAfter.wraps a b) (TimeAfter.next c d) = absurd (omega arith)
 advance-one {t} {r} {q} (TimeAfter.wraps a b) (TimeAfter.wraps c d) = same-time r q (omega arith)
 
-pub clock-is : (c : Clock) → c.time.0 < 4294967296 → ClockTick c (tickedClock c)
+pub clock-is : (c : Clock) → c.time.0 < 4294967296 → ClockTick c (ticked_clock c)
 clock-is c h = record { time = advance-is c.time h; frequency = refl }
 
 pub clock-one : {c d e : Clock} → ClockTick c d → ClockTick c e → d ≡ e
@@ -101,39 +101,39 @@ clock-one {c} {d} {e} a b =
 
 -- ---- conversions
 
-some-in-second : (u : Unit) → 0 < inSecond u
+some-in-second : (u : Unit) → 0 < in_second u
 some-in-second Seconds = omega arith
 some-in-second Milliseconds = omega arith
 some-in-second Microseconds = omega arith
 
 -- how many of a unit make a second, and how many ticks
-pub same-unit : (u : Unit) → perSecond u ≡ inSecond u
+pub same-unit : (u : Unit) → per_second u ≡ in_second u
 same-unit Seconds = refl
 same-unit Milliseconds = refl
 same-unit Microseconds = refl
 
-pub same-rate : (r : Rate) → frequencyOf r ≡ ticksInSecond r
+pub same-rate : (r : Rate) → frequency_of r ≡ ticks_in_second r
 same-rate (Given f) = refl
 same-rate Standard = refl
 
 -- the code's test of a frequency passes exactly where it is possible
-pub possible-fits : (f : ℕ) → frequencyFits f ≡ true → Possible f
+pub possible-fits : (f : ℕ) → frequency_fits f ≡ true → Possible f
 possible-fits f e =
     let b = both-means (leb 1 f) (leb f 1000000) e in
     record { low = leb-true 1 f b.0; high = leb-true f 1000000 b.1 }
 
-pub fits-possible : (f : ℕ) → Possible f → frequencyFits f ≡ true
+pub fits-possible : (f : ℕ) → Possible f → frequency_fits f ≡ true
 fits-possible f p = both_true (le-leb 1 f p.low) (le-leb f 1000000 p.high)
 
 -- a quotient rounded up is the least number that covers: with one less it would be n * b < a + b
-rounded-is : (a b : ℕ) → 0 < b → RoundedUp a b (roundedUp a b)
+rounded-is : (a b : ℕ) → 0 < b → RoundedUp a b (rounded_up a b)
 rounded-is a b some = record { covers = round-up-covers a b some; least = least }
   where
-    least : (m : ℕ) → a ≤ m * b → roundedUp a b ≤ m
+    least : (m : ℕ) → a ≤ m * b → rounded_up a b ≤ m
     least m h =
-        in-or-out m (roundedUp a b)
+        in-or-out m (rounded_up a b)
         (λ l.
-        let more : suc m * b ≤ roundedUp a b * b = mul-le-mul_right b l in
+        let more : suc m * b ≤ rounded_up a b * b = mul-le-mul_right b l in
         absurd (omega (arith, round-up-least a b some)))
         (λ l. l)
 
@@ -146,14 +146,14 @@ same-ticks a b c e = ap₂ (λ (k n : ℕ). record { code = k; interval = record
 same_units : (a b : Units) → a.code ≡ b.code → a.value ≡ b.value → a ≡ b
 same_units a b c e = ap₂ (λ (k n : ℕ). record { code = k; value = n }) c e
 
-pub ticks-is : (u : Unit) (x : ℕ) (rate : Rate) → TicksOf u x rate (inTicks u x rate)
-unfolding inTicks
+pub ticks-is : (u : Unit) (x : ℕ) (rate : Rate) → TicksOf u x rate (in_ticks u x rate)
+unfolding in_ticks
 ticks-is u x rate =
-    let f : ℕ = ticksInSecond rate in
-    let n : ℕ = roundedUp (x * f) (inSecond u) in
-    let up : RoundedUp (x * f) (inSecond u) n = rounded-is (x * f) (inSecond u) (some-in-second u) in
+    let f : ℕ = ticks_in_second rate in
+    let n : ℕ = rounded_up (x * f) (in_second u) in
+    let up : RoundedUp (x * f) (in_second u) n = rounded-is (x * f) (in_second u) (some-in-second u) in
     rw (same-rate rate, same-unit u)
-    (split (frequencyFits f)
+    (split (frequency_fits f)
     (λ e. rw e
     (split (ltb n 4294967295)
     (λ l. rw l (TicksOf.ticks (possible-fits f e) n up (omega (arith, ltb-true n 4294967295 l)) refl refl))
@@ -172,7 +172,7 @@ ticks-one {r = r} {q = q} (TicksOf.ticks p n g h b c) (TicksOf.too_long p' m k l
 ticks-one {r = r} {q = q} (TicksOf.ticks p n g h b c) (TicksOf.ticks p' m k l d e) = same-ticks r q (omega arith) (omega (arith, rounded-one g k))
 
 -- 4294967294 ticks are at most 4294967294 times a million microseconds
-narrow : (u : Unit) → inSecond u ≤ 1000000
+narrow : (u : Unit) → in_second u ≤ 1000000
 narrow Seconds = omega arith
 narrow Milliseconds = omega arith
 narrow Microseconds = omega arith
@@ -183,21 +183,21 @@ wide d p f n hd hp hf up =
     let more : d * p * 1 ≤ d * p * f = mul-le-mul_left (d * p) hf in
     omega (arith, up.least (d * p) (omega arith))
 
-pub units-is : (u : Unit) (d : Interval) (rate : Rate) → d.0 < 4294967296 → UnitsOf u d rate (ofTicks u d rate)
-unfolding ofTicks
+pub units-is : (u : Unit) (d : Interval) (rate : Rate) → d.0 < 4294967296 → UnitsOf u d rate (of_ticks u d rate)
+unfolding of_ticks
 units-is u d rate h =
-    let f : ℕ = ticksInSecond rate in
-    let n : ℕ = roundedUp (d.0 * inSecond u) f in
+    let f : ℕ = ticks_in_second rate in
+    let n : ℕ = rounded_up (d.0 * in_second u) f in
     rw (same-rate rate, same-unit u)
-    (split (frequencyFits f)
+    (split (frequency_fits f)
     (λ e. rw e
     (let p : Possible f = possible-fits f e in
-    let up : RoundedUp (d.0 * inSecond u) f n = rounded-is (d.0 * inSecond u) f p.low in
+    let up : RoundedUp (d.0 * in_second u) f n = rounded-is (d.0 * in_second u) f p.low in
     split (eqb d.0 4294967295)
     (λ l. rw l (UnitsOf.infinite p (eqb-true d.0 4294967295 l) refl refl))
     (λ l. rw l
     (let less : d.0 < 4294967295 = in-or-out d.0 4294967295 (λ i. i) (λ i. absurd (eqb-false d.0 4294967295 l (omega arith))) in
-    UnitsOf.units p less n up (wide d.0 (inSecond u) f n less (narrow u) p.low up) refl refl))))
+    UnitsOf.units p less n up (wide d.0 (in_second u) f n less (narrow u) p.low up) refl refl))))
     (λ e. rw e (UnitsOf.no-frequency (λ p. contrary (fits-possible f p) e) refl refl)))
 
 pub units-one : {u : Unit} {d : Interval} {rate : Rate} {r q : Units} → UnitsOf u d rate r → UnitsOf u d rate q → r ≡ q

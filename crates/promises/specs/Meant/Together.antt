@@ -6,8 +6,8 @@ use Rattle.kernel.specs.declared.records.Call.{Call}
 use Rattle.kernel.specs.declared.records.Thread.{Thread}
 use Rattle.kernel.specs.declared.records.Kernel.{Kernel}
 use Rattle.kernel.specs.Walk.{count_of}
-use Rattle.kernel.specs.Tables.{threadAt, counterAt}
-use Rattle.kernel.specs.Waiters.{firstReady}
+use Rattle.kernel.specs.Tables.{thread_at, counter_at}
+use Rattle.kernel.specs.Waiters.{first_ready}
 use Rattle.kernel.proofs.Cases.{split, same_or, contrary}
 use Rattle.kernel.proofs.WalkLaws.{count-agree}
 use Rattle.kernel.proofs.TablesLaws.{thread-blank, used_all as rows-used}
@@ -17,11 +17,11 @@ use Rattle.library.specs.declared.sizes.Sizes.{Sizes}
 use Rattle.library.specs.declared.tables.Pool.{Pool}
 use Rattle.library.specs.declared.tables.Tables.{Tables}
 use Rattle.library.specs.Signs.{same, minus}
-use Rattle.library.specs.Calls.{keepsOperand}
+use Rattle.library.specs.Calls.{keeps_operand}
 use Rattle.library.specs.Tables.{opened}
-use Rattle.rules.specs.RowRules.{callLimit, waitState, waitPlace}
-use Rattle.rules.specs.PlaceRules.{queuedCount}
-use Rattle.rules.specs.PoolRules.{promisedCount, occurrences}
+use Rattle.rules.specs.RowRules.{call_limit, wait_state, wait_place}
+use Rattle.rules.specs.PlaceRules.{queued_count}
+use Rattle.rules.specs.PoolRules.{promised_count, occurrences}
 use Rattle.promises.specs.Paper.World.{World, found}
 use Rattle.promises.specs.Paper.Together.{
   SizesFit,
@@ -31,12 +31,12 @@ use Rattle.promises.specs.Paper.Together.{
   AwaitedFit,
   ThreadFits,
   number,
-  isQueued,
+  is_queued,
   SemaphoreFits,
   QueueFits,
   larger,
   is_zero,
-  isPromised,
+  is_promised,
   listings,
   PoolFits,
   WordsAgree,
@@ -147,7 +147,7 @@ module _ (z : Sizes) (t : Thread) where
         (λ e. CallFits.alloc e (rw e at (g.object d)) (g.operand d (rw e)) h))
 
   -- and back
-  fits-object : CallFits z t.call → kind ≢ 0 → t.call.object < callLimit z kind
+  fits-object : CallFits z t.call → kind ≢ 0 → t.call.object < call_limit z kind
   fits-object (CallFits.none e) d = absurd (d (ap (λ (c : Call). c.kind) e))
   fits-object (CallFits.semaphore e o p h) d = rw e o
   fits-object (CallFits.queue e o p h) d = rw e o
@@ -185,7 +185,7 @@ module _ (z : Sizes) (t : Thread) where
   fits-timeout (CallFits.fetch e o p h) d = h
   fits-timeout (CallFits.alloc e o p h) d = h
 
-  fits-operand : CallFits z t.call → kind ≢ 0 → keepsOperand kind ≡ false → t.call.operand ≡ 0
+  fits-operand : CallFits z t.call → kind ≢ 0 → keeps_operand kind ≡ false → t.call.operand ≡ 0
   fits-operand (CallFits.none e) d n = ap (λ (c : Call). c.operand) e
   fits-operand (CallFits.semaphore e o p h) d n = p
   fits-operand (CallFits.queue e o p h) d n = p
@@ -215,13 +215,13 @@ module _ (z : Sizes) (t : Thread) where
   -- what a wait that fits says of one that is not ready
   pub record Unready : Type 0 where
     pub call : kind ≢ 0
-    pub state : t.state ≡ waitState kind
-    pub place : t.place ≡ waitPlace kind t.call.object
+    pub state : t.state ≡ wait_state kind
+    pub place : t.place ≡ wait_place kind t.call.object
 
   -- a wait, beside a call that fits
   module _ (f : CallFits z t.call) (s : GoodSizes z) where
-    limit : {n : ℕ} → kind ≡ n → n ≢ 0 → t.call.object < callLimit z n
-    limit e d = subst (λ (k : ℕ). t.call.object < callLimit z k) e (fits-object f (λ x. d (sym e ∙ x)))
+    limit : {n : ℕ} → kind ≡ n → n ≢ 0 → t.call.object < call_limit z n
+    limit e d = subst (λ (k : ℕ). t.call.object < call_limit z k) e (fits-object f (λ x. d (sym e ∙ x)))
 
     is : {n : ℕ} → kind ≡ n → n ≢ 0 → kind ≢ 0
     is e d x = d (sym e ∙ x)
@@ -426,31 +426,31 @@ module _ (t : Tables) (c : Clock) where
   n = t.sizes.threads
 
   module _ (s : GoodSizes t.sizes) where
-    queued-are : (p : ℕ) → number (isQueued w p) n ≡ queuedCount k n p
-    unfolding queuedCount
-    queued-are p = rw (rows-used n s.threads.1) (number-count (isQueued w p) n)
+    queued-are : (p : ℕ) → number (is_queued w p) n ≡ queued_count k n p
+    unfolding queued_count
+    queued-are p = rw (rows-used n s.threads.1) (number-count (is_queued w p) n)
 
-    pub promised-are : (q : ℕ) → number (isPromised w q) n ≡ promisedCount k n q
-    unfolding promisedCount
+    pub promised-are : (q : ℕ) → number (is_promised w q) n ≡ promised_count k n q
+    unfolding promised_count
     promised-are q =
         rw (rows-used n s.threads.1)
-        (number-count (isPromised w q) n
-        ∙ count-agree (isPromised w q) _ n (λ i l. rw (zero_same (threadAt k i).message)))
+        (number-count (is_promised w q) n
+        ∙ count-agree (is_promised w q) _ n (λ i l. rw (zero_same (thread_at k i).message)))
 
     -- a counter at a place, told by the place's number
-    pub at-semaphore : (p q : ℕ) → q ≡ p → SemaphoreCounter (counterAt k q) (queuedCount k n q)
-        → SemaphoreFits (w.counter p) (number (isQueued w p) n)
-    at-semaphore p q e g = rw (queued-are p) (semaphore-fits (counterAt k p) (queuedCount k n p) (rw e at g))
+    pub at-semaphore : (p q : ℕ) → q ≡ p → SemaphoreCounter (counter_at k q) (queued_count k n q)
+        → SemaphoreFits (w.counter p) (number (is_queued w p) n)
+    at-semaphore p q e g = rw (queued-are p) (semaphore-fits (counter_at k p) (queued_count k n p) (rw e at g))
 
-    pub at-queue : (p q : ℕ) → q ≡ p → QueueCounter (counterAt k q) (queuedCount k n q) → QueueFits (w.counter p) (number (isQueued w p) n)
-    at-queue p q e g = rw (queued-are p) (queue-fits (counterAt k p) (queuedCount k n p) (rw e at g))
+    pub at-queue : (p q : ℕ) → q ≡ p → QueueCounter (counter_at k q) (queued_count k n q) → QueueFits (w.counter p) (number (is_queued w p) n)
+    at-queue p q e g = rw (queued-are p) (queue-fits (counter_at k p) (queued_count k n p) (rw e at g))
 
-    pub of-semaphore : (p q : ℕ) → q ≡ p → SemaphoreFits (w.counter p) (number (isQueued w p) n)
-        → SemaphoreCounter (counterAt k q) (queuedCount k n q)
-    of-semaphore p q e f = rw e (fits-semaphore (counterAt k p) (queuedCount k n p) (rw (queued-are p) at f))
+    pub of-semaphore : (p q : ℕ) → q ≡ p → SemaphoreFits (w.counter p) (number (is_queued w p) n)
+        → SemaphoreCounter (counter_at k q) (queued_count k n q)
+    of-semaphore p q e f = rw e (fits-semaphore (counter_at k p) (queued_count k n p) (rw (queued-are p) at f))
 
-    pub of-queue : (p q : ℕ) → q ≡ p → QueueFits (w.counter p) (number (isQueued w p) n) → QueueCounter (counterAt k q) (queuedCount k n q)
-    of-queue p q e f = rw e (fits-queue (counterAt k p) (queuedCount k n p) (rw (queued-are p) at f))
+    pub of-queue : (p q : ℕ) → q ≡ p → QueueFits (w.counter p) (number (is_queued w p) n) → QueueCounter (counter_at k q) (queued_count k n q)
+    of-queue p q e f = rw e (fits-queue (counter_at k p) (queued_count k n p) (rw (queued-are p) at f))
 
     pub pool-at : (q : ℕ) → q < t.sizes.pools → 16 + q % 256 ≡ 16 + q
     pool-at q h = ap (λ (o : ℕ). 16 + o) (small h (omega (arith, s.pools)))
@@ -481,11 +481,11 @@ module _ (t : Tables) (c : Clock) where
         mailboxes = λ m l. fit-paper (g.mailboxes m l);
         pools = λ q l.
             rw (promised-are s q)
-            (pool-fits (w.pool q) (w.counter (16 + q)) (promisedCount k n q) (rw (pool-at s q l) at (g.pools q l)));
-        threads = λ i l. thread-fits t.sizes (threadAt k i) (g.threads i l) s;
+            (pool-fits (w.pool q) (w.counter (16 + q)) (promised_count k n q) (rw (pool-at s q l) at (g.pools q l)));
+        threads = λ i l. thread-fits t.sizes (thread_at k i) (g.threads i l) s;
         running = λ i f.
             elim (running-first (opened t) g) [
-              | inl r ↦ rw (first-only w i (firstReady k) f (record { thread = r.thread; is-ready = r.is-ready; first = r.first }))
+              | inl r ↦ rw (first-only w i (first_ready k) f (record { thread = r.thread; is-ready = r.is-ready; first = r.first }))
                   h.running
               | inr r ↦ absurd (r.none i f.thread f.is-ready)
             ];
@@ -511,8 +511,8 @@ module _ (t : Tables) (c : Clock) where
         mailboxes = λ m l. paper-fit (f.mailboxes m l);
         pools = λ q l.
             rw (pool-at s q l)
-            (fits-pool (w.pool q) (w.counter (16 + q)) (promisedCount k n q) (rw (promised-are s q) at (f.pools q l)));
-        threads = λ i l. good-thread t.sizes (threadAt k i) (f.threads i l) s;
+            (fits-pool (w.pool q) (w.counter (16 + q)) (promised_count k n q) (rw (promised-are s q) at (f.pools q l)));
+        threads = λ i l. good-thread t.sizes (thread_at k i) (f.threads i l) s;
         words =
             said-words k t.sizes s
             (agree-said (opened t) s (subst (λ (x : World). WordsAgree x t.kernel.words) (sym (found-is t)) f.words));
@@ -522,7 +522,7 @@ module _ (t : Tables) (c : Clock) where
         frequency = f.frequency;
         running =
             elim (running-first (opened t) g) [
-              | inl r ↦ f.running (firstReady k) (record { thread = r.thread; is-ready = r.is-ready; first = r.first })
+              | inl r ↦ f.running (first_ready k) (record { thread = r.thread; is-ready = r.is-ready; first = r.first })
               | inr r ↦ rw (r.nobody, thread-blank k 255 (omega (arith, rows)))
             ];
       }

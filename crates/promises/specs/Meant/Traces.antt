@@ -7,16 +7,16 @@ use Rattle.std.proofs.Math.Seq.{take-append_seam, take-length}
 use Rattle.kernel.proofs.Cases.{split, same_or, in-or-out}
 use Rattle.library.specs.declared.calls.Step.{Step}
 use Rattle.library.specs.declared.sizes.Sizes.{Sizes}
-use Rattle.library.specs.Sizes.{sizesFit}
+use Rattle.library.specs.Sizes.{sizes_fit}
 use Rattle.trace.specs.declared.decoding.Found.TheVariants as found
 use Rattle.trace.specs.declared.decoding.Read.{Read}
 use Rattle.trace.specs.declared.writer.Written.{Written}
 use Rattle.trace.specs.declared.writer.Written.TheVariants as written
 use Rattle.promises.specs.Paper.Together.{SizesFit}
 use Rattle.promises.specs.Paper.Fresh.{nothing}
-use Rattle.promises.specs.Paper.Answers.{Said, foundSaid}
-use Rattle.promises.specs.Paper.Reader.{byte, two, four, sizesIn, HeadBroken, RecordBroken, Gives, HeadRead, LaterRead, ReadOf}
-use Rattle.promises.specs.Paper.Writer.{HeadIn, FourIn, RecordIn, SizesUnfit, StepUnfit, WriteOfSizes, WriteOfStep, writtenSaid}
+use Rattle.promises.specs.Paper.Answers.{Said, found_said}
+use Rattle.promises.specs.Paper.Reader.{byte, two, four, sizes_in, HeadBroken, RecordBroken, Gives, HeadRead, LaterRead, ReadOf}
+use Rattle.promises.specs.Paper.Writer.{HeadIn, FourIn, RecordIn, SizesUnfit, StepUnfit, WriteOfSizes, WriteOfStep, written_said}
 use Rattle.promises.specs.Paper.Traces.{
   TraceCode,
   TraceCodeOf,
@@ -25,8 +25,8 @@ use Rattle.promises.specs.Paper.Traces.{
   StepsRead,
   TraceRead,
   AnySteps,
-  traceLength,
-  sizesHeld,
+  trace_length,
+  sizes_held,
   RoundTrip,
 }
 use Rattle.promises.specs.Meant.Sizes.{fit-limits, out-of-limits}
@@ -39,14 +39,14 @@ use Rattle.promises.specs.Meant.Encoding.{step-read-back, sizes-read-back}
 abbrev placed : ℕ → Said
 placed n = record { code = 0; gives = 3; values = n ∷ [] }
 
-abbrev stepRead : Step → Said
-stepRead x = record { code = 0; gives = 2; values = x.kind ∷ x.caller ∷ x.object ∷ x.a ∷ x.timeout ∷ [] }
+abbrev step_read : Step → Said
+step_read x = record { code = 0; gives = 2; values = x.kind ∷ x.caller ∷ x.object ∷ x.a ∷ x.timeout ∷ [] }
 
-abbrev sizesRead : Said
-sizesRead = record { code = 0; gives = 1; values = [] }
+abbrev sizes_read : Said
+sizes_read = record { code = 0; gives = 1; values = [] }
 
-abbrev endRead : Said
-endRead = record { code = 0; gives = 0; values = [] }
+abbrev end_read : Said
+end_read = record { code = 0; gives = 0; values = [] }
 
 -- what is given tells answers apart
 apart : (a b : Said) {C : Type 0} → a ≡ b → (a.gives ≡ b.gives → ⊥) → C
@@ -55,12 +55,12 @@ apart a b e n = absurd (n (ap (λ (s : Said). s.gives) e))
 same_place : {m n : ℕ} → placed m ≡ placed n → m ≡ n
 same_place e = ap (λ (s : Said). get_or s.values 0 0) e
 
-same_step : {x y : Step} → stepRead x ≡ stepRead y → x ≡ y
+same_step : {x y : Step} → step_read x ≡ step_read y → x ≡ y
 same_step {x} {y} e = let f = found-one (found.Stepped x) (found.Stepped y) e in cc
 
 -- sizes that cannot be out of their limits are in them
 within-limits : (z : Sizes) → ((SizesFit z → ⊥) → ⊥) → SizesFit z
-within-limits z n = split (sizesFit z) (fit-limits z) (λ f. absurd (n (out-of-limits z f)))
+within-limits z n = split (sizes_fit z) (fit-limits z) (λ f. absurd (n (out-of-limits z f)))
 
 -- ---- one call of a code that is the paper's
 
@@ -71,7 +71,7 @@ record StepDone (x : Step) (at next : ℕ) (l k : List ℕ) : Type 0 where
   room : at + 13 ≤ length l
   stands : RecordIn x at l k
 
-step-done : {x : Step} {at next : ℕ} {l k : List ℕ} {w : Written} → WriteOfStep x at l w k → writtenSaid w ≡ placed next → StepDone x at next l k
+step-done : {x : Step} {at next : ℕ} {l k : List ℕ} {w : Written} → WriteOfStep x at l w k → written_said w ≡ placed next → StepDone x at next l k
 step-done {at = at} {next = next} {l = l} (WriteOfStep.refused n f e c) d =
     apart (record { code = n; gives = 0; values = [] }) (placed next) (sym e ∙ d) (λ z. omega arith)
 step-done {at = at} {l = l} (WriteOfStep.written u e r) d =
@@ -89,7 +89,7 @@ record SizesDone (z : Sizes) (at : ℕ) (l k : List ℕ) : Type 0 where
   room : 9 + z.mailboxes ≤ length l
   stands : HeadIn z l k
 
-sizes-done : {z : Sizes} {at : ℕ} {l k : List ℕ} {w : Written} → WriteOfSizes z l w k → writtenSaid w ≡ placed at → SizesDone z at l k
+sizes-done : {z : Sizes} {at : ℕ} {l k : List ℕ} {w : Written} → WriteOfSizes z l w k → written_said w ≡ placed at → SizesDone z at l k
 sizes-done {at = at} (WriteOfSizes.refused n f e c) d =
     apart (record { code = n; gives = 0; values = [] }) (placed at) (sym e ∙ d) (λ z. omega arith)
 sizes-done {z = z} {l = l} (WriteOfSizes.written u e r) d =
@@ -112,12 +112,12 @@ sizes-fit g h n (SizesUnfit.short a) = omega arith
 
 -- and the record stands
 step-taken : {x : Step} {at : ℕ} {l k : List ℕ} {w : Written} → WriteOfStep x at l w k → at + 13 ≤ 60000 → at + 13 ≤ length l
-    → (writtenSaid w ≡ placed (at + 13)) × RecordIn x at l k
+    → (written_said w ≡ placed (at + 13)) × RecordIn x at l k
 step-taken (WriteOfStep.refused n u e c) h g = absurd (step_fits h g n u.unfit)
 step-taken (WriteOfStep.written u e r) h g = (e, r)
 
 sizes-taken : {z : Sizes} {l k : List ℕ} {w : Written} → WriteOfSizes z l w k → SizesFit z → 9 + z.mailboxes ≤ length l
-    → (writtenSaid w ≡ placed (9 + z.mailboxes)) × HeadIn z l k
+    → (written_said w ≡ placed (9 + z.mailboxes)) × HeadIn z l k
 sizes-taken (WriteOfSizes.refused n u e c) h g = absurd (sizes-fit h g n u.unfit)
 sizes-taken (WriteOfSizes.written u e r) h g = (e, r)
 
@@ -179,9 +179,9 @@ module _ (f : TraceCode) (told : TraceCodeOf f) where
   ran : {xs : List Step} {at end : ℕ} {l k : List ℕ} → StepsWritten f xs at l end k → Ran xs at l end k
   ran StepsWritten.none = record { place = omega arith; size = refl; before = λ i h. refl; short = λ h. h; room = λ h. h }
   ran (StepsWritten.more {x} {xs} {at} {next} {end} {l} {k} e c) =
-      let d : StepDone x at next l (f.stepBuffer x at l) = step-done (told.steps x at l) e in
-      let r : Ran xs next (f.stepBuffer x at l) end k = ran c in
-      let size : length (f.stepBuffer x at l) ≡ length l = d.stands.size in
+      let d : StepDone x at next l (f.step_buffer x at l) = step-done (told.steps x at l) e in
+      let r : Ran xs next (f.step_buffer x at l) end k = ran c in
+      let size : length (f.step_buffer x at l) ≡ length l = d.stands.size in
       record {
         place = omega (arith, d.place, r.place);
         size = r.size ∙ size;
@@ -195,30 +195,30 @@ module _ (f : TraceCode) (told : TraceCodeOf f) where
       → length s ≡ end → ((i : ℕ) → i < end → byte s i ≡ byte k i) → StepsRead f s at xs
   read-on {at = at} s StepsWritten.none a h n same = StepsRead.ended (over (told.reads s at))
     where
-      over : ReadOf s at (f.read s at) → foundSaid (f.read s at).found ≡ endRead
+      over : ReadOf s at (f.read s at) → found_said (f.read s at).found ≡ end_read
       over (ReadOf.head z b) = absurd (omega arith)
       over (ReadOf.later z (LaterRead.ended e g)) = g.found
       over (ReadOf.later z (LaterRead.refused e m b c d g)) = absurd (e (sym n))
       over (ReadOf.later z (LaterRead.stepped e b g)) = absurd (e (sym n))
   read-on s (StepsWritten.more {x} {xs} {at} {next} {end} {l} {k} e c) (AnySteps.more a more-any) h n same =
-      let d : StepDone x at next l (f.stepBuffer x at l) = step-done (told.steps x at l) e in
-      let r : Ran xs next (f.stepBuffer x at l) end k = ran c in
+      let d : StepDone x at next l (f.step_buffer x at l) = step-done (told.steps x at l) e in
+      let r : Ran xs next (f.step_buffer x at l) end k = ran c in
       let whole : at + 13 ≤ end = omega (arith, d.place, r.place) in
       let here : RecordIn x at s s =
       record-moved s d.stands (λ i q. same i (omega (arith, whole)) ∙ r.before i (omega (arith, d.place))) in
-      let g : Gives (f.read s at) (stepRead x) nothing (at + 13) =
+      let g : Gives (f.read s at) (step_read x) nothing (at + 13) =
       step-read-back x at s s a h (omega (arith, whole, n)) here (f.read s at) (told.reads s at) in
       StepsRead.more g.found
       (subst (λ (p : ℕ). StepsRead f s p xs) (d.place ∙ sym g.place) (read-on s c more-any (omega (arith, d.place)) n same))
 
   -- a whole trace
   trip-back : (z : Sizes) (xs : List Step) (l k : List ℕ) (end : ℕ) → AnySteps xs → TraceWritten f z xs l end k
-      → TraceRead f (take end k) (sizesHeld z) xs
+      → TraceRead f (take end k) (sizes_held z) xs
   trip-back z xs l k end any (TraceWritten.written at e c) =
-      let d : SizesDone z at l (f.sizesBuffer z l) = sizes-done (told.sizes z l) e in
-      let r : Ran xs at (f.sizesBuffer z l) end k = ran c in
+      let d : SizesDone z at l (f.sizes_buffer z l) = sizes-done (told.sizes z l) e in
+      let r : Ran xs at (f.sizes_buffer z l) end k = ran c in
       let s : List ℕ = take end k in
-      let size : length (f.sizesBuffer z l) ≡ length l = d.stands.size in
+      let size : length (f.sizes_buffer z l) ≡ length l = d.stands.size in
       let few : z.mailboxes ≤ 4 = d.limits.mailboxes in
       let end-in : end ≤ length l = rw size at (r.room (omega (arith, size, d.place, d.room))) in
       let long : length s ≡ end = length-take-le end k (omega (arith, r.size, size, end-in)) in
@@ -237,15 +237,15 @@ module _ (f : TraceCode) (told : TraceCodeOf f) where
   steps-write [] at l h g = (l, subst (λ (p : ℕ). StepsWritten f [] at l p l) (omega arith) StepsWritten.none)
   steps-write (x ∷ xs) at l h g =
       let d = step-taken (told.steps x at l) (omega arith) (omega arith) in
-      let rest = steps-write xs (at + 13) (f.stepBuffer x at l) (omega arith) (omega (arith, d.1.size)) in
+      let rest = steps-write xs (at + 13) (f.step_buffer x at l) (omega arith) (omega (arith, d.1.size)) in
       let same : at + 13 + 13 * length xs ≡ at + 13 * length (x ∷ xs) = omega arith in
-      (rest.0, StepsWritten.more d.0 (subst (λ (p : ℕ). StepsWritten f xs (at + 13) (f.stepBuffer x at l) p rest.0) same rest.1))
+      (rest.0, StepsWritten.more d.0 (subst (λ (p : ℕ). StepsWritten f xs (at + 13) (f.step_buffer x at l) p rest.0) same rest.1))
 
-  trip-writes : (z : Sizes) (xs : List Step) (l : List ℕ) → SizesFit z → traceLength z xs ≤ 60000 → traceLength z xs ≤ length l
-      → (k : List ℕ) × TraceWritten f z xs l (traceLength z xs) k
+  trip-writes : (z : Sizes) (xs : List Step) (l : List ℕ) → SizesFit z → trace_length z xs ≤ 60000 → trace_length z xs ≤ length l
+      → (k : List ℕ) × TraceWritten f z xs l (trace_length z xs) k
   trip-writes z xs l fit h g =
       let d = sizes-taken (told.sizes z l) fit (omega arith) in
-      let rest = steps-write xs (9 + z.mailboxes) (f.sizesBuffer z l) (omega arith) (omega (arith, d.1.size)) in
+      let rest = steps-write xs (9 + z.mailboxes) (f.sizes_buffer z l) (omega arith) (omega (arith, d.1.size)) in
       (rest.0, TraceWritten.written (9 + z.mailboxes) d.0 rest.1)
 
 -- ---- chains by one code come to one end
@@ -254,19 +254,19 @@ module _ {f : TraceCode} where
   steps-one : {xs : List Step} {at m n : ℕ} {l j k : List ℕ} → StepsWritten f xs at l m j → StepsWritten f xs at l n k → (m ≡ n) × (j ≡ k)
   steps-one StepsWritten.none StepsWritten.none = (refl, refl)
   steps-one {m = m} {j = j} (StepsWritten.more {x} {xs} {at} {next} {l = l} e c) (StepsWritten.more d b) =
-      steps-one (subst (λ (p : ℕ). StepsWritten f xs p (f.stepBuffer x at l) m j) (same_place (sym e ∙ d)) c) b
+      steps-one (subst (λ (p : ℕ). StepsWritten f xs p (f.step_buffer x at l) m j) (same_place (sym e ∙ d)) c) b
 
   written-only : {z : Sizes} {xs : List Step} {m n : ℕ} {l j k : List ℕ} → TraceWritten f z xs l m j → TraceWritten f z xs l n k
       → (m ≡ n) × (j ≡ k)
   written-only {z} {xs} {m} {n} {l} {j} {k} (TraceWritten.written at e c) (TraceWritten.written to d b) =
-      steps-one (subst (λ (p : ℕ). StepsWritten f xs p (f.sizesBuffer z l) m j) (same_place (sym e ∙ d)) c) b
+      steps-one (subst (λ (p : ℕ). StepsWritten f xs p (f.sizes_buffer z l) m j) (same_place (sym e ∙ d)) c) b
 
   steps-read-one : {s : List ℕ} {at : ℕ} {xs ys : List Step} → StepsRead f s at xs → StepsRead f s at ys → xs ≡ ys
   steps-read-one (StepsRead.ended e) (StepsRead.ended d) = refl
   steps-read-one (StepsRead.ended e) (StepsRead.more {x = y} d b) =
-      apart endRead (stepRead y) (sym e ∙ d) (λ z. omega arith)
+      apart end_read (step_read y) (sym e ∙ d) (λ z. omega arith)
   steps-read-one (StepsRead.more {x = x} e c) (StepsRead.ended d) =
-      apart (stepRead x) endRead (sym e ∙ d) (λ z. omega arith)
+      apart (step_read x) end_read (sym e ∙ d) (λ z. omega arith)
   steps-read-one (StepsRead.more {x = x} {xs = xs} e c) (StepsRead.more {x = y} {xs = ys} d b) =
       let first : x ≡ y = same_step (sym e ∙ d) in
       let rest : xs ≡ ys = steps-read-one c b in
@@ -278,22 +278,22 @@ module _ {f : TraceCode} where
 -- ---- what is read stands in the bytes
 
 -- the step whose record stands at a place
-abbrev stepAt : List ℕ → ℕ → Step
-stepAt s at = record { kind = byte s (at + 2); caller = byte s (at + 3); object = byte s (at + 4); a = four s (at + 5); timeout = four s (at + 9) }
+abbrev step_at : List ℕ → ℕ → Step
+step_at s at = record { kind = byte s (at + 2); caller = byte s (at + 3); object = byte s (at + 4); a = four s (at + 5); timeout = four s (at + 9) }
 
 -- a step, read behind record 0
 record Stood (s : List ℕ) (at : ℕ) (x : Step) (next : ℕ) : Type 0 where
   place : next ≡ at + 13
   right : two s at ≡ 11
   within : at + 13 ≤ length s
-  is : stepAt s at ≡ x
+  is : step_at s at ≡ x
 
-stood : {s : List ℕ} {at : ℕ} {r : Read} {x : Step} → ReadOf s at r → 0 < at → foundSaid r.found ≡ stepRead x → Stood s at x r.next
+stood : {s : List ℕ} {at : ℕ} {r : Read} {x : Step} → ReadOf s at r → 0 < at → found_said r.found ≡ step_read x → Stood s at x r.next
 stood (ReadOf.head z b) h e = absurd (omega arith)
 stood {x = x} (ReadOf.later z (LaterRead.ended n g)) h e =
-    apart endRead (stepRead x) (sym g.found ∙ e) (λ q. omega arith)
+    apart end_read (step_read x) (sym g.found ∙ e) (λ q. omega arith)
 stood {x = x} (ReadOf.later z (LaterRead.refused n m c d b g)) h e =
-    apart (record { code = m; gives = 0; values = c ∷ [] }) (stepRead x) (sym g.found ∙ e) (λ q. omega arith)
+    apart (record { code = m; gives = 0; values = c ∷ [] }) (step_read x) (sym g.found ∙ e) (λ q. omega arith)
 stood {s} {at} {r} {x} (ReadOf.later z (LaterRead.stepped n b g)) h e =
     let right : two s at ≡ 11 = same_or (two s at) 11 (λ q. q) (λ q. absurd (b 13 (RecordBroken.wrong-length q))) in
     let whole : at + 2 + two s at ≤ length s =
@@ -306,36 +306,36 @@ stood {s} {at} {r} {x} (ReadOf.later z (LaterRead.stepped n b g)) h e =
     }
 
 -- the end, read behind record 0
-stood-end : {s : List ℕ} {at : ℕ} {r : Read} → ReadOf s at r → 0 < at → foundSaid r.found ≡ endRead
+stood-end : {s : List ℕ} {at : ℕ} {r : Read} → ReadOf s at r → 0 < at → found_said r.found ≡ end_read
     → at ≡ length s
 stood-end (ReadOf.head z b) h e = absurd (omega arith)
 stood-end (ReadOf.later z (LaterRead.ended n g)) h e = n
 stood-end (ReadOf.later z (LaterRead.refused n m c d b g)) h e = absurd (omega (arith, ap (λ (q : Said). length q.values) (sym g.found ∙ e)))
 stood-end {s} {at} (ReadOf.later z (LaterRead.stepped n b g)) h e =
-    apart (stepRead (stepAt s at))
-    endRead (sym g.found ∙ e) (λ q. omega arith)
+    apart (step_read (step_at s at))
+    end_read (sym g.found ∙ e) (λ q. omega arith)
 
 -- record 0
 record Begun (s : List ℕ) (z : Sizes) (next : ℕ) : Type 0 where
   place : next ≡ 9 + byte s 7
-  is : z ≡ sizesIn s
-  limits : SizesFit (sizesIn s)
+  is : z ≡ sizes_in s
+  limits : SizesFit (sizes_in s)
   version : byte s 0 ≡ 1
   right : two s 1 ≡ 6 + byte s 7
   within : 9 + byte s 7 ≤ length s
   short : length s ≤ 60000
 
-begun : {s : List ℕ} {r : Read} → ReadOf s 0 r → foundSaid r.found ≡ sizesRead → Begun s r.sizes r.next
+begun : {s : List ℕ} {r : Read} → ReadOf s 0 r → found_said r.found ≡ sizes_read → Begun s r.sizes r.next
 begun (ReadOf.later z b) e = absurd (z refl)
 begun (ReadOf.head z (HeadRead.refused n b g)) e =
-    apart (record { code = n; gives = 0; values = 0 ∷ [] }) sizesRead (sym g.found ∙ e) (λ q. omega arith)
+    apart (record { code = n; gives = 0; values = 0 ∷ [] }) sizes_read (sym g.found ∙ e) (λ q. omega arith)
 begun {s} (ReadOf.head z (HeadRead.opened b g)) e =
     let right : two s 1 ≡ 6 + byte s 7 = same_or (two s 1) (6 + byte s 7) (λ q. q) (λ q. absurd (b 13 (HeadBroken.wrong-length q))) in
     let whole : 3 + two s 1 ≤ length s = in-or-out (length s) (3 + two s 1) (λ q. absurd (b 12 (HeadBroken.in_Body q))) (λ q. q) in
     record {
       place = g.place;
       is = g.sized;
-      limits = within-limits (sizesIn s) (λ n. b 14 (HeadBroken.size n));
+      limits = within-limits (sizes_in s) (λ n. b 14 (HeadBroken.size n));
       version = same_or (byte s 0) 1 (λ q. q) (λ q. absurd (b 11 (HeadBroken.version q)));
       right = right;
       within = omega (arith, right, whole);
@@ -439,7 +439,7 @@ module _ (s l : List ℕ) (small : (i : ℕ) → byte s i < 256) (long : length 
       here : (i : ℕ) → i < 9 + byte s 7 → byte (up_to (9 + byte s 7)) i ≡ byte s i
       here i h = upto-front (9 + byte s 7) i t.within h
 
-      slot : (m : ℕ) → m < byte s 7 → get_or (sizesIn s).slots m 0 ≡ byte s (9 + m)
+      slot : (m : ℕ) → m < byte s 7 → get_or (sizes_in s).slots m 0 ≡ byte s (9 + m)
       slot zero h = rw (lt-ltb 0 (byte s 7) h)
       slot (suc zero) h = rw (lt-ltb 1 (byte s 7) h)
       slot (suc (suc zero)) h = rw (lt-ltb 2 (byte s 7) h)
@@ -458,7 +458,7 @@ module _ (s l : List ℕ) (small : (i : ℕ) → byte s i < 256) (long : length 
         WriteOfStep.written (step_fits (omega (arith, t.within)) (omega (arith, size, t.within))) refl (step-again t) in
         let done = step-write-one (told.steps x at (up_to at)) mine in
         let rest = steps-again c (omega (arith, t.place)) (omega (arith, t.place, t.within)) short in
-        StepsWritten.more (ap writtenSaid done.0 ∙ ap placed (sym t.place))
+        StepsWritten.more (ap written_said done.0 ∙ ap placed (sym t.place))
         (subst (λ (k : List ℕ). StepsWritten f xs (f.read s at).next k (length s) (up_to (length s)))
         (ap up_to t.place ∙ sym done.1) rest)
 
@@ -473,8 +473,8 @@ module _ (s l : List ℕ) (small : (i : ℕ) → byte s i < 256) (long : length 
         let done = sizes-write-one (told.sizes z l) mine in
         let rest = steps-again c (omega (arith, t.place)) (omega (arith, t.place, t.within)) t.short in
         let all : up_to (length s) ≡ s ++ drop (length s) l = ap (λ (k : List ℕ). k ++ drop (length s) l) (take-length s) in
-        TraceWritten.written (f.read s 0).next (ap writtenSaid done.0 ∙ ap placed (sym place))
-        (subst (λ (k : List ℕ). StepsWritten f xs (f.read s 0).next (f.sizesBuffer z l) (length s) k) all
+        TraceWritten.written (f.read s 0).next (ap written_said done.0 ∙ ap placed (sym place))
+        (subst (λ (k : List ℕ). StepsWritten f xs (f.read s 0).next (f.sizes_buffer z l) (length s) k) all
         (subst (λ (k : List ℕ). StepsWritten f xs (f.read s 0).next k (length s) (up_to (length s)))
         (ap up_to t.place ∙ sym done.1) rest))
 
@@ -493,9 +493,9 @@ module _ (f : TraceCode) (told : TraceCodeOf f) where
   room-again {s} {l} {k} {z} {xs} {end} (TraceRead.read e is c) (TraceWritten.written at d b) =
       let t : Begun s (f.read s 0).sizes (f.read s 0).next = begun (told.reads s 0) e in
       let boxes : z.mailboxes ≡ byte s 7 = ap (λ (y : Sizes). y.mailboxes) (sym is ∙ t.is) in
-      let w : SizesDone z at l (f.sizesBuffer z l) = sizes-done (told.sizes z l) d in
-      let r : Ran xs at (f.sizesBuffer z l) end k = ran f told b in
-      let size : length (f.sizesBuffer z l) ≡ length l = w.stands.size in
+      let w : SizesDone z at l (f.sizes_buffer z l) = sizes-done (told.sizes z l) d in
+      let r : Ran xs at (f.sizes_buffer z l) end k = ran f told b in
+      let size : length (f.sizes_buffer z l) ≡ length l = w.stands.size in
       omega
       (arith, boxes, size, w.place, r.place, r.room (omega (arith, size, w.place, w.room)), t.place, steps-length c (omega (arith, t.place)))
 

@@ -12,16 +12,16 @@ use borrow.Author.Tests.{ltb-true, ltb-false, le-leb, lt-leb, ne_eqb}
 use Rattle.kernel.proofs.Cases.{split, same_or, in-or-out}
 use Rattle.library.specs.declared.calls.Step.{Step}
 use Rattle.library.specs.declared.sizes.Sizes.{Sizes}
-use Rattle.library.specs.Sizes.{sizesFit}
+use Rattle.library.specs.Sizes.{sizes_fit}
 use Rattle.trace.specs.declared.writer.Written.{Written}
 use Rattle.trace.specs.declared.writer.Written.TheVariants as written
-use Rattle.trace.specs.Ordered.{bytesN, putN}
-use Rattle.trace.specs.TraceBytes.{sizesBody, head_of, recordOf}
-use Rattle.trace.specs.Writer.{roomRefusal, sizesRefusal, sizesAnswer, sizesWritten, stepAnswer, stepWritten}
+use Rattle.trace.specs.Ordered.{bytes_n, put_n}
+use Rattle.trace.specs.TraceBytes.{sizes_body, head_of, record_of}
+use Rattle.trace.specs.Writer.{room_refusal, sizes_refusal, sizes_answer, sizes_written, step_answer, step_written}
 use Rattle.promises.specs.Paper.Together.{SizesFit}
 use Rattle.promises.specs.Paper.Answers.{Said}
 use Rattle.promises.specs.Paper.Reader.{byte}
-use Rattle.promises.specs.Paper.Writer.{HeadIn, TwoIn, FourIn, NumberWritten, RecordIn, SizesUnfit, StepUnfit, LeastOf, WriteOfSizes, WriteOfStep, writtenSaid}
+use Rattle.promises.specs.Paper.Writer.{HeadIn, TwoIn, FourIn, NumberWritten, RecordIn, SizesUnfit, StepUnfit, LeastOf, WriteOfSizes, WriteOfStep, written_said}
 use Rattle.promises.specs.Meant.Sizes.{fit-limits, out-of-limits}
 use Rattle.promises.specs.Meant.Said.{written_one}
 
@@ -58,13 +58,13 @@ module _ (l v : List ℕ) (at : ℕ) (fits : at + length v ≤ length l) where
 
 -- ---- numbers
 
-pub two-write-is : (l : List ℕ) (at n : ℕ) → NumberWritten 2 l at (λ k. TwoIn k at n) (putN 2 l at n)
-unfolding putN
+pub two-write-is : (l : List ℕ) (at n : ℕ) → NumberWritten 2 l at (λ k. TwoIn k at n) (put_n 2 l at n)
+unfolding put_n
 two-write-is l at n =
     in-or-out (length l) (at + 2)
     (λ h. rw (lt-leb (at + 2) (length l) h) (NumberWritten.no_room h refl))
     (λ h.
-    let v : List ℕ = bytesN 2 n in
+    let v : List ℕ = bytes_n 2 n in
     rw (le-leb (at + 2) (length l) h)
     (NumberWritten.written h (length-sets l at v) (pasted-before l v at h)
     (record {
@@ -77,13 +77,13 @@ four-in : (k : List ℕ) (at n : ℕ) → byte k at ≡ n / 256 / 256 / 256 % 25
     → byte k (at + 2) ≡ n / 256 % 256 → byte k (at + 3) ≡ n % 256 → FourIn k at n
 four-in k at n a b c d = record { first = omega arith; second = omega arith; third = c; last = d }
 
-pub four-write-is : (l : List ℕ) (at n : ℕ) → NumberWritten 4 l at (λ k. FourIn k at n) (putN 4 l at n)
-unfolding putN
+pub four-write-is : (l : List ℕ) (at n : ℕ) → NumberWritten 4 l at (λ k. FourIn k at n) (put_n 4 l at n)
+unfolding put_n
 four-write-is l at n =
     in-or-out (length l) (at + 4)
     (λ h. rw (lt-leb (at + 4) (length l) h) (NumberWritten.no_room h refl))
     (λ h.
-    let v : List ℕ = bytesN 4 n in
+    let v : List ℕ = bytes_n 4 n in
     rw (le-leb (at + 4) (length l) h)
     (NumberWritten.written h (length-sets l at v) (pasted-before l v at h)
     (four-in (sets l at v) at n
@@ -95,10 +95,10 @@ four-write-is l at n =
 
 -- ---- a step's record
 
-record-in : (x : Step) (at : ℕ) (l : List ℕ) → at + 13 ≤ length l → RecordIn x at l (sets l at (recordOf x))
-unfolding recordOf
+record-in : (x : Step) (at : ℕ) (l : List ℕ) → at + 13 ≤ length l → RecordIn x at l (sets l at (record_of x))
+unfolding record_of
 record-in x at l h =
-    let v : List ℕ = recordOf x in
+    let v : List ℕ = record_of x in
     let b : (i : ℕ) → i < 13 → byte (sets l at v) (at + i) ≡ byte v i = λ i g. pasted-in l v at h i (at + i) g refl in
     let k : List ℕ = sets l at v in
     record {
@@ -140,7 +140,7 @@ module _ (z : Sizes) (limits : SizesFit z) where
   head-slot : (m : ℕ) → m < z.mailboxes → byte (head_of z) (9 + m) ≡ get_or z.slots m 0
   unfolding head_of
   head-slot m h =
-      let n : ℕ = length (sizesBody z) in
+      let n : ℕ = length (sizes_body z) in
       get_or-append-add
       (1 ∷ n / 256 % 256 ∷ n % 256 ∷ z.threads ∷ z.semaphores ∷ z.queues ∷ z.references ∷ z.mailboxes ∷ z.pools ∷ [])
       (take z.mailboxes z.slots) m 0
@@ -198,9 +198,9 @@ module _ (z : Sizes) (limits : SizesFit z) where
 
 -- what the writer's test of room says
 module _ (at n : ℕ) (l : List ℕ) where
-  room-cases : {C : Type 0} → (60000 < at + n → roomRefusal (length l) at n ≡ 15 → C)
-      → (at + n ≤ 60000 → length l < at + n → roomRefusal (length l) at n ≡ 16 → C)
-      → (at + n ≤ 60000 → at + n ≤ length l → roomRefusal (length l) at n ≡ 0 → C) → C
+  room-cases : {C : Type 0} → (60000 < at + n → room_refusal (length l) at n ≡ 15 → C)
+      → (at + n ≤ 60000 → length l < at + n → room_refusal (length l) at n ≡ 16 → C)
+      → (at + n ≤ 60000 → at + n ≤ length l → room_refusal (length l) at n ≡ 0 → C) → C
   room-cases long short fits =
       split (ltb 60000 (at + n))
       (λ a. long (ltb-true 60000 (at + n) a) (rw a))
@@ -209,13 +209,13 @@ module _ (at n : ℕ) (l : List ℕ) where
       (λ b. fits (ltb-false 60000 (at + n) a) (ltb-false (length l) (at + n) b) (rw (a, b))))
 
 module _ (x : Step) (at : ℕ) (l : List ℕ) where
-  step-refused : (n : ℕ) → roomRefusal (length l) at 13 ≡ n → n ≢ 0 → LeastOf (StepUnfit at l) n
-      → WriteOfStep x at l (stepAnswer at l) (stepWritten x at l)
-  unfolding stepAnswer stepWritten
+  step-refused : (n : ℕ) → room_refusal (length l) at 13 ≡ n → n ≢ 0 → LeastOf (StepUnfit at l) n
+      → WriteOfStep x at l (step_answer at l) (step_written x at l)
+  unfolding step_answer step_written
   step-refused n e d f = rw (e, ne_eqb n 0 d) (WriteOfStep.refused n f refl refl)
 
-  pub step-write-is : WriteOfStep x at l (stepAnswer at l) (stepWritten x at l)
-  unfolding stepAnswer stepWritten
+  pub step-write-is : WriteOfStep x at l (step_answer at l) (step_written x at l)
+  unfolding step_answer step_written
   step-write-is =
       room-cases at 13 l
       (λ a e. step-refused 15 e (λ z. omega arith) (record { unfit = StepUnfit.long a; none_before = first }))
@@ -235,15 +235,15 @@ module _ (x : Step) (at : ℕ) (l : List ℕ) where
       fit g i m (StepUnfit.short a) = omega arith
 
 module _ (z : Sizes) (l : List ℕ) where
-  sizes-refused : (n : ℕ) → sizesRefusal z l ≡ n → n ≢ 0 → LeastOf (SizesUnfit z l) n
-      → WriteOfSizes z l (sizesAnswer z l) (sizesWritten z l)
-  unfolding sizesAnswer sizesWritten
+  sizes-refused : (n : ℕ) → sizes_refusal z l ≡ n → n ≢ 0 → LeastOf (SizesUnfit z l) n
+      → WriteOfSizes z l (sizes_answer z l) (sizes_written z l)
+  unfolding sizes_answer sizes_written
   sizes-refused n e d f = rw (e, ne_eqb n 0 d) (WriteOfSizes.refused n f refl refl)
 
-  pub sizes-write-is : WriteOfSizes z l (sizesAnswer z l) (sizesWritten z l)
-  unfolding sizesAnswer sizesWritten
+  pub sizes-write-is : WriteOfSizes z l (sizes_answer z l) (sizes_written z l)
+  unfolding sizes_answer sizes_written
   sizes-write-is =
-      split (sizesFit z)
+      split (sizes_fit z)
       (λ s.
       let g : SizesFit z = fit-limits z s in
       room-cases 0 (9 + z.mailboxes) l
@@ -390,8 +390,8 @@ module _ (Unfit : ℕ → Type 0) where
       (λ h. in-or-out n m (λ l. absurd (a.none_before n l b.unfit)) (λ g. omega arith))
 
 -- a refusal says its number and nothing else
-refusal-one : {v w : Written} {m n : ℕ} → m ≡ n → writtenSaid v ≡ record { code = m; gives = 0; values = [] }
-    → writtenSaid w ≡ record { code = n; gives = 0; values = [] } → v ≡ w
+refusal-one : {v w : Written} {m n : ℕ} → m ≡ n → written_said v ≡ record { code = m; gives = 0; values = [] }
+    → written_said w ≡ record { code = n; gives = 0; values = [] } → v ≡ w
 refusal-one {v} {w} e a b = written_one v w (a ∙ ap (λ (c : ℕ). record { code = c; gives = 0; values = [] }) e ∙ sym b)
 
 pub step-write-one : {x : Step} {at : ℕ} {l : List ℕ} {v w : Written} {k j : List ℕ} → WriteOfStep x at l v k → WriteOfStep x at l w j
@@ -412,7 +412,7 @@ sizes-write-one {v = v} {w = w} (WriteOfSizes.written f e c) (WriteOfSizes.writt
 
 -- ---- where nothing is refused, the record stands
 
-pub record-stands : {x : Step} {at : ℕ} {l : List ℕ} {w : Written} {k : List ℕ} → WriteOfStep x at l w k → (writtenSaid w).code ≡ 0
+pub record-stands : {x : Step} {at : ℕ} {l : List ℕ} {w : Written} {k : List ℕ} → WriteOfStep x at l w k → (written_said w).code ≡ 0
     → RecordIn x at l k
 record-stands (WriteOfStep.refused n f e c) z = absurd (some f.unfit (sym (ap (λ (s : Said). s.code) e) ∙ z))
   where
@@ -421,7 +421,7 @@ record-stands (WriteOfStep.refused n f e c) z = absurd (some f.unfit (sym (ap (�
     some (StepUnfit.short a) q = omega arith
 record-stands (WriteOfStep.written f e c) z = c
 
-pub head-stands : {z : Sizes} {l : List ℕ} {w : Written} {k : List ℕ} → WriteOfSizes z l w k → (writtenSaid w).code ≡ 0 → HeadIn z l k
+pub head-stands : {z : Sizes} {l : List ℕ} {w : Written} {k : List ℕ} → WriteOfSizes z l w k → (written_said w).code ≡ 0 → HeadIn z l k
 head-stands (WriteOfSizes.refused n f e c) z = absurd (some f.unfit (sym (ap (λ (s : Said). s.code) e) ∙ z))
   where
     some : {y : Sizes} {n : ℕ} {l : List ℕ} → SizesUnfit y l n → n ≢ 0

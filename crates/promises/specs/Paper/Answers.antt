@@ -1,5 +1,5 @@
 -- ANSWERS THAT ARE ENUMS: "Where an answer is an enum, a definition gives this paper's number and values for each of its cases, and the
--- promises use that definition." The record is here, with the reader's; the writer's is `writtenSaid` (Paper.Writer).
+-- promises use that definition." The record is here, with the reader's; the writer's is `written_said` (Paper.Writer).
 use Rattle.std.specs.Prelude.{ℕ, List, [], ◌∷◌}
 use Rattle.trace.specs.declared.decoding.Found.{Found}
 use Rattle.trace.specs.declared.decoding.Found.TheVariants.{Opened, Stepped, Ended, Refused}
@@ -12,9 +12,9 @@ pub record Said : Type 0 where
   pub values : List ℕ
 
 -- what a read found. "A refused read gives the number, the record's number and no step"; a step is "kind, caller, object .. a, timeout"
-abbrev pub foundSaid : Found → Said
-foundSaid Opened = record { code = 0; gives = 1; values = [] }
-foundSaid (Stepped x) =
+abbrev pub found_said : Found → Said
+found_said Opened = record { code = 0; gives = 1; values = [] }
+found_said (Stepped x) =
     record { code = 0; gives = 2; values = x.kind ∷ x.caller ∷ x.object ∷ x.a ∷ x.timeout ∷ [] }
-foundSaid Ended = record { code = 0; gives = 0; values = [] }
-foundSaid (Refused code number) = record { code = code; gives = 0; values = number ∷ [] }
+found_said Ended = record { code = 0; gives = 0; values = [] }
+found_said (Refused code number) = record { code = code; gives = 0; values = number ∷ [] }

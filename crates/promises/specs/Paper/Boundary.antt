@@ -16,14 +16,14 @@ use Rattle.host.specs.declared.request.Request.{Request}
 use Rattle.host.specs.declared.request.StepResult.{StepResult}
 use Rattle.host.specs.declared.reads.ReadResult.{ReadResult}
 use Rattle.promises.specs.Paper.World.{found, Running}
-use Rattle.promises.specs.Paper.Together.{number, isQueued, isReady, InUse, WordOf}
-use Rattle.promises.specs.Paper.Waking.{inMask}
+use Rattle.promises.specs.Paper.Together.{number, is_queued, is_ready, InUse, WordOf}
+use Rattle.promises.specs.Paper.Waking.{in_mask}
 use Rattle.promises.specs.Paper.Step.{StepOf}
 use Rattle.promises.specs.Paper.Time.{SumOf, DifferenceOf, RangeOf, TicksOf, UnitsOf}
 use Rattle.promises.specs.Paper.Fresh.{MadeOf}
-use Rattle.promises.specs.Paper.Answers.{Said, foundSaid}
+use Rattle.promises.specs.Paper.Answers.{Said, found_said}
 use Rattle.promises.specs.Paper.Reader.{NumberOf, ReadOf}
-use Rattle.promises.specs.Paper.Writer.{WriteOfSizes, WriteOfStep, writtenSaid}
+use Rattle.promises.specs.Paper.Writer.{WriteOfSizes, WriteOfStep, written_said}
 use Rattle.promises.specs.Paper.Pipes.{PipeWriteOf, PipeReadOf, PipeResetOf, PipeResumeOf, PipesFreshOf}
 
 -- "A step has kind, caller, object, operand a and timeout": the step that a request asks for; its byte `unused` is ignored
@@ -60,11 +60,11 @@ pub record ReadCall (s : List ℕ) (at : ℕ) (x : ReadResult) : Type 0 where
   pub is_read : ReadOf s at done
   pub next : x.next ≡ done.next
   pub number : NumberOf at x.number
-  pub step : StepGiven (foundSaid done.found) x.step
+  pub step : StepGiven (found_said done.found) x.step
   pub sizes : x.sizes ≡ done.sizes
   -- 0 nothing, 1 sizes, 2 a step
-  pub found : x.found ≡ (foundSaid done.found).gives
-  pub code : x.code ≡ (foundSaid done.found).code
+  pub found : x.found ≡ (found_said done.found).gives
+  pub code : x.code ≡ (found_said done.found).code
 
 -- the place that a host keeps: the one after what was written (3), or as it was
 pub data PlaceKept (x : Said) (place after : ℕ) : Type 0 where
@@ -75,15 +75,15 @@ pub data PlaceKept (x : Said) (place after : ℕ) : Type 0 where
 pub record SizesCall (z : Sizes) (l : List ℕ) (place code : ℕ) (k : List ℕ) (after : ℕ) : Type 0 where
   pub done : Written
   pub is-write : WriteOfSizes z l done k
-  pub coded : code ≡ (writtenSaid done).code
-  pub placed : PlaceKept (writtenSaid done) place after
+  pub coded : code ≡ (written_said done).code
+  pub placed : PlaceKept (written_said done) place after
 
 -- nil_write_step: at a place of the buffer
 pub record RecordCall (q : Request) (at : ℕ) (l : List ℕ) (place code : ℕ) (k : List ℕ) (after : ℕ) : Type 0 where
   pub done : Written
   pub is-write : WriteOfStep (asked q) at l done k
-  pub coded : code ≡ (writtenSaid done).code
-  pub placed : PlaceKept (writtenSaid done) place after
+  pub coded : code ≡ (written_said done).code
+  pub placed : PlaceKept (written_said done) place after
 
 -- ---- time for a host: its times, intervals and frequencies are plain numbers
 
@@ -111,17 +111,17 @@ UnitsCall u ticks frequency code value = UnitsOf u (record { 0 = ticks }) (Given
 -- ---- for a screen: they read the words alone, on any tables
 
 -- whether the ready word has bit i
-abbrev pub namesReady : Tables → ℕ → Bool
-namesReady t i = inMask i t.kernel.words.ready
+abbrev pub names_ready : Tables → ℕ → Bool
+names_ready t i = in_mask i t.kernel.words.ready
 
 -- nil_ready_count: "the number of ones"
 abbrev pub CountCall : Tables → ℕ → Type 0
-CountCall t r = r ≡ number (namesReady t) 16
+CountCall t r = r ≡ number (names_ready t) 16
 
 -- nil_first_ready: "the number of trailing zeros of the word, and an empty word means idle"
 pub data FirstCall (t : Tables) (r : ℕ) : Type 0 where
-  some : r < 16 → namesReady t r ≡ true → ((j : ℕ) → j < r → namesReady t j ≡ false) → FirstCall t r
-  none : ((j : ℕ) → j < 16 → namesReady t j ≡ false) → r ≡ 255 → FirstCall t r
+  some : r < 16 → names_ready t r ≡ true → ((j : ℕ) → j < r → names_ready t j ≡ false) → FirstCall t r
+  none : ((j : ℕ) → j < 16 → names_ready t j ≡ false) → r ≡ 255 → FirstCall t r
 
 -- nil_waiting: the word of the place p; past all places there is none
 abbrev pub WaitingCall : Tables → ℕ → ℕ → Type 0
@@ -130,11 +130,11 @@ WaitingCall t p r = r ≡ get_or t.kernel.words.waiting p 0
 -- what they show of tables that hang together: how many threads are ready, the first of them, and who waits at a place
 pub record ScreenOf (t : Tables) (count first : ℕ) (waiting : ℕ → ℕ) : Type 0 where
   -- "The number of ready threads is the number of ones"
-  pub counted : count ≡ number (isReady (found t)) t.sizes.threads
+  pub counted : count ≡ number (is_ready (found t)) t.sizes.threads
   -- "the first ready thread is the number of trailing zeros of the word, and an empty word means idle"
   pub running : Running (found t) first
   -- "the threads waiting there"
-  pub waiters : (p : ℕ) → InUse t.sizes p → WordOf (isQueued (found t) p) t.sizes.threads (waiting p)
+  pub waiters : (p : ℕ) → InUse t.sizes p → WordOf (is_queued (found t) p) t.sizes.threads (waiting p)
 
 -- ---- pipes: the table t becomes u, and the code is the host's answer
 

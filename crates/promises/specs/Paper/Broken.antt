@@ -5,8 +5,8 @@ use Rattle.std.specs.Int.Bits.{bit_and}
 use Rattle.kernel.specs.declared.clock.Clock.{Clock}
 use Rattle.library.specs.declared.tables.Tables.{Tables}
 use Rattle.promises.specs.Paper.World.{World, found, First}
-use Rattle.promises.specs.Paper.Together.{SizesFit, CallFits, WaitFits, TicksFit, AwaitedFit, number, isQueued, SemaphoreFits, QueueFits}
-use Rattle.promises.specs.Paper.Together.{PositionsFit, isPromised, PoolFits, isReady, InUse, WordOf}
+use Rattle.promises.specs.Paper.Together.{SizesFit, CallFits, WaitFits, TicksFit, AwaitedFit, number, is_queued, SemaphoreFits, QueueFits}
+use Rattle.promises.specs.Paper.Together.{PositionsFit, is_promised, PoolFits, is_ready, InUse, WordOf}
 
 -- "Reference r holds i exactly if i is suspended on r", and else nobody
 abbrev pub HolderFits : World → ℕ → Type 0
@@ -22,22 +22,22 @@ pub data BreaksRule (t : Tables) (c : Clock) : ℕ → ℕ → Type 0 where
   frequency : ((1 ≤ c.frequency) × (c.frequency ≤ 1000000) → ⊥) → BreaksRule t c 2 0
   -- "A semaphore (a pool's too) or queue with n > 0 threads queued has counter -n": the row is the place of the counter
   semaphore : (s : ℕ) → s < t.sizes.semaphores
-      → (SemaphoreFits ((found t).counter s) (number (isQueued (found t) s) t.sizes.threads) → ⊥) → BreaksRule t c 3 s
+      → (SemaphoreFits ((found t).counter s) (number (is_queued (found t) s) t.sizes.threads) → ⊥) → BreaksRule t c 3 s
   pool-counter : (q : ℕ) → q < t.sizes.pools
-      → (SemaphoreFits ((found t).counter (16 + q)) (number (isQueued (found t) (16 + q)) t.sizes.threads) → ⊥) → BreaksRule t c 3 (16 + q)
+      → (SemaphoreFits ((found t).counter (16 + q)) (number (is_queued (found t) (16 + q)) t.sizes.threads) → ⊥) → BreaksRule t c 3 (16 + q)
   queue : (q : ℕ) → q < t.sizes.queues
-      → (QueueFits ((found t).counter (20 + q)) (number (isQueued (found t) (20 + q)) t.sizes.threads) → ⊥) → BreaksRule t c 3 (20 + q)
+      → (QueueFits ((found t).counter (20 + q)) (number (is_queued (found t) (20 + q)) t.sizes.threads) → ⊥) → BreaksRule t c 3 (20 + q)
   -- "a mailbox has a writers' and a readers' queue"
   writers : (m : ℕ) → m < t.sizes.mailboxes
-      → (QueueFits ((found t).counter (28 + m)) (number (isQueued (found t) (28 + m)) t.sizes.threads) → ⊥) → BreaksRule t c 3 (28 + m)
+      → (QueueFits ((found t).counter (28 + m)) (number (is_queued (found t) (28 + m)) t.sizes.threads) → ⊥) → BreaksRule t c 3 (28 + m)
   readers : (m : ℕ) → m < t.sizes.mailboxes
-      → (QueueFits ((found t).counter (32 + m)) (number (isQueued (found t) (32 + m)) t.sizes.threads) → ⊥) → BreaksRule t c 3 (32 + m)
+      → (QueueFits ((found t).counter (32 + m)) (number (is_queued (found t) (32 + m)) t.sizes.threads) → ⊥) → BreaksRule t c 3 (32 + m)
   reference : (r : ℕ) → r < t.sizes.references → (HolderFits (found t) r → ⊥) → BreaksRule t c 4 r
   -- "A mailbox's write place is its read place plus its count, modulo slots", with places and counts in range
   mailbox : (m : ℕ) → m < t.sizes.mailboxes → (PositionsFit ((found t).box m).positions (get_or t.sizes.slots m 0) → ⊥) → BreaksRule t c 5 m
   -- "A free list has each free object once and no other; its length is .. Each object is marked absent, free or out"
   pool : (q : ℕ) → q < t.sizes.pools
-      → (PoolFits ((found t).pool q) ((found t).counter (16 + q)) (number (isPromised (found t) q) t.sizes.threads) → ⊥) → BreaksRule t c 6 q
+      → (PoolFits ((found t).pool q) ((found t).counter (16 + q)) (number (is_promised (found t) q) t.sizes.threads) → ⊥) → BreaksRule t c 6 q
   -- "Remaining ticks .."
   ticks : (i : ℕ) → i < t.sizes.threads → (TicksFit ((found t).thread i) → ⊥) → BreaksRule t c 7 i
   -- "the objects of calls are in range"; "An unfinished call is of kind ..", "call fields"
@@ -52,10 +52,10 @@ pub data BreaksRule (t : Tables) (c : Clock) : ℕ → ℕ → Type 0 where
   -- "The running thread has no unfinished call"
   running : (i : ℕ) → First (found t) i → ((found t).thread i).call.kind ≢ 0 → BreaksRule t c 12 i
   -- of document 02: "bit i set exactly when thread i is ready"
-  ready-word : (WordOf (isReady (found t)) t.sizes.threads t.kernel.words.ready → ⊥) → BreaksRule t c 13 0
+  ready-word : (WordOf (is_ready (found t)) t.sizes.threads t.kernel.words.ready → ⊥) → BreaksRule t c 13 0
   -- "and one such word for each semaphore (a pool's too), queue and mailbox side": the row is the place
   waiting-word : (p : ℕ) → InUse t.sizes p
-      → (WordOf (isQueued (found t) p) t.sizes.threads (get_or t.kernel.words.waiting p 0) → ⊥) → BreaksRule t c 14 p
+      → (WordOf (is_queued (found t) p) t.sizes.threads (get_or t.kernel.words.waiting p 0) → ⊥) → BreaksRule t c 14 p
   -- "a cause outside the list"
   cause : (i : ℕ) → i < t.sizes.threads → 8 < ((found t).thread i).cause → BreaksRule t c 15 i
 

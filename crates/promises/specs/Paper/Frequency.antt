@@ -5,9 +5,9 @@ use Rattle.kernel.specs.declared.clock.Clock.{Clock}
 use Rattle.promises.specs.Paper.Run.{Ran}
 
 -- the same time, at the frequency f
-abbrev pub clockAt : ℕ → Clock → Clock
-clockAt f c = record { time = c.time; frequency = f }
+abbrev pub clock_at : ℕ → Clock → Clock
+clock_at f c = record { time = c.time; frequency = f }
 
 -- what a run leaves, with the clock at f
-abbrev pub ranAt : ℕ → Ran → Ran
-ranAt f r = record { tables = r.tables; clock = clockAt f r.clock; outcomes = r.outcomes }
+abbrev pub ran_at : ℕ → Ran → Ran
+ran_at f r = record { tables = r.tables; clock = clock_at f r.clock; outcomes = r.outcomes }

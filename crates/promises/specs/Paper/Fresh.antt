@@ -5,7 +5,7 @@ use Rattle.kernel.specs.declared.units.Rate.{Rate}
 use Rattle.library.specs.declared.sizes.Sizes.{Sizes}
 use Rattle.library.specs.declared.tables.Tables.{Tables}
 use Rattle.library.specs.declared.fresh.Made.{Made}
-use Rattle.promises.specs.Paper.Time.{ticksInSecond, Possible}
+use Rattle.promises.specs.Paper.Time.{ticks_in_second, Possible}
 use Rattle.promises.specs.Paper.Together.{SizesFit}
 
 -- "Fresh: all ready, references and mailboxes empty, pool objects absent, .. all else 0 or clear": 16 threads, 36 counters (semaphores,
@@ -42,7 +42,7 @@ pub record FreshClock (f : ℕ) (c : Clock) : Type 0 where
 -- what fresh tables can be made of: sizes within their limits, and a frequency in its range
 pub record Legal (z : Sizes) (rate : Rate) : Type 0 where
   pub sizes : SizesFit z
-  pub frequency : Possible (ticksInSecond rate)
+  pub frequency : Possible (ticks_in_second rate)
 
 -- no threads and no objects
 abbrev pub nothing : Sizes
@@ -58,5 +58,5 @@ pub record MadeWith (n : ℕ) (z : Sizes) (f : ℕ) (m : Made) : Type 0 where
 -- "14 a size out of its limits", then 6 for "a frequency outside its range": a refusal holds tables of no sizes and a clock of frequency 0
 pub data MadeOf (z : Sizes) (rate : Rate) (m : Made) : Type 0 where
   no_size : (SizesFit z → ⊥) → MadeWith 14 nothing 0 m → MadeOf z rate m
-  no-frequency : SizesFit z → (Possible (ticksInSecond rate) → ⊥) → MadeWith 6 nothing 0 m → MadeOf z rate m
-  fresh : SizesFit z → Possible (ticksInSecond rate) → MadeWith 0 z (ticksInSecond rate) m → MadeOf z rate m
+  no-frequency : SizesFit z → (Possible (ticks_in_second rate) → ⊥) → MadeWith 6 nothing 0 m → MadeOf z rate m
+  fresh : SizesFit z → Possible (ticks_in_second rate) → MadeWith 0 z (ticks_in_second rate) m → MadeOf z rate m

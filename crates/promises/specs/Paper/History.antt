@@ -8,8 +8,8 @@ use Rattle.promises.specs.Paper.World.{World, found, kept}
 use Rattle.promises.specs.Paper.Rows.{Act}
 use Rattle.promises.specs.Paper.Settling.{Settles}
 use Rattle.promises.specs.Paper.Together.{is_zero}
-use Rattle.promises.specs.Paper.Waking.{rowOf, inMask}
-use Rattle.promises.specs.Paper.Run.{Moment, isAccepted}
+use Rattle.promises.specs.Paper.Waking.{row_of, in_mask}
+use Rattle.promises.specs.Paper.Run.{Moment, is_accepted}
 
 -- ---- one step
 
@@ -25,21 +25,21 @@ pub record Event : Type 0 where
 -- the call that i may finish in a moment: the step's own, if it is the caller, else the one that its record kept
 abbrev pub call_by : Moment → ℕ → Call
 call_by m i =
-    cond (eqb m.step.caller i) (kept m.step.kind m.step.object m.step.a m.step.timeout) (rowOf m.before i).call
+    cond (eqb m.step.caller i) (kept m.step.kind m.step.object m.step.a m.step.timeout) (row_of m.before i).call
 
 -- its answer: "A finished call's answer stays in the thread's record"; "For an interrupt they are the step's answer"
-abbrev pub answerBy : Moment → ℕ → Answer
-answerBy m i = cond (eqb i 255) (record { message = m.result.message; datum = m.result.datum }) (rowOf m.after i).answer
+abbrev pub answer_by : Moment → ℕ → Answer
+answer_by m i = cond (eqb i 255) (record { message = m.result.message; datum = m.result.datum }) (row_of m.after i).answer
 
 -- whether it finished: a thread's bit says so, and an interrupt's call is answered where the step is accepted
 abbrev pub finishes : Moment → ℕ → Bool
 finishes m i =
-    isAccepted m
-    && cond (eqb i 255) (eqb m.step.caller 255) (ltb i m.before.sizes.threads && inMask i m.result.finished)
+    is_accepted m
+    && cond (eqb i 255) (eqb m.step.caller 255) (ltb i m.before.sizes.threads && in_mask i m.result.finished)
 
 -- the calls of mailboxes and pools that count: post, post ahead, fetch and reset; alloc, free and add
-abbrev pub isCounted : ℕ → Bool
-isCounted kind =
+abbrev pub is_counted : ℕ → Bool
+is_counted kind =
     eqb kind 15 || (eqb kind 16 || (eqb kind 17 || (eqb kind 18 || (eqb kind 20 || (eqb kind 21 || eqb kind 22)))))
 
 -- what a call put in or took out, on the tables t before the step: a fetch and an alloc have it as the datum, a reset finds what is in the
@@ -49,14 +49,14 @@ value_of t c a =
     cond (eqb c.kind 18) ((found t).box c.object).positions.count (cond (eqb c.kind 17 || eqb c.kind 20) a.datum c.operand)
 
 -- the event of a call that finished, if it did with 0
-abbrev pub eventsOf : ℕ → Tables → ℕ → Call → Answer → List Event
-eventsOf n t i c a =
-    cond (isCounted c.kind && is_zero a.message)
+abbrev pub events_of : ℕ → Tables → ℕ → Call → Answer → List Event
+events_of n t i c a =
+    cond (is_counted c.kind && is_zero a.message)
     (record { step = n; who = i; kind = c.kind; object = c.object; value = value_of t c a } ∷ []) []
 
 -- what a moment, the n-th of a run, shows of i
-abbrev pub shownBy : ℕ → Moment → ℕ → List Event
-shownBy n m i = cond (finishes m i) (eventsOf n m.before i (call_by m i) (answerBy m i)) []
+abbrev pub shown_by : ℕ → Moment → ℕ → List Event
+shown_by n m i = cond (finishes m i) (events_of n m.before i (call_by m i) (answer_by m i)) []
 
 -- those of several events that pass a test, in their order
 abbrev pub those : (Event → Bool) → List Event → List Event
@@ -75,9 +75,9 @@ pub data Turns (m : Moment) : List ℕ → Type 0 where
       → Turns m (m.step.caller ∷ is)
 
 -- whether i has a turn among these
-abbrev pub isAmong : ℕ → List ℕ → Bool
-isAmong i [] = false
-isAmong i (j ∷ js) = eqb j i || isAmong i js
+abbrev pub is_among : ℕ → List ℕ → Bool
+is_among i [] = false
+is_among i (j ∷ js) = eqb j i || is_among i js
 
 -- a mailbox call serves this place: "releases the first of the other side's waiters", a post the readers, a fetch the writers
 pub data Serves (c : Call) : ℕ → Type 0 where
@@ -88,20 +88,20 @@ pub data Serves (c : Call) : ℕ → Type 0 where
 -- last of them, if at all
 abbrev pub in_turn : (ℕ → List Event) → List ℕ → List Event
 in_turn f [] = []
-in_turn f (i ∷ is) = cond (isAmong i is) [] (f i) ++ in_turn f is
+in_turn f (i ∷ is) = cond (is_among i is) [] (f i) ++ in_turn f is
 
 -- some events are all that a moment shows: of each thread and of an interrupt just what the result shows, and of nobody else
 abbrev pub Shown : ℕ → Moment → List Event → Type 0
-Shown n m es = (i : ℕ) → those (is_of i) es ≡ shownBy n m i
+Shown n m es = (i : ℕ) → those (is_of i) es ≡ shown_by n m i
 
 -- a call that only a step itself makes, and none that is continued: an interrupt's, a reset, a free, an add
-abbrev pub isOwn : Event → Bool
-isOwn e = eqb e.who 255 || (eqb e.kind 18 || (eqb e.kind 21 || eqb e.kind 22))
+abbrev pub is_own : Event → Bool
+is_own e = eqb e.who 255 || (eqb e.kind 18 || (eqb e.kind 21 || eqb e.kind 22))
 
 -- settling comes "After every accepted step": such a call comes first
 pub data OwnFirst : List Event → Type 0 where
   none : OwnFirst []
-  first : (e : Event) {es : List Event} → those isOwn es ≡ [] → OwnFirst (e ∷ es)
+  first : (e : Event) {es : List Event} → those is_own es ≡ [] → OwnFirst (e ∷ es)
 
 -- ---- a run
 
@@ -110,8 +110,8 @@ pub data OwnFirst : List Event → Type 0 where
 pub data History : ℕ → List Moment → List Event → Type 0 where
   none : {n : ℕ} → History n [] []
   more : {n : ℕ} {m : Moment} {ms : List Moment} (is : List ℕ) (fs : List Event) → Turns m is
-      → Shown n m (in_turn (shownBy n m) is) → OwnFirst (in_turn (shownBy n m) is) → History (suc n) ms fs
-      → History n (m ∷ ms) (in_turn (shownBy n m) is ++ fs)
+      → Shown n m (in_turn (shown_by n m) is) → OwnFirst (in_turn (shown_by n m) is) → History (suc n) ms fs
+      → History n (m ∷ ms) (in_turn (shown_by n m) is ++ fs)
 
 -- ---- counting, from the results alone
 
@@ -122,12 +122,12 @@ gathered f (suc n) = gathered f n ++ f n
 
 -- what a moment shows, the interrupt's first, then thread by thread
 abbrev pub shown : ℕ → Moment → List Event
-shown n m = shownBy n m 255 ++ gathered (shownBy n m) m.before.sizes.threads
+shown n m = shown_by n m 255 ++ gathered (shown_by n m) m.before.sizes.threads
 
 -- what the moments of a run show, the first of them the n-th
-abbrev pub shownIn : ℕ → List Moment → List Event
-shownIn n [] = []
-shownIn n (m ∷ ms) = shown n m ++ shownIn (suc n) ms
+abbrev pub shown_in : ℕ → List Moment → List Event
+shown_in n [] = []
+shown_in n (m ∷ ms) = shown n m ++ shown_in (suc n) ms
 
 -- a sum over events
 abbrev pub total : (Event → ℕ) → List Event → ℕ
@@ -155,5 +155,5 @@ abbrev pub each : (Event → Bool) → Event → ℕ
 each f e = cond (f e) 1 0
 
 -- "those present at each reset"
-abbrev pub lostAt : ℕ → Event → ℕ
-lostAt b e = cond (emptied b e) e.value 0
+abbrev pub lost_at : ℕ → Event → ℕ
+lost_at b e = cond (emptied b e) e.value 0

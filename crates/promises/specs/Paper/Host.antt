@@ -4,7 +4,7 @@ use Rattle.std.specs.Prelude.{ℕ, ◌<◌, ◌≡◌, List, [], ◌∷◌, leng
 use Rattle.kernel.specs.declared.clock.Clock.{Clock}
 use Rattle.library.specs.declared.calls.Step.{Step}
 use Rattle.library.specs.declared.tables.Tables.{Tables}
-use Rattle.promises.specs.Paper.World.{noBox, noPool, found}
+use Rattle.promises.specs.Paper.World.{no_box, no_pool, found}
 use Rattle.promises.specs.Paper.Together.{HangTogether}
 
 pub record HostTables (t : Tables) : Type 0 where
@@ -13,10 +13,10 @@ pub record HostTables (t : Tables) : Type 0 where
   pub references : length t.kernel.references ≡ 8
   pub waiting : length t.kernel.words.waiting ≡ 36
   pub mailboxes : length t.mailboxes ≡ 4
-  pub messages : (m : ℕ) → m < 4 → length (get_or t.mailboxes m noBox).messages ≡ 16
+  pub messages : (m : ℕ) → m < 4 → length (get_or t.mailboxes m no_box).messages ≡ 16
   pub pools : length t.pools ≡ 4
-  pub lists : (q : ℕ) → q < t.sizes.pools → length (get_or t.pools q noPool).list ≡ 32
-  pub marks : (q : ℕ) → q < t.sizes.pools → length (get_or t.pools q noPool).marks ≡ 32
+  pub lists : (q : ℕ) → q < t.sizes.pools → length (get_or t.pools q no_pool).list ≡ 32
+  pub marks : (q : ℕ) → q < t.sizes.pools → length (get_or t.pools q no_pool).marks ≡ 32
 
 -- "object (a byte), a (four bytes)"
 pub record HostStep (s : Step) : Type 0 where

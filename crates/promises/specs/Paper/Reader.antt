@@ -6,7 +6,7 @@ use Rattle.library.specs.declared.sizes.Sizes.{Sizes}
 use Rattle.trace.specs.declared.decoding.Read.{Read}
 use Rattle.promises.specs.Paper.Together.{SizesFit}
 use Rattle.promises.specs.Paper.Fresh.{nothing}
-use Rattle.promises.specs.Paper.Answers.{Said, foundSaid}
+use Rattle.promises.specs.Paper.Answers.{Said, found_said}
 
 -- ---- bytes
 
@@ -23,8 +23,8 @@ abbrev pub four : List ℕ → ℕ → ℕ
 four s at = byte s at * 16777216 + byte s (at + 1) * 65536 + byte s (at + 2) * 256 + byte s (at + 3)
 
 -- "Record 0 is T, S, Q, R, M, P and M bytes of slots", behind the version byte and two bytes of length; absent mailboxes have 0 slots
-abbrev pub sizesIn : List ℕ → Sizes
-sizesIn s =
+abbrev pub sizes_in : List ℕ → Sizes
+sizes_in s =
     record {
       threads = byte s 3;
       semaphores = byte s 4;
@@ -40,8 +40,8 @@ sizesIn s =
     }
 
 -- a body by itself, as the decoders are handed it: "T, S, Q, R, M, P and M bytes of slots"
-abbrev pub sizesOfBody : List ℕ → Sizes
-sizesOfBody b =
+abbrev pub sizes_of_body : List ℕ → Sizes
+sizes_of_body b =
     record {
       threads = byte b 0;
       semaphores = byte b 1;
@@ -53,8 +53,8 @@ sizesOfBody b =
     }
 
 -- "kind, caller, object (a byte each), a, timeout (four each, big-endian)"
-abbrev pub stepOfBody : List ℕ → Step
-stepOfBody b = record { kind = byte b 0; caller = byte b 1; object = byte b 2; a = four b 3; timeout = four b 7 }
+abbrev pub step_of_body : List ℕ → Step
+step_of_body b = record { kind = byte b 0; caller = byte b 1; object = byte b 2; a = four b 3; timeout = four b 7 }
 
 -- the record's number, from its place: record 0 ends at 9 to 13, and each later record is 13 bytes long
 pub data NumberOf (at : ℕ) : ℕ → Type 0 where
@@ -76,7 +76,7 @@ pub data HeadBroken (s : List ℕ) : ℕ → Type 0 where
   -- "13 wrong length": "Record 0's right length is 6 plus its M byte; below 6 is wrong"
   wrong-length : two s 1 ≢ 6 + byte s 7 → HeadBroken s 13
   -- "14 a size out of its limits"
-  size : (SizesFit (sizesIn s) → ⊥) → HeadBroken s 14
+  size : (SizesFit (sizes_in s) → ⊥) → HeadBroken s 14
 
 -- and a later record at a place. 15 and 11 are of the trace as a whole, and record 0's alone: a listing stops with "its number (0 for 15 and
 -- 11)". A reader that they refuse stands at place 0 still, so none that begins there meets them later; a host may name any place, and is
@@ -100,7 +100,7 @@ pub record FirstOf (Broken : ℕ → Type 0) (n : ℕ) : Type 0 where
 
 -- what a read gives: what it found, record 0's sizes (else none), and the reader's place after it
 pub record Gives (r : Read) (what : Said) (sizes : Sizes) (next : ℕ) : Type 0 where
-  pub found : foundSaid r.found ≡ what
+  pub found : found_said r.found ≡ what
   pub sized : r.sizes ≡ sizes
   pub place : r.next ≡ next
 
@@ -108,7 +108,7 @@ pub record Gives (r : Read) (what : Said) (sizes : Sizes) (next : ℕ) : Type 0 
 pub data HeadRead (s : List ℕ) (r : Read) : Type 0 where
   -- "A refused read gives the number, the record's number and no step, and moves no reader"
   refused : (n : ℕ) → FirstOf (HeadBroken s) n → Gives r (record { code = n; gives = 0; values = 0 ∷ [] }) nothing 0 → HeadRead s r
-  opened : ((n : ℕ) → HeadBroken s n → ⊥) → Gives r (record { code = 0; gives = 1; values = [] }) (sizesIn s) (9 + byte s 7) → HeadRead s r
+  opened : ((n : ℕ) → HeadBroken s n → ⊥) → Gives r (record { code = 0; gives = 1; values = [] }) (sizes_in s) (9 + byte s 7) → HeadRead s r
 
 -- behind record 0
 pub data LaterRead (s : List ℕ) (at : ℕ) (r : Read) : Type 0 where
@@ -136,4 +136,4 @@ pub data ReadOf (s : List ℕ) (at : ℕ) (r : Read) : Type 0 where
 -- "A trace reader keeps hold of the trace and its place in it": after n records read from the beginning it stands at a place
 pub data Reached (s : List ℕ) : ℕ → ℕ → Type 0 where
   begin : Reached s 0 0
-  on : {n at : ℕ} → Reached s n at → (r : Read) → ReadOf s at r → ((foundSaid r.found).gives ≢ 0) → Reached s (suc n) r.next
+  on : {n at : ℕ} → Reached s n at → (r : Read) → ReadOf s at r → ((found_said r.found).gives ≢ 0) → Reached s (suc n) r.next

@@ -7,18 +7,18 @@ use Rattle.library.specs.declared.calls.Step.{Step}
 use Rattle.library.specs.declared.tables.Tables.{Tables}
 use Rattle.steps.specs.declared.stepping.Stepped.{Stepped}
 use Rattle.promises.specs.Paper.World.{risen, found, Running}
-use Rattle.promises.specs.Paper.Waking.{rowOf, inMask}
+use Rattle.promises.specs.Paper.Waking.{row_of, in_mask}
 
 -- the step's own call finishes in this step with m and 0: in the result, and of a thread in its record; an interrupt has none
 pub record AnswersWith (s : Step) (r : Stepped) (m : ℤ) : Type 0 where
   pub message : r.outcome.message ≡ m
   pub datum : r.outcome.datum ≡ 0
-  pub last : s.caller ≢ 255 → (rowOf r.tables s.caller).answer ≡ record { message = m; datum = 0 }
-  pub finished : s.caller ≢ 255 → inMask s.caller r.outcome.finished ≡ true
+  pub last : s.caller ≢ 255 → (row_of r.tables s.caller).answer ≡ record { message = m; datum = 0 }
+  pub finished : s.caller ≢ 255 → in_mask s.caller r.outcome.finished ≡ true
 
 -- the tables, but for the step number, which has risen
-abbrev pub risenIn : Tables → Tables
-risenIn t =
+abbrev pub risen_in : Tables → Tables
+risen_in t =
     record {
       kernel = record {
         threads = t.kernel.threads;
@@ -33,21 +33,21 @@ risenIn t =
     }
 
 -- and for the last answer of thread i, which is m and 0
-abbrev pub answeredIn : Tables → ℕ → ℤ → Tables
-answeredIn t i m =
+abbrev pub answered_in : Tables → ℕ → ℤ → Tables
+answered_in t i m =
     record {
       kernel = record {
         threads = set t.kernel.threads i (record {
-          state = (rowOf t i).state;
-          place = (rowOf t i).place;
-          remaining = (rowOf t i).remaining;
-          pending = (rowOf t i).pending;
-          awaited = (rowOf t i).awaited;
-          message = (rowOf t i).message;
-          call = (rowOf t i).call;
+          state = (row_of t i).state;
+          place = (row_of t i).place;
+          remaining = (row_of t i).remaining;
+          pending = (row_of t i).pending;
+          awaited = (row_of t i).awaited;
+          message = (row_of t i).message;
+          call = (row_of t i).call;
           answer = record { message = m; datum = 0 };
-          cause = (rowOf t i).cause;
-          step = (rowOf t i).step;
+          cause = (row_of t i).cause;
+          step = (row_of t i).step;
         });
         counters = t.kernel.counters;
         references = t.kernel.references;
@@ -62,12 +62,12 @@ answeredIn t i m =
 -- "at counter 2147483647 is now accepted, leaves the counter, wakes nobody and answers message 1 in place of 0"
 pub record AtTop (t : Tables) (c : Clock) (s : Step) (r : Stepped) : Type 0 where
   pub answers : AnswersWith s r (pos 1)
-  pub nobody-woken : (i : ℕ) → inMask i r.outcome.woken ≡ false
-  pub no-other-finished : (i : ℕ) → i ≢ s.caller → inMask i r.outcome.finished ≡ false
+  pub nobody-woken : (i : ℕ) → in_mask i r.outcome.woken ≡ false
+  pub no-other-finished : (i : ℕ) → i ≢ s.caller → in_mask i r.outcome.finished ≡ false
   pub running : Running (found t) r.outcome.running
   -- no byte changes but a calling thread's last answer and the step number
-  pub thread : s.caller ≢ 255 → r.tables ≡ answeredIn t s.caller (pos 1)
-  pub interrupt : s.caller ≡ 255 → r.tables ≡ risenIn t
+  pub thread : s.caller ≢ 255 → r.tables ≡ answered_in t s.caller (pos 1)
+  pub interrupt : s.caller ≡ 255 → r.tables ≡ risen_in t
   pub clock : r.clock ≡ c
 
 -- below it: "counter +1", and the answer is 0

@@ -41,15 +41,15 @@ pub record ClockTick (c d : Clock) : Type 0 where
 -- ---- conversions
 
 -- "Seconds, milliseconds and microseconds": how many of a unit make a second
-abbrev pub inSecond : Unit → ℕ
-inSecond Seconds = 1
-inSecond Milliseconds = 1000
-inSecond Microseconds = 1000000
+abbrev pub in_second : Unit → ℕ
+in_second Seconds = 1
+in_second Milliseconds = 1000
+in_second Microseconds = 1000000
 
 -- "Where no frequency is given, take 10000 instead of 1000" (document 02)
-abbrev pub ticksInSecond : Rate → ℕ
-ticksInSecond (Given f) = f
-ticksInSecond Standard = 10000
+abbrev pub ticks_in_second : Rate → ℕ
+ticks_in_second (Given f) = f
+ticks_in_second Standard = 10000
 
 -- "Frequency is 1 to 1,000,000"
 pub record Possible (f : ℕ) : Type 0 where
@@ -64,18 +64,18 @@ pub record RoundedUp (a b n : ℕ) : Type 0 where
 -- "Seconds, milliseconds and microseconds (32-bit) become ticks rounded upward": x of the unit u, at a rate
 pub data TicksOf (u : Unit) (x : ℕ) (rate : Rate) (r : Ticks) : Type 0 where
   -- ".. and so is a frequency outside its range"; "A refused conversion returns 6 and value 0"
-  no-frequency : (Possible (ticksInSecond rate) → ⊥) → r.code ≡ 6 → r.interval.0 ≡ 0 → TicksOf u x rate r
+  no-frequency : (Possible (ticks_in_second rate) → ⊥) → r.code ≡ 6 → r.interval.0 ≡ 0 → TicksOf u x rate r
   -- "a result above 4294967294 is refused with 6"
-  too_long : Possible (ticksInSecond rate) → (n : ℕ) → RoundedUp (x * ticksInSecond rate) (inSecond u) n → 4294967294 < n
+  too_long : Possible (ticks_in_second rate) → (n : ℕ) → RoundedUp (x * ticks_in_second rate) (in_second u) n → 4294967294 < n
       → r.code ≡ 6 → r.interval.0 ≡ 0 → TicksOf u x rate r
-  ticks : Possible (ticksInSecond rate) → (n : ℕ) → RoundedUp (x * ticksInSecond rate) (inSecond u) n → n ≤ 4294967294
+  ticks : Possible (ticks_in_second rate) → (n : ℕ) → RoundedUp (x * ticks_in_second rate) (in_second u) n → n ≤ 4294967294
       → r.code ≡ 0 → r.interval.0 ≡ n → TicksOf u x rate r
 
 -- "Ticks become the other units rounded upward as 64-bit numbers": d in the unit u, at a rate
 pub data UnitsOf (u : Unit) (d : Interval) (rate : Rate) (r : Units) : Type 0 where
-  no-frequency : (Possible (ticksInSecond rate) → ⊥) → r.code ≡ 6 → r.value ≡ 0 → UnitsOf u d rate r
+  no-frequency : (Possible (ticks_in_second rate) → ⊥) → r.code ≡ 6 → r.value ≡ 0 → UnitsOf u d rate r
   -- "infinite is refused with 6"
-  infinite : Possible (ticksInSecond rate) → d.0 ≡ 4294967295 → r.code ≡ 6 → r.value ≡ 0 → UnitsOf u d rate r
+  infinite : Possible (ticks_in_second rate) → d.0 ≡ 4294967295 → r.code ≡ 6 → r.value ≡ 0 → UnitsOf u d rate r
   -- 18446744073709551615 is the greatest 64-bit number
-  units : Possible (ticksInSecond rate) → d.0 < 4294967295 → (n : ℕ) → RoundedUp (d.0 * inSecond u) (ticksInSecond rate) n
+  units : Possible (ticks_in_second rate) → d.0 < 4294967295 → (n : ℕ) → RoundedUp (d.0 * in_second u) (ticks_in_second rate) n
       → n ≤ 18446744073709551615 → r.code ≡ 0 → r.value ≡ n → UnitsOf u d rate r

@@ -8,7 +8,7 @@ use Rattle.kernel.specs.declared.records.Words.{Words}
 use Rattle.library.specs.declared.sizes.Sizes.{Sizes}
 use Rattle.library.specs.declared.ring.Positions.{Positions}
 use Rattle.library.specs.declared.tables.Pool.{Pool}
-use Rattle.promises.specs.Paper.World.{World, noCall, MaskOf, First}
+use Rattle.promises.specs.Paper.World.{World, no_call, MaskOf, First}
 
 -- ---- sizes
 
@@ -29,7 +29,7 @@ pub record SizesFit (z : Sizes) : Type 0 where
 -- sleeps keeps 0 for unused fields"
 pub data CallFits (z : Sizes) (c : Call) : Type 0 where
   -- "all 0 without one"
-  none : c ≡ noCall → CallFits z c
+  none : c ≡ no_call → CallFits z c
   semaphore : c.kind ≡ 2 → c.object < z.semaphores → c.operand ≡ 0 → 1 ≤ c.timeout → CallFits z c
   queue : c.kind ≡ 6 → c.object < z.queues → c.operand ≡ 0 → 1 ≤ c.timeout → CallFits z c
   reference : c.kind ≡ 9 → c.object < z.references → c.operand ≡ 0 → 1 ≤ c.timeout → CallFits z c
@@ -82,8 +82,8 @@ number f zero = 0
 number f (suc n) = number f n + cond (f n) 1 0
 
 -- thread i is queued at the place p
-abbrev pub isQueued : World → ℕ → ℕ → Bool
-isQueued w p i = eqb (w.thread i).state 3 && eqb (w.thread i).place p
+abbrev pub is_queued : World → ℕ → ℕ → Bool
+is_queued w p i = eqb (w.thread i).state 3 && eqb (w.thread i).place p
 
 -- "A semaphore (a pool's too) .. with n > 0 threads queued has counter -n; with none, a semaphore is at least 0"
 pub data SemaphoreFits (c : ℤ) : ℕ → Type 0 where
@@ -120,8 +120,8 @@ is_zero (pos (suc m)) = false
 is_zero (negsuc m) = false
 
 -- "ready threads whose unfinished alloc was woken with 0": thread i, by the pool q
-abbrev pub isPromised : World → ℕ → ℕ → Bool
-isPromised w q i =
+abbrev pub is_promised : World → ℕ → ℕ → Bool
+is_promised w q i =
     (eqb (w.thread i).state 0 && (eqb (w.thread i).call.kind 20 && is_zero (w.thread i).message))
     && eqb (w.thread i).call.object q
 
@@ -141,8 +141,8 @@ pub record PoolFits (x : Pool) (c : ℤ) (promised : ℕ) : Type 0 where
 -- ---- words, of document 02
 
 -- thread i is ready
-abbrev pub isReady : World → ℕ → Bool
-isReady w i = eqb (w.thread i).state 0
+abbrev pub is_ready : World → ℕ → Bool
+is_ready w i = eqb (w.thread i).state 0
 
 -- a place where threads queue
 pub data InUse (z : Sizes) (p : ℕ) : Type 0 where
@@ -158,9 +158,9 @@ WordOf f n m = MaskOf (λ i. ltb i n && f i) m
 
 pub record WordsAgree (w : World) (v : Words) : Type 0 where
   -- "bit i set exactly when thread i is ready"
-  pub ready : WordOf (isReady w) w.sizes.threads v.ready
+  pub ready : WordOf (is_ready w) w.sizes.threads v.ready
   -- "and one such word for each semaphore (a pool's too), queue and mailbox side with the threads waiting there"
-  pub waiting : (p : ℕ) → InUse w.sizes p → WordOf (isQueued w p) w.sizes.threads (get_or v.waiting p 0)
+  pub waiting : (p : ℕ) → InUse w.sizes p → WordOf (is_queued w p) w.sizes.threads (get_or v.waiting p 0)
 
 -- ---- the section
 
@@ -168,23 +168,23 @@ pub record HangTogether (w : World) (v : Words) (c : Clock) : Type 0 where
   pub sizes : SizesFit w.sizes
   -- "the frequency .. in range"
   pub frequency : (1 ≤ c.frequency) × (c.frequency ≤ 1000000)
-  pub semaphores : (s : ℕ) → s < w.sizes.semaphores → SemaphoreFits (w.counter s) (number (isQueued w s) w.sizes.threads)
+  pub semaphores : (s : ℕ) → s < w.sizes.semaphores → SemaphoreFits (w.counter s) (number (is_queued w s) w.sizes.threads)
   pub pool-counters : (q : ℕ) → q < w.sizes.pools
-      → SemaphoreFits (w.counter (16 + q)) (number (isQueued w (16 + q)) w.sizes.threads)
+      → SemaphoreFits (w.counter (16 + q)) (number (is_queued w (16 + q)) w.sizes.threads)
   pub queues : (q : ℕ) → q < w.sizes.queues
-      → QueueFits (w.counter (20 + q)) (number (isQueued w (20 + q)) w.sizes.threads)
+      → QueueFits (w.counter (20 + q)) (number (is_queued w (20 + q)) w.sizes.threads)
   -- "a mailbox has a writers' and a readers' queue"
   pub writers : (m : ℕ) → m < w.sizes.mailboxes
-      → QueueFits (w.counter (28 + m)) (number (isQueued w (28 + m)) w.sizes.threads)
+      → QueueFits (w.counter (28 + m)) (number (is_queued w (28 + m)) w.sizes.threads)
   pub readers : (m : ℕ) → m < w.sizes.mailboxes
-      → QueueFits (w.counter (32 + m)) (number (isQueued w (32 + m)) w.sizes.threads)
+      → QueueFits (w.counter (32 + m)) (number (is_queued w (32 + m)) w.sizes.threads)
   -- "Reference r holds i exactly if i is suspended on r"
   pub holder : (r : ℕ) → r < w.sizes.references → (w.holder r ≡ 255) ⊎ (w.holder r < w.sizes.threads)
   pub holds : (r : ℕ) → r < w.sizes.references → (i : ℕ) → i < w.sizes.threads
       → (w.holder r ≡ i) ↔ (((w.thread i).state ≡ 2) × ((w.thread i).place ≡ r))
   pub mailboxes : (m : ℕ) → m < w.sizes.mailboxes → PositionsFit (w.box m).positions (get_or w.sizes.slots m 0)
   pub pools : (q : ℕ) → q < w.sizes.pools
-      → PoolFits (w.pool q) (w.counter (16 + q)) (number (isPromised w q) w.sizes.threads)
+      → PoolFits (w.pool q) (w.counter (16 + q)) (number (is_promised w q) w.sizes.threads)
   pub threads : (i : ℕ) → i < w.sizes.threads → ThreadFits w.sizes (w.thread i)
   -- "The running thread has no unfinished call"
   pub running : (i : ℕ) → First w i → (w.thread i).call.kind ≡ 0

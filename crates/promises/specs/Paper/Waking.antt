@@ -7,17 +7,17 @@ use Rattle.kernel.specs.declared.records.Call.{Call}
 use Rattle.kernel.specs.declared.records.Thread.{Thread}
 use Rattle.library.specs.declared.calls.Step.{Step}
 use Rattle.library.specs.declared.tables.Tables.{Tables}
-use Rattle.promises.specs.Paper.World.{noCall, noAnswer, found, signed, Highest}
+use Rattle.promises.specs.Paper.World.{no_call, no_answer, found, signed, Highest}
 use Rattle.promises.specs.Paper.Rows.{slots_of}
 use Rattle.promises.specs.Paper.Settling.{IsOther}
 
 -- thread i's record between two steps
-abbrev pub rowOf : Tables → ℕ → Thread
-rowOf t i = (found t).thread i
+abbrev pub row_of : Tables → ℕ → Thread
+row_of t i = (found t).thread i
 
 -- whether thread i is in a mask, or flag i in a set of flags
-abbrev pub inMask : ℕ → ℕ → Bool
-inMask i mask = eqb (mask / 2 ^ i % 2) 1
+abbrev pub in_mask : ℕ → ℕ → Bool
+in_mask i mask = eqb (mask / 2 ^ i % 2) 1
 
 -- "mailbox post; post ahead", "fetch"
 abbrev pub IsPost : ℕ → Type 0
@@ -29,7 +29,7 @@ IsMailing kind = IsPost kind ⊎ (kind ≡ 17)
 -- a mailbox call of a kind on an object that the step tries: its own, or one that a thread's record kept unfinished
 pub data Tried (t : Tables) (s : Step) (kind object : ℕ) : Type 0 where
   own : s.kind ≡ kind → s.object ≡ object → Tried t s kind object
-  kept : (j : ℕ) → j < t.sizes.threads → (rowOf t j).call.kind ≡ kind → (rowOf t j).call.object ≡ object → Tried t s kind object
+  kept : (j : ℕ) → j < t.sizes.threads → (row_of t j).call.kind ≡ kind → (row_of t j).call.object ≡ object → Tried t s kind object
 
 -- a mailbox call that the step tries serves the other side, "releases the first of the other side's waiters with 0": a reader by a post, a
 -- writer by a fetch. Not in a mailbox that the step resets: "in reset state post and fetch answer -2". Of document 02, the cause is the tried
@@ -68,8 +68,8 @@ abbrev pub heard : Step → ℕ → Thread → ℕ
 heard s i a = cond (eqb s.kind 13 && eqb s.object i) (bit_or a.pending s.a) a.pending
 
 -- the same sleep, one tick shorter at a tick
-abbrev pub sleptOn : Step → ℕ → Thread → Thread
-sleptOn s i a =
+abbrev pub slept_on : Step → ℕ → Thread → Thread
+slept_on s i a =
     record {
       state = a.state;
       place = a.place;
@@ -98,8 +98,8 @@ pub data AnswerOf (a : Thread) (flags : ℕ) (m : ℤ) : ℤ → ℕ → ℕ →
   fetched : a.call.kind ≡ 17 → m ≡ pos 0 → (x : ℕ) → AnswerOf a flags m (pos 0) x flags
 
 -- a record that was woken with m, by the cause c, in the step n, and whose call is not continued yet; l is its last answer
-abbrev pub wokenRow : Step → ℕ → Thread → ℤ → ℕ → ℕ → Answer → Thread
-wokenRow s i a m c n l =
+abbrev pub woken_row : Step → ℕ → Thread → ℤ → ℕ → ℕ → Answer → Thread
+woken_row s i a m c n l =
     record {
       state = 0;
       place = 0;
@@ -114,8 +114,8 @@ wokenRow s i a m c n l =
     }
 
 -- a record that was woken with m, by the cause c, in the step n, and whose call finished with x and d; the flags f stay pending
-abbrev pub doneRow : ℤ → ℕ → ℕ → ℤ → ℕ → ℕ → Thread
-doneRow m c n x d f =
+abbrev pub done_row : ℤ → ℕ → ℕ → ℤ → ℕ → ℕ → Thread
+done_row m c n x d f =
     record {
       state = 0;
       place = 0;
@@ -123,7 +123,7 @@ doneRow m c n x d f =
       pending = f;
       awaited = 0;
       message = m;
-      call = noCall;
+      call = no_call;
       answer = record { message = x; datum = d };
       cause = c;
       step = n;
@@ -135,8 +135,8 @@ pub data SideOf (c : Call) : ℕ → Type 0 where
   readers : c.kind ≡ 17 → SideOf c (32 + c.object)
 
 -- a record whose mailbox call, woken with 0, was tried again and sleeps again at the place p, "with its FULL timeout"
-abbrev pub againRow : Step → ℕ → Thread → ℕ → Thread
-againRow s i a p =
+abbrev pub again_row : Step → ℕ → Thread → ℕ → Thread
+again_row s i a p =
     record {
       state = 3;
       place = p;
@@ -145,7 +145,7 @@ againRow s i a p =
       awaited = a.awaited;
       message = pos 0;
       call = a.call;
-      answer = noAnswer;
+      answer = no_answer;
       cause = a.cause;
       step = a.step;
     }
@@ -154,18 +154,18 @@ againRow s i a p =
 -- and whether its call finished. The record names the cause of the waking and the number of this step
 pub data SleeperAfter (t : Tables) (s : Step) (i : ℕ) (b : Thread) (woken finished : Bool) : Type 0 where
   -- it sleeps on
-  on : (LastTick s (rowOf t i) → ⊥) → b ≡ sleptOn s i (rowOf t i) → woken ≡ false → finished ≡ false → SleeperAfter t s i b woken finished
+  on : (LastTick s (row_of t i) → ⊥) → b ≡ slept_on s i (row_of t i) → woken ≡ false → finished ≡ false → SleeperAfter t s i b woken finished
   -- it was made ready, and its call is not continued yet
-  ready : (m : ℤ) (c : ℕ) → WokenBy t s i (rowOf t i) m c → b ≡ wokenRow s i (rowOf t i) m c (found t).step (rowOf t i).answer
+  ready : (m : ℤ) (c : ℕ) → WokenBy t s i (row_of t i) m c → b ≡ woken_row s i (row_of t i) m c (found t).step (row_of t i).answer
       → woken ≡ true → finished ≡ false → SleeperAfter t s i b woken finished
   -- it was made ready, and its call finished with the answer that follows
-  done : (m x : ℤ) (c d f : ℕ) → WokenBy t s i (rowOf t i) m c → AnswerOf (rowOf t i) (heard s i (rowOf t i)) m x d f
-      → b ≡ doneRow m c (found t).step x d f
+  done : (m x : ℤ) (c d f : ℕ) → WokenBy t s i (row_of t i) m c → AnswerOf (row_of t i) (heard s i (row_of t i)) m x d f
+      → b ≡ done_row m c (found t).step x d f
       → woken ≡ true → finished ≡ true → SleeperAfter t s i b woken finished
 
 -- a ready record as it was, once flags of the step have come
-abbrev pub readyOn : Step → ℕ → Thread → Thread
-readyOn s i a =
+abbrev pub ready_on : Step → ℕ → Thread → Thread
+ready_on s i a =
     record {
       state = a.state;
       place = a.place;
@@ -182,19 +182,19 @@ readyOn s i a =
 -- what it has made of thread i that was made ready by an earlier step, and whose call was not continued yet
 pub data ReadyAfter (t : Tables) (s : Step) (i : ℕ) (b : Thread) (woken finished : Bool) : Type 0 where
   -- it has not come to run
-  on : b ≡ readyOn s i (rowOf t i) → woken ≡ false → finished ≡ false → ReadyAfter t s i b woken finished
+  on : b ≡ ready_on s i (row_of t i) → woken ≡ false → finished ≡ false → ReadyAfter t s i b woken finished
   -- its call finished, with the answer that follows from the message with which it was woken
-  done : (x : ℤ) (d f : ℕ) → AnswerOf (rowOf t i) (heard s i (rowOf t i)) (rowOf t i).message x d f
-      → b ≡ doneRow (rowOf t i).message (rowOf t i).cause (rowOf t i).step x d f → woken ≡ false → finished ≡ true → ReadyAfter t s i b woken finished
+  done : (x : ℤ) (d f : ℕ) → AnswerOf (row_of t i) (heard s i (row_of t i)) (row_of t i).message x d f
+      → b ≡ done_row (row_of t i).message (row_of t i).cause (row_of t i).step x d f → woken ≡ false → finished ≡ true → ReadyAfter t s i b woken finished
   -- its mailbox call was tried again, and sleeps again at its own side
-  again : (p : ℕ) → SideOf (rowOf t i).call p → (rowOf t i).message ≡ pos 0 → b ≡ againRow s i (rowOf t i) p → woken ≡ false → finished ≡ false → ReadyAfter t s i b woken finished
+  again : (p : ℕ) → SideOf (row_of t i).call p → (row_of t i).message ≡ pos 0 → b ≡ again_row s i (row_of t i) p → woken ≡ false → finished ≡ false → ReadyAfter t s i b woken finished
   -- it slept there again, and was made ready once more, by a mailbox call that serves that side; it is not continued since
-  ready-again : (p c : ℕ) → SideOf (rowOf t i).call p → (rowOf t i).message ≡ pos 0 → Served t s 3 p (pos 0) c
-      → b ≡ wokenRow s i (rowOf t i) (pos 0) c (found t).step noAnswer → woken ≡ true → finished ≡ false → ReadyAfter t s i b woken finished
+  ready-again : (p c : ℕ) → SideOf (row_of t i).call p → (row_of t i).message ≡ pos 0 → Served t s 3 p (pos 0) c
+      → b ≡ woken_row s i (row_of t i) (pos 0) c (found t).step no_answer → woken ≡ true → finished ≡ false → ReadyAfter t s i b woken finished
   -- or it finished then, with the answer that follows
-  done-again : (p c : ℕ) (x : ℤ) (d : ℕ) → SideOf (rowOf t i).call p → (rowOf t i).message ≡ pos 0 → Served t s 3 p (pos 0) c
-      → AnswerOf (rowOf t i) (heard s i (rowOf t i)) (pos 0) x d (heard s i (rowOf t i))
-      → b ≡ doneRow (pos 0) c (found t).step x d (heard s i (rowOf t i)) → woken ≡ true → finished ≡ true → ReadyAfter t s i b woken finished
+  done-again : (p c : ℕ) (x : ℤ) (d : ℕ) → SideOf (row_of t i).call p → (row_of t i).message ≡ pos 0 → Served t s 3 p (pos 0) c
+      → AnswerOf (row_of t i) (heard s i (row_of t i)) (pos 0) x d (heard s i (row_of t i))
+      → b ≡ done_row (pos 0) c (found t).step x d (heard s i (row_of t i)) → woken ≡ true → finished ≡ true → ReadyAfter t s i b woken finished
 
 -- where the step's own call waits, if it does: the state, and the place
 pub data OwnWait (s : Step) : ℕ → ℕ → Type 0 where
@@ -213,7 +213,7 @@ pub data WakerAfter (t : Tables) (s : Step) (i : ℕ) (b : Thread) (woken : Bool
   unwoken : b.state ≡ 0 → woken ≡ false → WakerAfter t s i b woken
   own-sleep : s.caller ≡ i → (st pl : ℕ) → OwnWait s st pl → (b.state ≡ 3 → b.place < 20 → OwnWait s 3 b.place)
       → WakerAfter t s i b woken
-  tried-again : IsMailing (rowOf t i).call.kind → (rowOf t i).message ≡ pos 0 → (b.state ≡ 3 → b.place < 20 → ⊥)
+  tried-again : IsMailing (row_of t i).call.kind → (row_of t i).message ≡ pos 0 → (b.state ≡ 3 → b.place < 20 → ⊥)
       → WakerAfter t s i b woken
 
 -- the timeout of the step's own call: the step's, and "12's full timeout is the interval slept", "a minus system time, wrapped"
@@ -247,8 +247,8 @@ pub data ReleasesFirst (t : Tables) (s : Step) : ℕ → Type 0 where
 
 -- the accepted step s makes thread i ready, whatever goes on while it settles
 pub data Due (t : Tables) (s : Step) (i : ℕ) : Type 0 where
-  last-tick : s.kind ≡ 1 → (rowOf t i).remaining ≡ 1 → Due t s i
-  events : s.kind ≡ 13 → s.object ≡ i → (rowOf t i).state ≡ 4 → bit_and (bit_or (rowOf t i).pending s.a) (rowOf t i).awaited ≢ 0 → Due t s i
-  resume : s.kind ≡ 10 → (rowOf t i).state ≡ 2 → (rowOf t i).place ≡ s.object → Due t s i
-  all : (p : ℕ) → ReleasesAll s p → (rowOf t i).state ≡ 3 → (rowOf t i).place ≡ p → Due t s i
+  last-tick : s.kind ≡ 1 → (row_of t i).remaining ≡ 1 → Due t s i
+  events : s.kind ≡ 13 → s.object ≡ i → (row_of t i).state ≡ 4 → bit_and (bit_or (row_of t i).pending s.a) (row_of t i).awaited ≢ 0 → Due t s i
+  resume : s.kind ≡ 10 → (row_of t i).state ≡ 2 → (row_of t i).place ≡ s.object → Due t s i
+  all : (p : ℕ) → ReleasesAll s p → (row_of t i).state ≡ 3 → (row_of t i).place ≡ p → Due t s i
   first : (p : ℕ) → ReleasesFirst t s p → Highest (found t) p i → Due t s i

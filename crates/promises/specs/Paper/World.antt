@@ -28,15 +28,15 @@ pub record World : Type 0 where
   pub answer : Answer
 
 -- "all 0 without one"
-abbrev pub noCall : Call
-noCall = record { kind = 0; object = 0; operand = 0; timeout = 0 }
+abbrev pub no_call : Call
+no_call = record { kind = 0; object = 0; operand = 0; timeout = 0 }
 
-abbrev pub noAnswer : Answer
-noAnswer = record { message = pos 0; datum = 0 }
+abbrev pub no_answer : Answer
+no_answer = record { message = pos 0; datum = 0 }
 
 -- what is read past a table's end
-abbrev pub noThread : Thread
-noThread =
+abbrev pub no_thread : Thread
+no_thread =
     record {
       state = 0;
       place = 0;
@@ -44,17 +44,17 @@ noThread =
       pending = 0;
       awaited = 0;
       message = pos 0;
-      call = noCall;
-      answer = noAnswer;
+      call = no_call;
+      answer = no_answer;
       cause = 0;
       step = 0;
     }
 
-abbrev pub noBox : Mailbox
-noBox = record { positions = record { read = 0; write = 0; count = 0 }; reset = 0; messages = replicate 16 0 }
+abbrev pub no_box : Mailbox
+no_box = record { positions = record { read = 0; write = 0; count = 0 }; reset = 0; messages = replicate 16 0 }
 
-abbrev pub noPool : Pool
-noPool = record { length = 0; list = replicate 32 0; marks = replicate 32 0 }
+abbrev pub no_pool : Pool
+no_pool = record { length = 0; list = replicate 32 0; marks = replicate 32 0 }
 
 -- of document 02: "rises by 1 at the start of each accepted step; at 4294967295 it stays there"
 abbrev pub risen : ℕ → ℕ
@@ -65,25 +65,25 @@ abbrev pub found : Tables → World
 found t =
     record {
       sizes = t.sizes;
-      thread = λ i. get_or t.kernel.threads i noThread;
+      thread = λ i. get_or t.kernel.threads i no_thread;
       counter = λ p. get_or t.kernel.counters p (pos 0);
       holder = λ r. get_or t.kernel.references r 255;
-      box = λ m. get_or t.mailboxes m noBox;
-      pool = λ q. get_or t.pools q noPool;
+      box = λ m. get_or t.mailboxes m no_box;
+      pool = λ q. get_or t.pools q no_pool;
       step = risen t.kernel.steps;
       woken = λ i. false;
       finished = λ i. false;
-      answer = noAnswer;
+      answer = no_answer;
     }
 
 -- what it leaves: each entry of the tables u is the world's, and the tables have a host's lengths
 pub record Left (w : World) (u : Tables) : Type 0 where
   pub sizes : u.sizes ≡ w.sizes
-  pub threads : (i : ℕ) → get_or u.kernel.threads i noThread ≡ w.thread i
+  pub threads : (i : ℕ) → get_or u.kernel.threads i no_thread ≡ w.thread i
   pub counters : (p : ℕ) → get_or u.kernel.counters p (pos 0) ≡ w.counter p
   pub references : (r : ℕ) → get_or u.kernel.references r 255 ≡ w.holder r
-  pub boxes : (m : ℕ) → get_or u.mailboxes m noBox ≡ w.box m
-  pub pools : (q : ℕ) → get_or u.pools q noPool ≡ w.pool q
+  pub boxes : (m : ℕ) → get_or u.mailboxes m no_box ≡ w.box m
+  pub pools : (q : ℕ) → get_or u.pools q no_pool ≡ w.pool q
   pub steps : u.kernel.steps ≡ w.step
   pub thread-rows : length u.kernel.threads ≡ 16
   pub counter-rows : length u.kernel.counters ≡ 36
@@ -98,8 +98,8 @@ abbrev pub put : {A : Type 0} → (ℕ → A) → ℕ → A → ℕ → A
 put f i a = λ j. cond (eqb j i) a (f j)
 
 -- one counter becomes c
-abbrev pub counterTo : World → ℕ → ℤ → World
-counterTo w p c =
+abbrev pub counter_to : World → ℕ → ℤ → World
+counter_to w p c =
     record {
       sizes = w.sizes;
       thread = w.thread;
@@ -114,8 +114,8 @@ counterTo w p c =
     }
 
 -- one thread's record becomes u
-abbrev pub threadTo : World → ℕ → Thread → World
-threadTo w i u =
+abbrev pub thread_to : World → ℕ → Thread → World
+thread_to w i u =
     record {
       sizes = w.sizes;
       thread = put w.thread i u;
@@ -130,8 +130,8 @@ threadTo w i u =
     }
 
 -- one mailbox becomes b
-abbrev pub boxTo : World → ℕ → Mailbox → World
-boxTo w m b =
+abbrev pub box_to : World → ℕ → Mailbox → World
+box_to w m b =
     record {
       sizes = w.sizes;
       thread = w.thread;
@@ -146,8 +146,8 @@ boxTo w m b =
     }
 
 -- one pool becomes x
-abbrev pub poolTo : World → ℕ → Pool → World
-poolTo w q x =
+abbrev pub pool_to : World → ℕ → Pool → World
+pool_to w q x =
     record {
       sizes = w.sizes;
       thread = w.thread;
@@ -163,8 +163,8 @@ poolTo w q x =
 
 -- ""Made ready" stores the message and sets remaining ticks to 0"; it waits "nowhere if ready"; its call is unfinished still. Of document
 -- 02: "the cause of its last waking .. and the number of that step"
-abbrev pub readyWith : Thread → ℤ → ℕ → ℕ → Thread
-readyWith t m c n =
+abbrev pub ready_with : Thread → ℤ → ℕ → ℕ → Thread
+ready_with t m c n =
     record {
       state = 0;
       place = 0;
@@ -180,11 +180,11 @@ readyWith t m c n =
 
 -- thread i "is taken off its queue (counter +1) or reference (emptied) and made ready with" m, by the cause c, in this step. A queued
 -- thread's state is 3, a suspended one's 2
-abbrev pub madeReady : World → ℕ → ℤ → ℕ → World
-madeReady w i m c =
+abbrev pub made_ready : World → ℕ → ℤ → ℕ → World
+made_ready w i m c =
     record {
       sizes = w.sizes;
-      thread = put w.thread i (readyWith (w.thread i) m c w.step);
+      thread = put w.thread i (ready_with (w.thread i) m c w.step);
       counter = cond (eqb (w.thread i).state 3)
           (put w.counter (w.thread i).place (w.counter (w.thread i).place +ℤ pos 1)) w.counter;
       holder = cond (eqb (w.thread i).state 2) (put w.holder (w.thread i).place 255) w.holder;
@@ -197,8 +197,8 @@ madeReady w i m c =
     }
 
 -- a record whose call is finished: "last answer (message, datum)", no call, awaited flags 0
-abbrev pub callEnded : Thread → ℤ → ℕ → Thread
-callEnded t m d =
+abbrev pub call_ended : Thread → ℤ → ℕ → Thread
+call_ended t m d =
     record {
       state = t.state;
       place = t.place;
@@ -206,7 +206,7 @@ callEnded t m d =
       pending = t.pending;
       awaited = 0;
       message = t.message;
-      call = noCall;
+      call = no_call;
       answer = record { message = m; datum = d };
       cause = t.cause;
       step = t.step;
@@ -217,7 +217,7 @@ abbrev pub ended : World → ℕ → ℤ → ℕ → World
 ended w i m d =
     record {
       sizes = w.sizes;
-      thread = cond (eqb i 255) w.thread (put w.thread i (callEnded (w.thread i) m d));
+      thread = cond (eqb i 255) w.thread (put w.thread i (call_ended (w.thread i) m d));
       counter = w.counter;
       holder = w.holder;
       box = w.box;
@@ -240,14 +240,14 @@ asleep t state place c =
       awaited = cond (eqb c.kind 14) c.operand 0;
       message = t.message;
       call = c;
-      answer = noAnswer;
+      answer = no_answer;
       cause = t.cause;
       step = t.step;
     }
 
 -- thread i sleeps in a call: in state 3 on a queue ("counter less 1"), in state 2 on a reference (which holds it), in 1 and 4 on neither
-abbrev pub fallAsleep : World → ℕ → ℕ → ℕ → Call → World
-fallAsleep w i state place c =
+abbrev pub fall_asleep : World → ℕ → ℕ → ℕ → Call → World
+fall_asleep w i state place c =
     record {
       sizes = w.sizes;
       thread = put w.thread i (asleep (w.thread i) state place c);

@@ -9,9 +9,9 @@ use Rattle.promises.specs.Paper.Answers.{Said}
 use Rattle.promises.specs.Paper.Reader.{byte}
 
 -- what a writer answers: the place after the record, or "The writer refuses, .. with 14 .., 15 .., 16"
-abbrev pub writtenSaid : Written → Said
-writtenSaid (Upto next) = record { code = 0; gives = 3; values = next ∷ [] }
-writtenSaid (Refused code) = record { code = code; gives = 0; values = [] }
+abbrev pub written_said : Written → Said
+written_said (Upto next) = record { code = 0; gives = 3; values = next ∷ [] }
+written_said (Refused code) = record { code = code; gives = 0; values = [] }
 
 -- ---- what is written, byte by byte: the buffer is l before and k after
 
@@ -87,15 +87,15 @@ pub record LeastOf (Unfit : ℕ → Type 0) (n : ℕ) : Type 0 where
 -- ---- ONE RECORD WRITTEN: "The writer refuses, writing nothing, with .. in that order"; else the answer is the place behind the record
 
 pub data WriteOfSizes (z : Sizes) (l : List ℕ) (w : Written) (k : List ℕ) : Type 0 where
-  refused : (n : ℕ) → LeastOf (SizesUnfit z l) n → writtenSaid w ≡ record { code = n; gives = 0; values = [] } → k ≡ l
+  refused : (n : ℕ) → LeastOf (SizesUnfit z l) n → written_said w ≡ record { code = n; gives = 0; values = [] } → k ≡ l
       → WriteOfSizes z l w k
-  written : ((n : ℕ) → SizesUnfit z l n → ⊥) → writtenSaid w ≡ record { code = 0; gives = 3; values = (9 + z.mailboxes) ∷ [] }
+  written : ((n : ℕ) → SizesUnfit z l n → ⊥) → written_said w ≡ record { code = 0; gives = 3; values = (9 + z.mailboxes) ∷ [] }
       → HeadIn z l k → WriteOfSizes z l w k
 
 pub data WriteOfStep (x : Step) (at : ℕ) (l : List ℕ) (w : Written) (k : List ℕ) : Type 0 where
-  refused : (n : ℕ) → LeastOf (StepUnfit at l) n → writtenSaid w ≡ record { code = n; gives = 0; values = [] } → k ≡ l
+  refused : (n : ℕ) → LeastOf (StepUnfit at l) n → written_said w ≡ record { code = n; gives = 0; values = [] } → k ≡ l
       → WriteOfStep x at l w k
-  written : ((n : ℕ) → StepUnfit at l n → ⊥) → writtenSaid w ≡ record { code = 0; gives = 3; values = (at + 13) ∷ [] }
+  written : ((n : ℕ) → StepUnfit at l n → ⊥) → written_said w ≡ record { code = 0; gives = 3; values = (at + 13) ∷ [] }
       → RecordIn x at l k → WriteOfStep x at l w k
 
 -- ---- which values encode

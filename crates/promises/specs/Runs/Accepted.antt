@@ -7,7 +7,7 @@ use Rattle.library.specs.declared.calls.Step.{Step}
 use Rattle.library.specs.declared.tables.Tables.{Tables}
 use Rattle.library.specs.Acting.{acted}
 use Rattle.library.specs.Tables.{opened}
-use Rattle.steps.specs.Refusal.{refusalOf}
+use Rattle.steps.specs.Refusal.{refusal_of}
 use Rattle.steps.specs.Stepping.{started, stepped}
 use Rattle.steps.proofs.StepLaws.{step-code}
 use Rattle.promises.specs.Paper.World.{World, found, First}
@@ -15,12 +15,12 @@ use Rattle.promises.specs.Paper.Host.{Host}
 use Rattle.promises.specs.Paper.Rows.{Act}
 use Rattle.promises.specs.Paper.Together.{ThreadFits, HangTogether}
 use Rattle.promises.specs.Paper.Refusals.{Broken}
-use Rattle.promises.specs.Paper.Waking.{rowOf, SleeperAfter}
+use Rattle.promises.specs.Paper.Waking.{row_of, SleeperAfter}
 use Rattle.promises.specs.Kept.Accepting.{refusal-none}
 use Rattle.promises.specs.Meant.Together.{rules-together}
 use Rattle.promises.specs.Meant.Callers.{caller_runs}
 use Rattle.promises.specs.Meant.Refusals.{first-broken}
-use Rattle.promises.specs.Meant.Moves.{worldOf}
+use Rattle.promises.specs.Meant.Moves.{world_of}
 use Rattle.promises.specs.Meant.Rows.{act-is}
 use Rattle.promises.specs.Meant.Step.{hangs, begun-whole}
 use Rattle.promises.specs.Runs.Keeping.{KeepsAct, act-keeps}
@@ -28,7 +28,7 @@ use Rattle.promises.specs.Runs.OneRow.{Steady}
 use Rattle.promises.specs.Runs.Sleepers.{life-keeps}
 
 module _ (t : Tables) (c : Clock) (s : Step) (host : Host t c s) (e : (stepped t c s).outcome.code ≡ 0) where
-  pub accepted : refusalOf (opened t) c s ≡ 0
+  pub accepted : refusal_of (opened t) c s ≡ 0
   accepted = sym (step-code t c s) ∙ e
 
   pub unbroken : (m : ℕ) → Broken t c s m → ⊥
@@ -76,7 +76,7 @@ module _ (t : Tables) (c : Clock) (s : Step) (host : Host t c s) (e : (stepped t
 
   -- the tables after the step's own act
   abbrev pub x₀ : World
-  x₀ = worldOf (acted (started t s) c.time s)
+  x₀ = world_of (acted (started t s) c.time s)
 
   pub act : Act t c.time s x₀ s.kind
   act = act-is t c s (begun-whole t c s host accepted) host.step.operand accepted
@@ -94,13 +94,13 @@ module _ (t : Tables) (c : Clock) (s : Step) (host : Host t c s) (e : (stepped t
     pub someone : i ≢ 255
     someone z = omega (arith, z, within, few)
 
-    pub fits : ThreadFits t.sizes (rowOf t i)
+    pub fits : ThreadFits t.sizes (row_of t i)
     fits = together.threads i within
 
     -- a thread that sleeps is not the caller, for it does not run
-    pub apart : (rowOf t i).state ≢ 0 → i ≢ s.caller
+    pub apart : (row_of t i).state ≢ 0 → i ≢ s.caller
     apart n z = n (rw z (caller-first (rw z at someone)).is-ready)
 
     -- how it stands before settling
-    pub sleeper-acted : (rowOf t i).state ≢ 0 → SleeperAfter t s i (x₀.thread i) (x₀.woken i) (x₀.finished i)
+    pub sleeper-acted : (row_of t i).state ≢ 0 → SleeperAfter t s i (x₀.thread i) (x₀.woken i) (x₀.finished i)
     sleeper-acted n = (acts (Steady t s i someone (SleeperAfter t s i)) (life-keeps t s i someone within n (apart n)).act).1

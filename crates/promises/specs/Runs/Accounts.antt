@@ -14,10 +14,10 @@ use Rattle.steps.specs.Stepping.{stepped}
 use Rattle.steps.proofs.StepLaws.{step-refused}
 use Rattle.promises.specs.Paper.Host.{HostSteps, Going}
 use Rattle.promises.specs.Paper.Together.{is_zero}
-use Rattle.promises.specs.Paper.Waking.{rowOf, inMask, heard}
+use Rattle.promises.specs.Paper.Waking.{row_of, in_mask, heard}
 use Rattle.promises.specs.Paper.Run.{Moment}
-use Rattle.promises.specs.Paper.Flags.{awaitsFlags, GoesOn, FlagsAfter, signalledTo, answeredTo, answeredIn, Account}
-use Rattle.promises.specs.Code.Steps.{ran, momentOf, moments}
+use Rattle.promises.specs.Paper.Flags.{awaits_flags, GoesOn, FlagsAfter, signalled_to, answered_to, answered_in, Account}
+use Rattle.promises.specs.Code.Steps.{ran, moment_of, moments}
 use Rattle.promises.specs.Runs.OneStep.{sizes-after, flags_of}
 use Rattle.promises.specs.Runs.Moments.{host, going_on, no-bit}
 
@@ -28,7 +28,7 @@ not-zero (pos (suc m)) n = refl
 not-zero (negsuc m) n = refl
 
 -- which call goes on is an event wait
-goes-awaits : {t : Tables} {s : Step} {i mask : ℕ} {m : ℤ} → GoesOn t s i mask m → awaitsFlags t s i ≡ true
+goes-awaits : {t : Tables} {s : Step} {i mask : ℕ} {m : ℤ} → GoesOn t s i mask m → awaits_flags t s i ≡ true
 goes-awaits {s = s} {i = i} (GoesOn.finds c k n) = rw (eq-eqb s.caller i c, eq-eqb s.kind 14 k)
 goes-awaits {s = s} {i = i} (GoesOn.finds-none c k z d) = rw (eq-eqb s.caller i c, eq-eqb s.kind 14 k)
 goes-awaits {s = s} {i = i} (GoesOn.woken c z k) = rw (ne_eqb s.caller i c, k)
@@ -38,37 +38,37 @@ goes-awaits {s = s} {i = i} (GoesOn.wakes c k w) = rw (ne_eqb s.caller i c, k)
 
 module _ (m : Moment) (i flag : ℕ) where
   abbrev before : Thread
-  before = rowOf m.before i
+  before = row_of m.before i
 
   abbrev after : Thread
-  after = rowOf m.after i
+  after = row_of m.after i
 
   -- pending before, or signalled now
   abbrev come : Bool
-  come = inMask flag before.pending || inMask flag (signalledTo i m)
+  come = in_mask flag before.pending || in_mask flag (signalled_to i m)
 
   abbrev answered : Bool
-  answered = inMask flag (answeredTo i m)
+  answered = in_mask flag (answered_to i m)
 
   -- a line of the account
   record Line : Type 0 where
-    pub pending : inMask flag after.pending ≡ come && not answered
+    pub pending : in_mask flag after.pending ≡ come && not answered
     pub due : answered ≡ true → come ≡ true
 
   module _ (ok : m.result.code ≡ 0) where
     -- what is pending once the flags of this step have come
-    heard-come : inMask flag (heard m.step i before) ≡ come
+    heard-come : in_mask flag (heard m.step i before) ≡ come
     heard-come =
         split (eqb m.step.kind 13 && eqb m.step.object i)
         (λ e. rw (eq-eqb m.result.code 0 ok, e) (or-test before.pending m.step.a flag))
-        (λ e. rw (eq-eqb m.result.code 0 ok, e, no-bit flag) (sym (or-false (inMask flag before.pending))))
+        (λ e. rw (eq-eqb m.result.code 0 ok, e, no-bit flag) (sym (or-false (in_mask flag before.pending))))
 
     -- nothing is answered
-    keeps : answeredTo i m ≡ 0 → after.pending ≡ heard m.step i before → Line
+    keeps : answered_to i m ≡ 0 → after.pending ≡ heard m.step i before → Line
     keeps e p =
-        let no : answered ≡ false = ap (inMask flag) e ∙ no-bit flag in
+        let no : answered ≡ false = ap (in_mask flag) e ∙ no-bit flag in
         record {
-          pending = ap (inMask flag) p ∙ heard-come ∙ rw no (sym (both_true come));
+          pending = ap (in_mask flag) p ∙ heard-come ∙ rw no (sym (both_true come));
           due = λ x. contrary x no;
         }
       where
@@ -77,16 +77,16 @@ module _ (m : Moment) (i flag : ℕ) where
         both_true false = refl
 
     -- the flags of a mask are
-    takes : (mask : ℕ) → answeredTo i m ≡ bit_and (heard m.step i before) mask
+    takes : (mask : ℕ) → answered_to i m ≡ bit_and (heard m.step i before) mask
         → after.pending ≡ heard m.step i before - bit_and (heard m.step i before) mask → Line
     takes mask e p =
         let f = heard m.step i before in
-        let is : answered ≡ come && inMask flag mask = ap (inMask flag) e ∙ and-test f mask flag ∙ ap (λ (x : Bool). x && inMask flag mask) heard-come in
+        let is : answered ≡ come && in_mask flag mask = ap (in_mask flag) e ∙ and-test f mask flag ∙ ap (λ (x : Bool). x && in_mask flag mask) heard-come in
         record {
           pending =
-              ap (inMask flag) p ∙ less-test f mask flag ∙ ap (λ (x : Bool). x && not (inMask flag mask)) heard-come
-              ∙ rw is (rest come (inMask flag mask));
-          due = λ x. (both-means come (inMask flag mask) (sym is ∙ x)).0;
+              ap (in_mask flag) p ∙ less-test f mask flag ∙ ap (λ (x : Bool). x && not (in_mask flag mask)) heard-come
+              ∙ rw is (rest come (in_mask flag mask));
+          due = λ x. (both-means come (in_mask flag mask) (sym is ∙ x)).0;
         }
       where
         rest : (x y : Bool) → (x && not y) ≡ (x && not (x && y))
@@ -94,13 +94,13 @@ module _ (m : Moment) (i flag : ℕ) where
         rest false y = refl
 
     -- EACH ACCEPTED STEP
-    flag-line : FlagsAfter m.before m.step i after (inMask i m.result.finished) → Line
+    flag-line : FlagsAfter m.before m.step i after (in_mask i m.result.finished) → Line
     flag-line (FlagsAfter.taken mask g q r p) =
         takes mask (rw (eq-eqb m.result.code 0 ok, q, goes-awaits g, ap (λ (a : Answer). a.message) r) (ap (λ (a : Answer). a.datum) r)) p
     flag-line (FlagsAfter.late mask x g n q r p) =
         keeps (rw (eq-eqb m.result.code 0 ok, q, goes-awaits g, ap (λ (a : Answer). a.message) r, not-zero x n)) p
     flag-line (FlagsAfter.stays e p) =
-        keeps (rw (eq-eqb m.result.code 0 ok, none (inMask i m.result.finished) (awaitsFlags m.before m.step i) e)) p
+        keeps (rw (eq-eqb m.result.code 0 ok, none (in_mask i m.result.finished) (awaits_flags m.before m.step i) e)) p
       where
         none : (x y : Bool) → (y && x) ≡ false → (x && (y && is_zero after.answer.message)) ≡ false
         none true true e = contrary refl e
@@ -112,7 +112,7 @@ module _ (m : Moment) (i flag : ℕ) where
   refused-line n e =
       let no = ne_eqb m.result.code 0 n in
       record {
-        pending = rw (no, no-bit flag, ap (λ (t : Tables). inMask flag (rowOf t i).pending) e) (level (inMask flag before.pending));
+        pending = rw (no, no-bit flag, ap (λ (t : Tables). in_mask flag (row_of t i).pending) e) (level (in_mask flag before.pending));
         due = λ x. contrary x (rw no (no-bit flag));
       }
     where
@@ -124,15 +124,15 @@ module _ (m : Moment) (i flag : ℕ) where
 
 -- THE ACCOUNT OF A FLAG
 pub flag-account : (ss : List Step) → HostSteps ss → (t : Tables) (c : Clock) → Going t c → (i flag : ℕ) → i < t.sizes.threads
-    → Account i flag (inMask flag (rowOf (ran t c ss).tables i).pending) (inMask flag (rowOf t i).pending) (moments t c ss)
+    → Account i flag (in_mask flag (row_of (ran t c ss).tables i).pending) (in_mask flag (row_of t i).pending) (moments t c ss)
 flag-account [] hs t c g i flag l = Account.ends refl
 flag-account (s ∷ ss) (HostSteps.more h hs) t c g i flag l =
     let u = (stepped t c s).tables in
     let d = (stepped t c s).clock in
-    let m : Moment = momentOf t c s in
-    let more : i < u.sizes.threads → Line m i flag → Account i flag (inMask flag (rowOf (ran u d ss).tables i).pending) (inMask flag (rowOf t i).pending) (m ∷ moments u d ss) =
+    let m : Moment = moment_of t c s in
+    let more : i < u.sizes.threads → Line m i flag → Account i flag (in_mask flag (row_of (ran u d ss).tables i).pending) (in_mask flag (row_of t i).pending) (m ∷ moments u d ss) =
     λ w x. Account.goes x.due
-    (subst (λ (b : Bool). Account i flag (inMask flag (rowOf (ran u d ss).tables i).pending) b (moments u d ss)) x.pending
+    (subst (λ (b : Bool). Account i flag (in_mask flag (row_of (ran u d ss).tables i).pending) b (moments u d ss)) x.pending
     (flag-account ss hs u d (going_on t c g s h) i flag w)) in
     same_or (stepped t c s).outcome.code 0
     (λ e. more (rw (sizes-after t c s (host t c g s h) e) l) (flag-line m i flag e (flags_of t c s (host t c g s h) e i l)))
@@ -142,15 +142,15 @@ flag-account (s ∷ ss) (HostSteps.more h hs) t c g i flag l =
 
 -- what is pending is pending at the end, or was answered
 pub none-lost : {i n : ℕ} {last b : Bool} {ms : List Moment} → Account i n last b ms → b ≡ true
-    → (last ≡ true) ⊎ (answeredIn i n ms ≡ true)
+    → (last ≡ true) ⊎ (answered_in i n ms ≡ true)
 none-lost (Account.ends e) h = inl (e ∙ h)
 none-lost {i} {n} (Account.goes {b} {m} due rest) h =
-    split (inMask n (answeredTo i m)) (λ a. inr (rw a))
+    split (in_mask n (answered_to i m)) (λ a. inr (rw a))
     (λ a. elim (none-lost rest (rw (h, a))) [ inl x ↦ inl x | inr x ↦ inr (rw a x) ])
 
 -- and so is what the first moment signals
 pub signalled-kept : {i n : ℕ} {last b : Bool} {m : Moment} {ms : List Moment} → Account i n last b (m ∷ ms)
-    → inMask n (signalledTo i m) ≡ true → (last ≡ true) ⊎ (answeredIn i n (m ∷ ms) ≡ true)
+    → in_mask n (signalled_to i m) ≡ true → (last ≡ true) ⊎ (answered_in i n (m ∷ ms) ≡ true)
 signalled-kept {i} {n} {last} {b} {m} (Account.goes due rest) h =
-    split (inMask n (answeredTo i m)) (λ a. inr (rw a))
+    split (in_mask n (answered_to i m)) (λ a. inr (rw a))
     (λ a. elim (none-lost rest (rw (h, a, or-true b))) [ inl x ↦ inl x | inr x ↦ inr (rw a x) ])

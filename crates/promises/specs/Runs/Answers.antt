@@ -8,18 +8,18 @@ use Rattle.library.specs.declared.tables.Tables.{Tables}
 use Rattle.library.specs.Tables.{opened}
 use Rattle.library.specs.Acting.{acted}
 use Rattle.library.specs.Settling.{settled}
-use Rattle.steps.specs.Refusal.{refusalOf}
-use Rattle.steps.specs.Stepping.{budgetOf, doneWith, refusedWith, started, stepped}
+use Rattle.steps.specs.Refusal.{refusal_of}
+use Rattle.steps.specs.Stepping.{budget_of, done_with, refused_with, started, stepped}
 use Rattle.steps.proofs.StepLaws.{step-code}
 
 module _ (t : Tables) (c : Clock) (s : Step) where
   -- an accepted step is what document 01's table says of its kind, settled "After every accepted step"
   pub step-done : (stepped t c s).outcome.code ≡ 0
-      → stepped t c s ≡ doneWith (settled (budgetOf t.sizes.threads) (acted (started t s) c.time s)) c s
+      → stepped t c s ≡ done_with (settled (budget_of t.sizes.threads) (acted (started t s) c.time s)) c s
   unfolding stepped
-  step-done e = rw (eq-eqb (refusalOf (opened t) c s) 0 (sym (step-code t c s) ∙ e))
+  step-done e = rw (eq-eqb (refusal_of (opened t) c s) 0 (sym (step-code t c s) ∙ e))
 
   -- "A refused step returns its number, the running thread as it stands (255 for 1) .. All tables keep their bytes"
-  pub step-stopped : (stepped t c s).outcome.code ≢ 0 → stepped t c s ≡ refusedWith t c (opened t) (refusalOf (opened t) c s)
+  pub step-stopped : (stepped t c s).outcome.code ≢ 0 → stepped t c s ≡ refused_with t c (opened t) (refusal_of (opened t) c s)
   unfolding stepped
-  step-stopped n = rw (ne_eqb (refusalOf (opened t) c s) 0 (λ e. n (step-code t c s ∙ e)))
+  step-stopped n = rw (ne_eqb (refusal_of (opened t) c s) 0 (λ e. n (step-code t c s ∙ e)))

@@ -6,7 +6,7 @@ use Rattle.std.proofs.Math.Nat.{mod_self}
 use Rattle.kernel.proofs.Cases.{same_or}
 use Rattle.library.specs.declared.tables.Mailbox.{Mailbox}
 use Rattle.pipes.proofs.CarryingLaws.{place-on, places-apart}
-use Rattle.promises.specs.Paper.Rows.{written, writtenAhead, takenFrom}
+use Rattle.promises.specs.Paper.Rows.{written, written_ahead, taken_from}
 use Rattle.promises.specs.Paper.Together.{PositionsFit}
 use Rattle.promises.specs.Paper.Pipes.{listed}
 use Rattle.promises.specs.Runs.Pipes.{listed_same, listed_more}
@@ -53,7 +53,7 @@ module _ (y : Mailbox) (n : ℕ) (fits : PositionsFit y.positions n) (few : n �
           some zero d = absurd (d refl)
           some (suc z) d = omega arith
 
-  pub content-ahead : k < n → (x : ℕ) → content n (writtenAhead y n x) ≡ x ∷ content n y
+  pub content-ahead : k < n → (x : ℕ) → content n (written_ahead y n x) ≡ x ∷ content n y
   content-ahead l x =
       let m = set y.messages back x in
       let f : ℕ → ℕ = λ j. get_or m ((back + j) % n) 0 in
@@ -68,7 +68,7 @@ module _ (y : Mailbox) (n : ℕ) (fits : PositionsFit y.positions n) (few : n �
       let count : k + 1 ≡ 1 + k = omega arith in
       ap (listed f) count ∙ listed_more f 1 k ∙ rw (first, listed_same (λ j. f (1 + j)) (λ j. get_or y.messages ((r + j) % n) 0) k old)
 
-  pub content-taken : 0 < k → content n y ≡ get_or y.messages r 0 ∷ content n (takenFrom y n)
+  pub content-taken : 0 < k → content n y ≡ get_or y.messages r 0 ∷ content n (taken_from y n)
   content-taken l =
       let f : ℕ → ℕ = λ j. get_or y.messages ((r + j) % n) 0 in
       let first : f 0 ≡ get_or y.messages r 0 = rw (add-zero r, mod-eq_of_lt fits.read) in

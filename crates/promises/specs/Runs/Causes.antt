@@ -7,21 +7,21 @@ use Rattle.kernel.specs.declared.records.Thread.{Thread}
 use Rattle.kernel.proofs.Cases.{contrary}
 use Rattle.library.specs.declared.calls.Step.{Step}
 use Rattle.library.specs.declared.tables.Tables.{Tables}
-use Rattle.promises.specs.Paper.World.{World, found, readyWith, callEnded}
-use Rattle.promises.specs.Paper.Rows.{pendingTo}
-use Rattle.promises.specs.Paper.Waking.{rowOf, IsMailing, Served, CalledOut, SleeperAfter, OwnWait, SideOf}
-use Rattle.promises.specs.Paper.Causes.{FallsAt, Wakes, whyOf, WhyAfter}
+use Rattle.promises.specs.Paper.World.{World, found, ready_with, call_ended}
+use Rattle.promises.specs.Paper.Rows.{pending_to}
+use Rattle.promises.specs.Paper.Waking.{row_of, IsMailing, Served, CalledOut, SleeperAfter, OwnWait, SideOf}
+use Rattle.promises.specs.Paper.Causes.{FallsAt, Wakes, why_of, WhyAfter}
 use Rattle.promises.specs.Runs.Keeping.{KeepsOn, KeepsAct}
 use Rattle.promises.specs.Runs.OneRow.{Steady, row_on, row-act}
 use Rattle.promises.specs.Runs.Passing.{Passed, found_passed, ticks-passed, events-passed}
 use Rattle.promises.specs.Runs.Sleepers.{not-side}
 
 -- of who slept
-pub sleeper-why : {t : Tables} {s : Step} {i : ℕ} {b : Thread} {w f : Bool} → (rowOf t i).state ≢ 0 → SleeperAfter t s i b w f
-    → WhyAfter t s i (whyOf b) w
-sleeper-why n (SleeperAfter.on u e p q) = WhyAfter.same p (ap whyOf e)
-sleeper-why n (SleeperAfter.ready m c by e p q) = WhyAfter.woke p (Wakes.slept n by) (ap whyOf e)
-sleeper-why n (SleeperAfter.done m x c d f by h e p q) = WhyAfter.woke p (Wakes.slept n by) (ap whyOf e)
+pub sleeper-why : {t : Tables} {s : Step} {i : ℕ} {b : Thread} {w f : Bool} → (row_of t i).state ≢ 0 → SleeperAfter t s i b w f
+    → WhyAfter t s i (why_of b) w
+sleeper-why n (SleeperAfter.on u e p q) = WhyAfter.same p (ap why_of e)
+sleeper-why n (SleeperAfter.ready m c by e p q) = WhyAfter.woke p (Wakes.slept n by) (ap why_of e)
+sleeper-why n (SleeperAfter.done m x c d f by h e p q) = WhyAfter.woke p (Wakes.slept n by) (ap why_of e)
 
 -- a call without a kind has no side
 no-side : {c : Call} {q : ℕ} → c.kind ≡ 0 → SideOf c q → ⊥
@@ -74,16 +74,16 @@ module _ {t : Tables} {s : Step} {state place : ℕ} where
   own-serves (OwnWait.reader e n) = only-serves e refl
   own-serves (OwnWait.pool e n) = only-serves e refl
 
-module _ (t : Tables) (s : Step) (i : ℕ) (someone : i ≢ 255) (was-ready : (rowOf t i).state ≡ 0) (no-ticks : (rowOf t i).remaining ≡ 0) where
+module _ (t : Tables) (s : Step) (i : ℕ) (someone : i ≢ 255) (was-ready : (row_of t i).state ≡ 0) (no-ticks : (row_of t i).remaining ≡ 0) where
   abbrev a : Thread
-  a = rowOf t i
+  a = row_of t i
 
   -- how its record r and its woken bit stand in a world: where it sleeps, if it does, it fell asleep in this step; and so would its call,
   -- tried again
   pub record Stood (r : Thread) (woken finished : Bool) : Type 0 where
     pub at : r.state ≢ 0 → FallsAt t s i r.state r.place
     pub again : (q : ℕ) → SideOf r.call q → FallsAt t s i 3 q
-    pub why : WhyAfter t s i (whyOf r) woken
+    pub why : WhyAfter t s i (why_of r) woken
 
   kept-side : (q : ℕ) → SideOf a.call q → FallsAt t s i 3 q
   kept-side q (SideOf.writers e) = FallsAt.writer e
@@ -101,7 +101,7 @@ module _ (t : Tables) (s : Step) (i : ℕ) (someone : i ≢ 255) (was-ready : (r
         stood = record {
           at = λ n. absurd (asleep n);
           again = λ q b. kept-side q (subst (λ (u : Thread). SideOf u.call q) p.row b);
-          why = WhyAfter.same p.woken (ap whyOf p.row);
+          why = WhyAfter.same p.woken (ap why_of p.row);
         };
         own = λ n. absurd (asleep n);
       }
@@ -111,11 +111,11 @@ module _ (t : Tables) (s : Step) (i : ℕ) (someone : i ≢ 255) (was-ready : (r
 
   -- it is served, after it fell asleep
   served : {r : Thread} {w f : Bool} (m : ℤ) (c : ℕ) → r.state ≢ 0 → Served t s r.state r.place m c → Stood r w f
-      → Stood (readyWith r m c (found t).step) true f
+      → Stood (ready_with r m c (found t).step) true f
   served m c n b h = record { at = λ x. absurd (x refl); again = h.again; why = WhyAfter.woke refl (Wakes.fell was-ready (h.at n) b) refl }
 
   -- its call ends
-  ends : {r : Thread} {w f : Bool} (m : ℤ) (d pending : ℕ) → Stood r w f → Stood (callEnded (pendingTo r pending) m d) w true
+  ends : {r : Thread} {w f : Bool} (m : ℤ) (d pending : ℕ) → Stood r w f → Stood (call_ended (pending_to r pending) m d) w true
   ends m d pending h = record { at = h.at; again = λ q b. absurd (no-side refl b); why = h.why }
 
   pub why-on : KeepsOn t s (Steady t s i someone Stood)

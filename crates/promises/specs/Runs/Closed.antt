@@ -7,7 +7,7 @@ use Rattle.kernel.proofs.Cases.{same_or}
 use Rattle.library.specs.declared.calls.Step.{Step}
 use Rattle.library.specs.declared.tables.Mailbox.{Mailbox}
 use Rattle.library.specs.declared.tables.Tables.{Tables}
-use Rattle.promises.specs.Paper.World.{World, boxTo}
+use Rattle.promises.specs.Paper.World.{World, box_to}
 use Rattle.promises.specs.Paper.Rows.{Waits, Post, Fetch, Act}
 use Rattle.promises.specs.Paper.Settling.{Continued}
 use Rattle.promises.specs.Runs.Keeping.{put_same, put_other}
@@ -36,7 +36,7 @@ module _ (o : ℕ) where
   waiting (Waits.later a e) = ap (λ (y : World). y.box) e
 
   -- one that is at work changes: so it is another
-  other-box : (w v : World) (b : ℕ) (x : Mailbox) → v.box ≡ w.box → (w.box b).reset ≡ 0 → Shut w.box → Shut (boxTo v b x).box
+  other-box : (w v : World) (b : ℕ) (x : Mailbox) → v.box ≡ w.box → (w.box b).reset ≡ 0 → Shut w.box → Shut (box_to v b x).box
   other-box w v b x e a h =
       same_or o b (λ d. absurd (h (subst (λ (n : ℕ). (w.box n).reset ≡ 0) (sym d) a)))
       (λ d z. same-boxes w.box v.box e h (sym (ap (λ (y : Mailbox). y.reset) (put_other v.box b o x d)) ∙ z))

@@ -12,11 +12,11 @@ use Rattle.promises.specs.Paper.Run.{Moment}
 use Rattle.promises.specs.Paper.History.{
   Event,
   call_by,
-  answerBy,
+  answer_by,
   finishes,
-  isCounted,
-  eventsOf,
-  shownBy,
+  is_counted,
+  events_of,
+  shown_by,
   those,
   is_of,
   in_turn,
@@ -24,12 +24,12 @@ use Rattle.promises.specs.Paper.History.{
   History,
   gathered,
   shown,
-  shownIn,
+  shown_in,
   total,
   posted,
   each,
 }
-use Rattle.promises.specs.Paper.Ledger.{messageAt, Ledger, postings, firstGiven, entered, ledger, times}
+use Rattle.promises.specs.Paper.Ledger.{message_at, Ledger, postings, first_given, entered, ledger, times}
 use Rattle.promises.specs.Runs.Dealing.{total-append}
 
 -- ---- sums
@@ -125,10 +125,10 @@ module _ (f : Event → ℕ) where
   total-shown n m es few h =
       let k = m.before.sizes.threads in
       total-split k few es (λ i d l. h i ∙ absent i d l)
-      ∙ sym (total-append f (shownBy n m 255) (gathered (shownBy n m) k)
-      ∙ rw (h 255, gathered-same (shownBy n m) (λ i. those (is_of i) es) (λ i. sym (h i)) k))
+      ∙ sym (total-append f (shown_by n m 255) (gathered (shown_by n m) k)
+      ∙ rw (h 255, gathered-same (shown_by n m) (λ i. those (is_of i) es) (λ i. sym (h i)) k))
     where
-      absent : (i : ℕ) → i ≢ 255 → m.before.sizes.threads ≤ i → shownBy n m i ≡ []
+      absent : (i : ℕ) → i ≢ 255 → m.before.sizes.threads ≤ i → shown_by n m i ≡ []
       absent i d l = rw (unfinished i d l)
         where
           unfinished : (i : ℕ) → i ≢ 255 → m.before.sizes.threads ≤ i → finishes m i ≡ false
@@ -140,12 +140,12 @@ pub data Few : List Moment → Type 0 where
   more : {m : Moment} {ms : List Moment} → m.before.sizes.threads ≤ 255 → Few ms → Few (m ∷ ms)
 
 -- A RUN: a sum over its history is one over what the results show
-pub total-history : (f : Event → ℕ) {n : ℕ} {ms : List Moment} {es : List Event} → Few ms → History n ms es → total f es ≡ total f (shownIn n ms)
+pub total-history : (f : Event → ℕ) {n : ℕ} {ms : List Moment} {es : List Event} → Few ms → History n ms es → total f es ≡ total f (shown_in n ms)
 total-history f Few.none History.none = refl
 total-history f {n} (Few.more {m} {ms} few fs) (History.more is gs turns s o h) =
-    let es = in_turn (shownBy n m) is in
+    let es = in_turn (shown_by n m) is in
     total-append f es gs
-    ∙ sym (total-append f (shown n m) (shownIn (suc n) ms) ∙ rw (sym (total-shown f n m es few s), sym (total-history f fs h)))
+    ∙ sym (total-append f (shown n m) (shown_in (suc n) ms) ∙ rw (sym (total-shown f n m es few s), sym (total-history f fs h)))
 
 -- ---- each call once
 
@@ -167,14 +167,14 @@ module _ (p : Event) where
       swap false false = refl
 
   -- what a moment shows of a thread is at most one event, of that step
-  shown-once : (n : ℕ) (m : Moment) (i : ℕ) → (total (each (λ e. eqb e.step p.step)) (shownBy n m i) ≡ 0)
-      ⊎ ((total (each (λ e. eqb e.step p.step)) (shownBy n m i) ≡ 1) × (n ≡ p.step))
-  shown-once n m i = split (finishes m i) (λ h. rw h (events (call_by m i) (answerBy m i))) (λ h. rw h (inl refl))
+  shown-once : (n : ℕ) (m : Moment) (i : ℕ) → (total (each (λ e. eqb e.step p.step)) (shown_by n m i) ≡ 0)
+      ⊎ ((total (each (λ e. eqb e.step p.step)) (shown_by n m i) ≡ 1) × (n ≡ p.step))
+  shown-once n m i = split (finishes m i) (λ h. rw h (events (call_by m i) (answer_by m i))) (λ h. rw h (inl refl))
     where
-      events : (c : Call) (a : Answer) → (total (each (λ e. eqb e.step p.step)) (eventsOf n m.before i c a) ≡ 0)
-          ⊎ ((total (each (λ e. eqb e.step p.step)) (eventsOf n m.before i c a) ≡ 1) × (n ≡ p.step))
+      events : (c : Call) (a : Answer) → (total (each (λ e. eqb e.step p.step)) (events_of n m.before i c a) ≡ 0)
+          ⊎ ((total (each (λ e. eqb e.step p.step)) (events_of n m.before i c a) ≡ 1) × (n ≡ p.step))
       events c a =
-          split (isCounted c.kind && is_zero a.message)
+          split (is_counted c.kind && is_zero a.message)
           (λ h. rw h (split (eqb n p.step) (λ e. inr (rw e, eqb-true n p.step e)) (λ e. inl (rw e)))) (λ h. rw h (inl refl))
 
   moment-once : (n : ℕ) (m : Moment) (es : List Event) → Shown n m es → (times p es ≡ 0) ⊎ ((times p es ≡ 1) × (n ≡ p.step))
@@ -184,7 +184,7 @@ module _ (p : Event) where
   history-later : {n : ℕ} {ms : List Moment} {es : List Event} → p.step < n → History n ms es → times p es ≡ 0
   history-later l History.none = refl
   history-later {n} l (History.more {m = m} is fs turns s o h) =
-      let es = in_turn (shownBy n m) is in
+      let es = in_turn (shown_by n m) is in
       let rest = history-later (omega (arith, l)) h in
       let both = total-append (each is-p) es fs in
       elim (moment-once n m es s) [ inl z ↦ omega (arith, both, z, rest) | inr z ↦ absurd (omega (arith, l, z.1)) ]
@@ -192,7 +192,7 @@ module _ (p : Event) where
   pub history-once : {n : ℕ} {ms : List Moment} {es : List Event} → History n ms es → times p es ≤ 1
   history-once History.none = omega arith
   history-once {n} (History.more {m = m} is fs turns s o h) =
-      let es = in_turn (shownBy n m) is in
+      let es = in_turn (shown_by n m) is in
       let both = total-append (each is-p) es fs in
       elim (moment-once n m es s) [
         | inl z ↦ omega (arith, both, z, history-once h)
@@ -203,7 +203,7 @@ module _ (p : Event) where
   postings-once : (w : World) (b n : ℕ) → (times p (postings w b n) ≡ 0) ⊎ ((times p (postings w b n) ≡ 1) × (p.step ≡ 0) × (p.who < n))
   postings-once w b zero = inl refl
   postings-once w b (suc n) =
-      let one : Event = record { step = 0; who = n; kind = 15; object = b; value = messageAt w b n } in
+      let one : Event = record { step = 0; who = n; kind = 15; object = b; value = message_at w b n } in
       let all : times p (postings w b (suc n)) ≡ times p (postings w b n) + cond (is-p one) 1 0 =
       total-append (each is-p) (postings w b n) (one ∷ []) ∙ omega arith in
       elim (postings-once w b n) [
@@ -247,7 +247,7 @@ module _ (g : Event → ℕ) where
   abbrev pub whole : Ledger → ℕ
   whole l = total g l.given + total g l.lost + total g l.present
 
-  first-whole : (ps a l : List Event) → whole (firstGiven ps a l) ≡ total g a + total g l + total g ps
+  first-whole : (ps a l : List Event) → whole (first_given ps a l) ≡ total g a + total g l + total g ps
   first-whole [] a l = refl
   first-whole (p ∷ ps) a l = omega (arith, total-append g a (p ∷ []))
 

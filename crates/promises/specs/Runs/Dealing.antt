@@ -10,22 +10,22 @@ use Rattle.library.specs.declared.tables.Mailbox.{Mailbox}
 use Rattle.library.specs.declared.tables.Pool.{Pool}
 use Rattle.promises.specs.Paper.World.{World}
 use Rattle.promises.specs.Paper.Rows.{slots_of}
-use Rattle.promises.specs.Paper.History.{Event, those, total, fetched, lostAt}
+use Rattle.promises.specs.Paper.History.{Event, those, total, fetched, lost_at}
 use Rattle.promises.specs.Paper.Ledger.{
-  inBox,
+  in_box,
   Ledger,
-  firstGiven,
+  first_given,
   entered,
   ledger,
   values,
   BoxTold,
   Standing,
-  whenAdded,
-  whenTaken,
-  whenFreed,
+  when_added,
+  when_taken,
+  when_freed,
   stood,
   standing,
-  markIn,
+  mark_in,
   mark_of,
 }
 use Rattle.promises.specs.Runs.Boxes.{content}
@@ -60,16 +60,16 @@ standing-append q o x (e ∷ es) fs = standing-append q o (cond (eqb e.object q 
 
 pub record Dealt (w : World) (es : List Event) (x : World) : Type 0 where
   pub sizes : x.sizes ≡ w.sizes
-  pub boxes : (b : ℕ) → b < w.sizes.mailboxes → (l : Ledger) → values l.present ≡ inBox w b → BoxTold b l es (ledger b l es) x
-  pub objects : (q o : ℕ) → q < w.sizes.pools → (s : Standing) → mark_of s ≡ markIn w q o → mark_of (standing q o s es) ≡ markIn x q o
+  pub boxes : (b : ℕ) → b < w.sizes.mailboxes → (l : Ledger) → values l.present ≡ in_box w b → BoxTold b l es (ledger b l es) x
+  pub objects : (q o : ℕ) → q < w.sizes.pools → (s : Standing) → mark_of s ≡ mark_in w q o → mark_of (standing q o s es) ≡ mark_in x q o
 
 -- what a mailbox holds goes by its record and the sizes
-pub box-same : (w x : World) (b : ℕ) → x.sizes ≡ w.sizes → x.box b ≡ w.box b → inBox x b ≡ inBox w b
+pub box-same : (w x : World) (b : ℕ) → x.sizes ≡ w.sizes → x.box b ≡ w.box b → in_box x b ≡ in_box w b
 box-same w x b z e = ap (λ (y : Sizes). content (get_or y.slots b 0) (x.box b)) z ∙ ap (content (slots_of w b)) e
 
 -- no event on a mailbox: its ledger stays
-box-still : (w x : World) (b : ℕ) (l : Ledger) (es : List Event) → inBox x b ≡ inBox w b → those (fetched b) es ≡ []
-    → total (lostAt b) es ≡ 0 → values l.present ≡ inBox w b → BoxTold b l es l x
+box-still : (w x : World) (b : ℕ) (l : Ledger) (es : List Event) → in_box x b ≡ in_box w b → those (fetched b) es ≡ []
+    → total (lost_at b) es ≡ 0 → values l.present ≡ in_box w b → BoxTold b l es l x
 box-still w x b l es same f z e =
     record {
       present = e ∙ sym same;
@@ -78,7 +78,7 @@ box-still w x b l es same f z e =
     }
 
 -- nothing happens
-pub dealt-still : (w x : World) → x.sizes ≡ w.sizes → ((b : ℕ) → inBox x b ≡ inBox w b) → x.pool ≡ w.pool → Dealt w [] x
+pub dealt-still : (w x : World) → x.sizes ≡ w.sizes → ((b : ℕ) → in_box x b ≡ in_box w b) → x.pool ≡ w.pool → Dealt w [] x
 dealt-still w x z h p =
     record {
       sizes = z;
@@ -98,7 +98,7 @@ both_told b l es fs k h v x a c =
           c.handed
           ∙ rw (a.handed, those-append (fetched b) es fs, values-append (those (fetched b) es) (those (fetched b) fs))
           (append_assoc (values l.given) (values (those (fetched b) es)) (values (those (fetched b) fs)));
-      lost = omega (arith, a.lost, c.lost, total-append (lostAt b) es fs);
+      lost = omega (arith, a.lost, c.lost, total-append (lost_at b) es fs);
     }
 
 pub dealt-both : (w v x : World) (es fs : List Event) → Dealt w es v → Dealt v fs x → Dealt w (es ++ fs) x
@@ -150,7 +150,7 @@ module _ (w x : World) (e : Event) (same-sizes : x.sizes ≡ w.sizes) (same-pool
   stood-box (inr (inr (inr k))) s = rw k
 
   -- nor does another mailbox know of it
-  elsewhere : (b : ℕ) → b ≢ o → (l : Ledger) → values l.present ≡ inBox w b → BoxTold b l (e ∷ []) (ledger b l (e ∷ [])) x
+  elsewhere : (b : ℕ) → b ≢ o → (l : Ledger) → values l.present ≡ in_box w b → BoxTold b l (e ∷ []) (ledger b l (e ∷ [])) x
   elsewhere b d l h =
       let n : eqb o b ≡ false = ne_eqb o b (λ z. d (sym z)) in
       rw n
@@ -161,7 +161,7 @@ module _ (w x : World) (e : Event) (same-sizes : x.sizes ≡ w.sizes) (same-pool
       not-those f z = rw z
 
   -- so what it makes of its own mailbox is all
-  dealt-box : OfBox e.kind → ((l : Ledger) → values l.present ≡ inBox w o → BoxTold o l (e ∷ []) (entered l e) x) → Dealt w (e ∷ []) x
+  dealt-box : OfBox e.kind → ((l : Ledger) → values l.present ≡ in_box w o → BoxTold o l (e ∷ []) (entered l e) x) → Dealt w (e ∷ []) x
   dealt-box k h =
       record {
         sizes = same-sizes;
@@ -177,17 +177,17 @@ module _ (w x : World) (e : Event) (same-sizes : x.sizes ≡ w.sizes) (same-pool
   -- what the kind says of the event by itself
   record Only (fetches : List Event) (loss : ℕ) : Type 0 where
     pub fetched-is : those (fetched o) (e ∷ []) ≡ fetches
-    pub lost-is : total (lostAt o) (e ∷ []) ≡ loss
+    pub lost-is : total (lost_at o) (e ∷ []) ≡ loss
 
   only-post : (e.kind ≡ 15) ⊎ (e.kind ≡ 16) → Only [] 0
   only-post (inl k) = record { fetched-is = rw k; lost-is = rw k }
   only-post (inr k) = record { fetched-is = rw k; lost-is = rw k }
 
   -- a post puts one behind
-  pub dealt-behind : e.kind ≡ 15 → inBox x o ≡ inBox w o ++ (e.value ∷ []) → Dealt w (e ∷ []) x
+  pub dealt-behind : e.kind ≡ 15 → in_box x o ≡ in_box w o ++ (e.value ∷ []) → Dealt w (e ∷ []) x
   dealt-behind k h = dealt-box (inl k) told
     where
-      told : (l : Ledger) → values l.present ≡ inBox w o → BoxTold o l (e ∷ []) (entered l e) x
+      told : (l : Ledger) → values l.present ≡ in_box w o → BoxTold o l (e ∷ []) (entered l e) x
       told l z =
           let is : entered l e ≡ record { present = l.present ++ (e ∷ []); given = l.given; lost = l.lost } = rw k in
           let only = only-post (inl k) in
@@ -199,10 +199,10 @@ module _ (w x : World) (e : Event) (same-sizes : x.sizes ≡ w.sizes) (same-pool
           })
 
   -- a post ahead one before all
-  pub dealt-ahead : e.kind ≡ 16 → inBox x o ≡ e.value ∷ inBox w o → Dealt w (e ∷ []) x
+  pub dealt-ahead : e.kind ≡ 16 → in_box x o ≡ e.value ∷ in_box w o → Dealt w (e ∷ []) x
   dealt-ahead k h = dealt-box (inr (inl k)) told
     where
-      told : (l : Ledger) → values l.present ≡ inBox w o → BoxTold o l (e ∷ []) (entered l e) x
+      told : (l : Ledger) → values l.present ≡ in_box w o → BoxTold o l (e ∷ []) (entered l e) x
       told l z =
           let is : entered l e ≡ record { present = e ∷ l.present; given = l.given; lost = l.lost } = rw k in
           let only = only-post (inr k) in
@@ -214,17 +214,17 @@ module _ (w x : World) (e : Event) (same-sizes : x.sizes ≡ w.sizes) (same-pool
           })
 
   -- a fetch takes the first, whose message it hands over
-  pub dealt-first : e.kind ≡ 17 → inBox w o ≡ e.value ∷ inBox x o → Dealt w (e ∷ []) x
+  pub dealt-first : e.kind ≡ 17 → in_box w o ≡ e.value ∷ in_box x o → Dealt w (e ∷ []) x
   dealt-first k h = dealt-box (inr (inr (inl k))) (λ l z. rw (is l) (told l.present l.given l.lost (z ∙ h)))
     where
-      is : (l : Ledger) → entered l e ≡ firstGiven l.present l.given l.lost
+      is : (l : Ledger) → entered l e ≡ first_given l.present l.given l.lost
       is l = rw k
 
       only : Only (e ∷ []) 0
       only = record { fetched-is = rw (k, eq-eqb o o refl); lost-is = rw k }
 
-      told : (ps g l : List Event) → values ps ≡ e.value ∷ inBox x o
-          → BoxTold o (record { present = ps; given = g; lost = l }) (e ∷ []) (firstGiven ps g l) x
+      told : (ps g l : List Event) → values ps ≡ e.value ∷ in_box x o
+          → BoxTold o (record { present = ps; given = g; lost = l }) (e ∷ []) (first_given ps g l) x
       told [] g l z = no-head z
       told (p ∷ ps) g l z =
           record {
@@ -234,13 +234,13 @@ module _ (w x : World) (e : Event) (same-sizes : x.sizes ≡ w.sizes) (same-pool
           }
 
   -- a reset loses all, as many as there are
-  pub dealt-reset : e.kind ≡ 18 → inBox x o ≡ [] → e.value ≡ length (inBox w o) → Dealt w (e ∷ []) x
+  pub dealt-reset : e.kind ≡ 18 → in_box x o ≡ [] → e.value ≡ length (in_box w o) → Dealt w (e ∷ []) x
   dealt-reset k h v = dealt-box (inr (inr (inr k))) told
     where
       only : Only [] e.value
       only = record { fetched-is = rw k; lost-is = rw (k, eq-eqb o o refl) (omega arith) }
 
-      told : (l : Ledger) → values l.present ≡ inBox w o → BoxTold o l (e ∷ []) (entered l e) x
+      told : (l : Ledger) → values l.present ≡ in_box w o → BoxTold o l (e ∷ []) (entered l e) x
       told l z =
           let is : entered l e ≡ record { present = []; given = l.given; lost = l.lost ++ l.present } = rw k in
           let all : length l.present ≡ e.value = sym (values_length l.present) ∙ ap length z ∙ sym v in
@@ -259,7 +259,7 @@ OfPool k = (k ≡ 20) ⊎ ((k ≡ 21) ⊎ (k ≡ 22))
 
 module _ (w x : World) (e : Event) (same-sizes : x.sizes ≡ w.sizes) (same-box : x.box ≡ w.box)
     (others : (q : ℕ) → q ≢ e.object → x.pool q ≡ w.pool q)
-    (rest : (a : ℕ) → a ≢ e.value → markIn x e.object a ≡ markIn w e.object a) where
+    (rest : (a : ℕ) → a ≢ e.value → mark_in x e.object a ≡ mark_in w e.object a) where
   abbrev p : ℕ
   p = e.object
 
@@ -267,7 +267,7 @@ module _ (w x : World) (e : Event) (same-sizes : x.sizes ≡ w.sizes) (same-box 
   v = e.value
 
   -- no ledger knows of it
-  still-box : OfPool e.kind → (b : ℕ) → b < w.sizes.mailboxes → (l : Ledger) → values l.present ≡ inBox w b
+  still-box : OfPool e.kind → (b : ℕ) → b < w.sizes.mailboxes → (l : Ledger) → values l.present ≡ in_box w b
       → BoxTold b l (e ∷ []) (ledger b l (e ∷ [])) x
   still-box k b there l z =
       let same = box-same w x b same-sizes (ap (λ (f : ℕ → Mailbox). f b) same-box) in
@@ -284,61 +284,61 @@ module _ (w x : World) (e : Event) (same-sizes : x.sizes ≡ w.sizes) (same-box 
       no-fetch (inr (inl k)) = rw k
       no-fetch (inr (inr k)) = rw k
 
-      no-loss : OfPool e.kind → total (lostAt b) (e ∷ []) ≡ 0
+      no-loss : OfPool e.kind → total (lost_at b) (e ∷ []) ≡ 0
       no-loss (inl k) = rw k
       no-loss (inr (inl k)) = rw k
       no-loss (inr (inr k)) = rw k
 
   -- so what it makes of its own object is all
-  dealt-object : OfPool e.kind → ((s : Standing) → mark_of s ≡ markIn w p v → mark_of (stood s e) ≡ markIn x p v) → Dealt w (e ∷ []) x
+  dealt-object : OfPool e.kind → ((s : Standing) → mark_of s ≡ mark_in w p v → mark_of (stood s e) ≡ mark_in x p v) → Dealt w (e ∷ []) x
   dealt-object k h =
       record {
         sizes = same-sizes;
         boxes = still-box k;
         objects = λ q a there s z.
             same_or q p
-            (λ d. subst (λ (y : ℕ). mark_of (standing y a s (e ∷ [])) ≡ markIn x y a) (sym d)
+            (λ d. subst (λ (y : ℕ). mark_of (standing y a s (e ∷ [])) ≡ mark_in x y a) (sym d)
             (same_or a v
-            (λ c. subst (λ (y : ℕ). mark_of (standing p y s (e ∷ [])) ≡ markIn x p y) (sym c)
+            (λ c. subst (λ (y : ℕ). mark_of (standing p y s (e ∷ [])) ≡ mark_in x p y) (sym c)
             (rw (eq-eqb p p refl, eq-eqb v v refl) (h s (rw (d, c) at z))))
             (λ c. rw (eq-eqb p p refl, ne_eqb v a (λ y. c (sym y))) (rw d at z ∙ sym (rest a c)))))
             (λ d. rw (ne_eqb p q (λ y. d (sym y))) (z ∙ sym (ap (λ (y : Pool). get_or y.marks a 0) (others q d))));
       }
 
   -- an alloc takes a free one
-  pub dealt-taken : e.kind ≡ 20 → markIn w p v ≡ 1 → markIn x p v ≡ 2 → Dealt w (e ∷ []) x
+  pub dealt-taken : e.kind ≡ 20 → mark_in w p v ≡ 1 → mark_in x p v ≡ 2 → Dealt w (e ∷ []) x
   dealt-taken k was now = dealt-object (inl k) (λ s z. ap mark_of (is s) ∙ takes s (z ∙ was) ∙ sym now)
     where
-      is : (s : Standing) → stood s e ≡ whenTaken e s
+      is : (s : Standing) → stood s e ≡ when_taken e s
       is s = rw k
 
-      takes : (s : Standing) → mark_of s ≡ 1 → mark_of (whenTaken e s) ≡ 2
+      takes : (s : Standing) → mark_of s ≡ 1 → mark_of (when_taken e s) ≡ 2
       takes Standing.absent h = absurd (omega (arith, h))
       takes Standing.free h = refl
       takes (Standing.out n i) h = absurd (omega (arith, h))
       takes Standing.mistaken h = absurd (omega (arith, h))
 
   -- a free puts back one that is out
-  pub dealt-freed : e.kind ≡ 21 → markIn w p v ≡ 2 → markIn x p v ≡ 1 → Dealt w (e ∷ []) x
+  pub dealt-freed : e.kind ≡ 21 → mark_in w p v ≡ 2 → mark_in x p v ≡ 1 → Dealt w (e ∷ []) x
   dealt-freed k was now = dealt-object (inr (inl k)) (λ s z. ap mark_of (is s) ∙ frees s (z ∙ was) ∙ sym now)
     where
-      is : (s : Standing) → stood s e ≡ whenFreed s
+      is : (s : Standing) → stood s e ≡ when_freed s
       is s = rw k
 
-      frees : (s : Standing) → mark_of s ≡ 2 → mark_of (whenFreed s) ≡ 1
+      frees : (s : Standing) → mark_of s ≡ 2 → mark_of (when_freed s) ≡ 1
       frees Standing.absent h = absurd (omega (arith, h))
       frees Standing.free h = absurd (omega (arith, h))
       frees (Standing.out n i) h = refl
       frees Standing.mistaken h = absurd (omega (arith, h))
 
   -- an add brings one that was absent
-  pub dealt-added : e.kind ≡ 22 → markIn w p v ≡ 0 → markIn x p v ≡ 1 → Dealt w (e ∷ []) x
+  pub dealt-added : e.kind ≡ 22 → mark_in w p v ≡ 0 → mark_in x p v ≡ 1 → Dealt w (e ∷ []) x
   dealt-added k was now = dealt-object (inr (inr k)) (λ s z. ap mark_of (is s) ∙ adds s (z ∙ was) ∙ sym now)
     where
-      is : (s : Standing) → stood s e ≡ whenAdded s
+      is : (s : Standing) → stood s e ≡ when_added s
       is s = rw k
 
-      adds : (s : Standing) → mark_of s ≡ 0 → mark_of (whenAdded s) ≡ 1
+      adds : (s : Standing) → mark_of s ≡ 0 → mark_of (when_added s) ≡ 1
       adds Standing.absent h = refl
       adds Standing.free h = absurd (omega (arith, h))
       adds (Standing.out n i) h = absurd (omega (arith, h))

@@ -11,7 +11,7 @@ use Rattle.library.specs.declared.sizes.Sizes.{Sizes}
 use Rattle.library.specs.declared.tables.Mailbox.{Mailbox}
 use Rattle.library.specs.declared.tables.Pool.{Pool}
 use Rattle.library.specs.declared.tables.Tables.{Tables}
-use Rattle.promises.specs.Paper.World.{World, threadTo, boxTo, poolTo, readyWith, madeReady, callEnded, ended, asleep, fallAsleep}
+use Rattle.promises.specs.Paper.World.{World, thread_to, box_to, pool_to, ready_with, made_ready, call_ended, ended, asleep, fall_asleep}
 use Rattle.promises.specs.Paper.Rows.{
   TickOf,
   Ticks,
@@ -22,24 +22,24 @@ use Rattle.promises.specs.Paper.Rows.{
   ReleaseOf,
   ReleaseAll,
   Resume,
-  pendingTo,
-  tookFlags,
+  pending_to,
+  took_flags,
   flagged,
   EventSignal,
   slots_of,
   written,
-  writtenAhead,
-  takenFrom,
+  written_ahead,
+  taken_from,
   Post,
   Fetch,
-  topIn,
-  withoutTop,
-  topTaken,
+  top_in,
+  without_top,
+  top_taken,
 }
 use Rattle.promises.specs.Paper.Together.{PositionsFit, is_zero}
 use Rattle.promises.specs.Paper.Waking.{IsPost}
-use Rattle.promises.specs.Paper.History.{Event, isCounted, eventsOf}
-use Rattle.promises.specs.Paper.Ledger.{inBox, markIn}
+use Rattle.promises.specs.Paper.History.{Event, is_counted, events_of}
+use Rattle.promises.specs.Paper.Ledger.{in_box, mark_in}
 use Rattle.promises.specs.Runs.Keeping.{put_same, put_other, put-part}
 use Rattle.promises.specs.Runs.OneRow.{ended-other, ended-unfinished, ended-own, ended-finished}
 use Rattle.promises.specs.Runs.Boxes.{content, content-behind, content-ahead, content-taken}
@@ -85,7 +85,7 @@ calm-on a b =
     }
 
 -- one record changes, but neither its call nor its last answer
-pub calm-thread : (w : World) (i : ℕ) (u : Thread) → u.call ≡ (w.thread i).call → u.answer ≡ (w.thread i).answer → Calm w (threadTo w i u)
+pub calm-thread : (w : World) (i : ℕ) (u : Thread) → u.call ≡ (w.thread i).call → u.answer ≡ (w.thread i).answer → Calm w (thread_to w i u)
 calm-thread w i u c a =
     record {
       sizes = refl;
@@ -97,14 +97,14 @@ calm-thread w i u c a =
       answer = refl;
     }
 
-calm-ready : (w : World) (i : ℕ) (m : ℤ) (c : ℕ) → Calm w (madeReady w i m c)
+calm-ready : (w : World) (i : ℕ) (m : ℤ) (c : ℕ) → Calm w (made_ready w i m c)
 calm-ready w i m c =
     record {
       sizes = refl;
       boxes = refl;
       pools = refl;
-      calls = put-part (λ (v : Thread). v.call) w.thread i (readyWith (w.thread i) m c w.step) refl;
-      answers = put-part (λ (v : Thread). v.answer) w.thread i (readyWith (w.thread i) m c w.step) refl;
+      calls = put-part (λ (v : Thread). v.call) w.thread i (ready_with (w.thread i) m c w.step) refl;
+      answers = put-part (λ (v : Thread). v.answer) w.thread i (ready_with (w.thread i) m c w.step) refl;
       finished = λ j. refl;
       answer = refl;
     }
@@ -173,14 +173,14 @@ pub record Fit (w : World) : Type 0 where
   pub boxes : (b : ℕ) → b < w.sizes.mailboxes → PositionsFit (w.box b).positions (slots_of w b)
   pub few : (b : ℕ) → b < w.sizes.mailboxes → slots_of w b ≤ 16
   pub messages : (b : ℕ) → b < w.sizes.mailboxes → length (w.box b).messages ≡ 16
-  pub tops : (q : ℕ) → q < w.sizes.pools → 0 < (w.pool q).length → (topIn (w.pool q) < 32) × (markIn w q (topIn (w.pool q)) ≡ 1)
+  pub tops : (q : ℕ) → q < w.sizes.pools → 0 < (w.pool q).length → (top_in (w.pool q) < 32) × (mark_in w q (top_in (w.pool q)) ≡ 1)
   pub marks : (q : ℕ) → q < w.sizes.pools → length (w.pool q).marks ≡ 32
 
 module _ (n : ℕ) (t : Tables) where
   -- the call c of i is over, or goes on: then it is the same to a history
   pub data Own (i : ℕ) (c : Call) (w : World) (es : List Event) (x : World) : Type 0 where
-    over : es ≡ eventsOf n t i c (answer_of x i) → (i ≢ 255 → x.finished i ≡ true) → (i ≢ 255 → (x.thread i).call.kind ≡ 0) → Own i c w es x
-    on : es ≡ [] → i ≢ 255 → x.finished i ≡ w.finished i → ((a : Answer) → eventsOf n t i (x.thread i).call a ≡ eventsOf n t i c a)
+    over : es ≡ events_of n t i c (answer_of x i) → (i ≢ 255 → x.finished i ≡ true) → (i ≢ 255 → (x.thread i).call.kind ≡ 0) → Own i c w es x
+    on : es ≡ [] → i ≢ 255 → x.finished i ≡ w.finished i → ((a : Answer) → events_of n t i (x.thread i).call a ≡ events_of n t i c a)
         → Own i c w es x
 
   -- what the call c of i has made of a world, by some events
@@ -197,7 +197,7 @@ module _ (n : ℕ) (t : Tables) where
   Does i c w x = (es : List Event) × Did i c w es x
 
   -- a call that is the same to a history
-  pub does-as : (i : ℕ) (c d : Call) (w x : World) → ((a : Answer) → eventsOf n t i c a ≡ eventsOf n t i d a) → Does i c w x → Does i d w x
+  pub does-as : (i : ℕ) (c d : Call) (w x : World) → ((a : Answer) → events_of n t i c a ≡ events_of n t i d a) → Does i c w x → Does i d w x
   does-as i c d w x h (es, k) = (
     es,
     record {
@@ -218,16 +218,16 @@ module _ (n : ℕ) (t : Tables) where
   does-to i c w x y e d = subst (Does i c w) (sym e) d
 
   -- an answer that is not 0 is no event
-  pub no-event : (i : ℕ) (c : Call) (m : ℤ) (d : ℕ) → is_zero m ≡ false → eventsOf n t i c (record { message = m; datum = d }) ≡ []
-  no-event i c m d e = split (isCounted c.kind) (λ k. rw (k, e)) (λ k. rw k)
+  pub no-event : (i : ℕ) (c : Call) (m : ℤ) (d : ℕ) → is_zero m ≡ false → events_of n t i c (record { message = m; datum = d }) ≡ []
+  no-event i c m d e = split (is_counted c.kind) (λ k. rw (k, e)) (λ k. rw k)
 
   -- nor is a call that does not count
-  pub uncounted : (i : ℕ) (c : Call) (a : Answer) → isCounted c.kind ≡ false → eventsOf n t i c a ≡ []
+  pub uncounted : (i : ℕ) (c : Call) (a : Answer) → is_counted c.kind ≡ false → events_of n t i c a ≡ []
   uncounted i c a e = rw e
 
   -- IT ENDS with m and d, in a world v that differs from w by its events
   pub ends-does : (i : ℕ) (c : Call) (w v y : World) (es : List Event) → Calm w v → y.thread ≡ v.thread → y.finished ≡ v.finished
-      → y.answer ≡ v.answer → Dealt w es y → (m : ℤ) (d : ℕ) → es ≡ eventsOf n t i c (record { message = m; datum = d })
+      → y.answer ≡ v.answer → Dealt w es y → (m : ℤ) (d : ℕ) → es ≡ events_of n t i c (record { message = m; datum = d })
       → Does i c w (ended y i m d)
   ends-does i c w v y es k yt yf ya h m d e = (
     es,
@@ -237,33 +237,33 @@ module _ (n : ℕ) (t : Tables) where
       answers = λ j z. ap (λ (r : Thread). r.answer) (ended-other y i m d j z ∙ ap (λ (g : ℕ → Thread). g j) yt) ∙ k.answers j;
       finished = λ j z. ended-unfinished y i m d j z ∙ ap (λ (g : ℕ → Bool). g j) yf ∙ k.finished j;
       answer = λ z. rw (ne_eqb i 255 z) (ya ∙ k.answer);
-      own = Own.over (e ∙ sym (ap (eventsOf n t i c) is)) (ended-finished y i m d) (λ z. ap (λ (r : Thread). r.call.kind) (ended-own y i m d z));
+      own = Own.over (e ∙ sym (ap (events_of n t i c) is)) (ended-finished y i m d) (λ z. ap (λ (r : Thread). r.call.kind) (ended-own y i m d z));
     },
   )
     where
       is : answer_of (ended y i m d) i ≡ record { message = m; datum = d }
       is =
           same_or i 255 (λ z. rw z)
-          (λ z. rw (ne_eqb i 255 z) (ap (λ (r : Thread). r.answer) (put_same y.thread i (callEnded (y.thread i) m d))))
+          (λ z. rw (ne_eqb i 255 z) (ap (λ (r : Thread). r.answer) (put_same y.thread i (call_ended (y.thread i) m d))))
 
   -- with nothing done to mailboxes and pools
-  pub ends-calm : (i : ℕ) (c : Call) (w v : World) → Calm w v → (m : ℤ) (d : ℕ) → eventsOf n t i c (record { message = m; datum = d }) ≡ []
+  pub ends-calm : (i : ℕ) (c : Call) (w v : World) → Calm w v → (m : ℤ) (d : ℕ) → events_of n t i c (record { message = m; datum = d }) ≡ []
       → Does i c w (ended v i m d)
   ends-calm i c w v k m d e =
       ends-does i c w v v [] k refl refl refl (dealt-none w v k.sizes k.boxes k.pools) m d (sym e)
 
   -- IT SLEEPS
-  pub sleeps-does : (i : ℕ) (c : Call) (w : World) (st pl : ℕ) → i ≢ 255 → Does i c w (fallAsleep w i st pl c)
+  pub sleeps-does : (i : ℕ) (c : Call) (w : World) (st pl : ℕ) → i ≢ 255 → Does i c w (fall_asleep w i st pl c)
   sleeps-does i c w st pl me =
       let u = asleep (w.thread i) st pl c in (
         [],
         record {
-          dealt = dealt-none w (fallAsleep w i st pl c) refl refl refl;
+          dealt = dealt-none w (fall_asleep w i st pl c) refl refl refl;
           calls = λ j z. ap (λ (r : Thread). r.call) (put_other w.thread i j u z);
           answers = λ j z. ap (λ (r : Thread). r.answer) (put_other w.thread i j u z);
           finished = λ j z. refl;
           answer = λ z. refl;
-          own = Own.on refl me refl (λ a. ap (λ (r : Thread). eventsOf n t i r.call a) (put_same w.thread i u));
+          own = Own.on refl me refl (λ a. ap (λ (r : Thread). events_of n t i r.call a) (put_same w.thread i u));
         },
       )
 
@@ -273,10 +273,10 @@ module _ (n : ℕ) (t : Tables) where
   waits-does i c w st pl x me (Waits.later a e) = does-to i c w _ x e (sleeps-does i c w st pl (me a))
 
   -- flags are no matter of mailboxes and pools
-  pub took-does : (i : ℕ) (c : Call) (w : World) (a : ℕ) → isCounted c.kind ≡ false → Does i c w (tookFlags w i a)
+  pub took-does : (i : ℕ) (c : Call) (w : World) (a : ℕ) → is_counted c.kind ≡ false → Does i c w (took_flags w i a)
   took-does i c w a e =
       let f = (w.thread i).pending in
-      ends-calm i c w (threadTo w i (pendingTo (w.thread i) (f - bit_and f a))) (calm-thread w i _ refl refl) (pos 0) (bit_and f a)
+      ends-calm i c w (thread_to w i (pending_to (w.thread i) (f - bit_and f a))) (calm-thread w i _ refl refl) (pos 0) (bit_and f a)
       (uncounted i c (record { message = pos 0; datum = bit_and f a }) e)
 
   -- ---- mailboxes
@@ -289,12 +289,12 @@ module _ (n : ℕ) (t : Tables) where
     slots = slots_of w o
 
     -- a mailbox becomes z, where nothing else has changed
-    box-now : (v : World) → Calm w v → (z : Mailbox) → inBox (boxTo v o z) o ≡ content slots z
+    box-now : (v : World) → Calm w v → (z : Mailbox) → in_box (box_to v o z) o ≡ content slots z
     box-now v k z =
         ap (λ (y : Mailbox). content (slots_of v o) y) (put_same v.box o z)
         ∙ ap (λ (y : Sizes). content (get_or y.slots o 0) z) k.sizes
 
-    box-others : (v : World) → Calm w v → (z : Mailbox) → (b : ℕ) → b ≢ o → (boxTo v o z).box b ≡ w.box b
+    box-others : (v : World) → Calm w v → (z : Mailbox) → (b : ℕ) → b ≢ o → (box_to v o z).box b ≡ w.box b
     box-others v k z b d = put_other v.box o b z d ∙ ap (λ (f : ℕ → Mailbox). f b) k.boxes
 
     pub post-does : (x : World) → IsPost c.kind → Post w i c x → Does i c w x
@@ -304,17 +304,17 @@ module _ (n : ℕ) (t : Tables) where
         let z = written (w.box o) slots c.operand in
         let ev : Event = record { step = n; who = i; kind = c.kind; object = o; value = c.operand } in
         does-to i c w _ x e
-        (ends-does i c w v (boxTo v o z) (ev ∷ []) q refl refl refl
-        (dealt-behind w (boxTo v o z) ev q.sizes q.pools (box-others v q z) k
+        (ends-does i c w v (box_to v o z) (ev ∷ []) q refl refl refl
+        (dealt-behind w (box_to v o z) ev q.sizes q.pools (box-others v q z) k
         (box-now v q z ∙ content-behind (w.box o) slots (fit.boxes o there) (fit.few o there) (fit.messages o there) l c.operand))
         (pos 0) 0 (rw k))
     post-does x p (Post.ahead a l k v r e) =
         let q = release-calm r in
-        let z = writtenAhead (w.box o) slots c.operand in
+        let z = written_ahead (w.box o) slots c.operand in
         let ev : Event = record { step = n; who = i; kind = c.kind; object = o; value = c.operand } in
         does-to i c w _ x e
-        (ends-does i c w v (boxTo v o z) (ev ∷ []) q refl refl refl
-        (dealt-ahead w (boxTo v o z) ev q.sizes q.pools (box-others v q z) k
+        (ends-does i c w v (box_to v o z) (ev ∷ []) q refl refl refl
+        (dealt-ahead w (box_to v o z) ev q.sizes q.pools (box-others v q z) k
         (box-now v q z ∙ content-ahead (w.box o) slots (fit.boxes o there) (fit.few o there) (fit.messages o there) l c.operand))
         (pos 0) 0 (rw k))
     post-does x p (Post.no_room a l h) = waits-does i c w 3 (28 + o) x me h
@@ -323,12 +323,12 @@ module _ (n : ℕ) (t : Tables) where
     fetch-does x k (Fetch.in-reset a e) = does-to i c w _ x e (ends-calm i c w w (calm-same w) (negsuc 1) 0 (no-event i c (negsuc 1) 0 refl))
     fetch-does x k (Fetch.message a l v r e) =
         let q = release-calm r in
-        let z = takenFrom (w.box o) slots in
+        let z = taken_from (w.box o) slots in
         let d = get_or (w.box o).messages (w.box o).positions.read 0 in
         let ev : Event = record { step = n; who = i; kind = c.kind; object = o; value = d } in
         does-to i c w _ x e
-        (ends-does i c w v (boxTo v o z) (ev ∷ []) q refl refl refl
-        (dealt-first w (boxTo v o z) ev q.sizes q.pools (box-others v q z) k
+        (ends-does i c w v (box_to v o z) (ev ∷ []) q refl refl refl
+        (dealt-first w (box_to v o z) ev q.sizes q.pools (box-others v q z) k
         (content-taken (w.box o) slots (fit.boxes o there) (fit.few o there) (fit.messages o there) l
         ∙ ap (λ (y : List ℕ). d ∷ y) (sym (box-now v q z))))
         (pos 0) d (rw k))
@@ -338,15 +338,15 @@ module _ (n : ℕ) (t : Tables) where
 
   -- the call takes the top of the pool, in a world v that differs from w in counters and threads that are woken
   pub take-does : (i : ℕ) (c : Call) (w v : World) → Fit w → c.object < w.sizes.pools → c.kind ≡ 20 → Calm w v → 0 < (w.pool c.object).length
-      → Does i c w (topTaken v i c.object)
+      → Does i c w (top_taken v i c.object)
   take-does i c w v fit there k q some =
       let o = c.object in
       let y = w.pool o in
       let same : v.pool o ≡ y = ap (λ (f : ℕ → Pool). f o) q.pools in
-      let d = topIn y in
+      let d = top_in y in
       let top = fit.tops o there some in
-      let z = withoutTop y in
-      let u = poolTo v o z in
+      let z = without_top y in
+      let u = pool_to v o z in
       let ev : Event = record { step = n; who = i; kind = c.kind; object = o; value = d } in
       let now : u.pool o ≡ z = put_same v.pool o z in
       let dealt : Dealt w (ev ∷ []) u =
@@ -355,4 +355,4 @@ module _ (n : ℕ) (t : Tables) where
       k top.1
       (ap (λ (p : Pool). get_or p.marks d 0) now ∙ get_or-set_same y.marks d 2 0 (rw (fit.marks o there) top.0)) in
       let done = ends-does i c w v u (ev ∷ []) q refl refl refl dealt (pos 0) d (rw k) in
-      subst (λ (p : Pool). Does i c w (ended (poolTo v o (withoutTop p)) i (pos 0) (topIn p))) (sym same) done
+      subst (λ (p : Pool). Does i c w (ended (pool_to v o (without_top p)) i (pos 0) (top_in p))) (sym same) done

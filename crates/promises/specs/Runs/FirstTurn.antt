@@ -5,7 +5,7 @@ use Rattle.std.proofs.Common.{arith, sym, ap, ◌∙◌, subst, inl, inr}
 use Rattle.std.proofs.Math.IntN.{pos-ne-negsuc}
 use Rattle.kernel.specs.declared.clock.Clock.{Clock}
 use Rattle.kernel.specs.declared.records.Thread.{Thread}
-use Rattle.kernel.specs.Tables.{threadAt}
+use Rattle.kernel.specs.Tables.{thread_at}
 use Rattle.kernel.proofs.Cases.{same_or, in-or-out, contrary}
 use Rattle.library.specs.declared.calls.Step.{Step}
 use Rattle.library.specs.declared.sizes.Sizes.{Sizes}
@@ -14,14 +14,14 @@ use Rattle.library.specs.declared.tables.Plant.{Plant}
 use Rattle.library.specs.declared.tables.Tables.{Tables}
 use Rattle.library.specs.Tables.{opened}
 use Rattle.steps.specs.Stepping.{stepped}
-use Rattle.promises.specs.Paper.World.{World, found, boxTo, readyWith, madeReady, ended, kept, Highest, First}
+use Rattle.promises.specs.Paper.World.{World, found, box_to, ready_with, made_ready, ended, kept, Highest, First}
 use Rattle.promises.specs.Paper.Host.{Host}
 use Rattle.promises.specs.Paper.Rows.{Release, slots_of, Post, Fetch, Act}
 use Rattle.promises.specs.Paper.Together.{WaitFits, TicksFit}
-use Rattle.promises.specs.Paper.Waking.{rowOf, IsMailing, CalledOut, WokenBy, SleeperAfter, ReleasesAll, ReleasesFirst, Due}
-use Rattle.promises.specs.Paper.Causes.{messageBy}
+use Rattle.promises.specs.Paper.Waking.{row_of, IsMailing, CalledOut, WokenBy, SleeperAfter, ReleasesAll, ReleasesFirst, Due}
+use Rattle.promises.specs.Paper.Causes.{message_by}
 use Rattle.promises.specs.Together.Good.{GoodSizes, GoodThread, Good}
-use Rattle.promises.specs.Meant.Moves.{worldOf}
+use Rattle.promises.specs.Meant.Moves.{world_of}
 use Rattle.promises.specs.Meant.Only.{highest-only}
 use Rattle.promises.specs.Meant.Step.{hangs}
 use Rattle.promises.specs.Meant.Together.{thread-fits}
@@ -31,7 +31,7 @@ use Rattle.promises.specs.Runs.Sleepers.{last-by}
 use Rattle.promises.specs.Runs.Accepted.{accepted, together, caller-first, semaphore-there, queue-there, mailbox-there, pool-there, x₀, act, someone, fits, sleeper-acted}
 use Rattle.promises.specs.Runs.Places.{cause-for, message-by}
 use Rattle.promises.specs.Runs.OnlyDue.{act-due}
-use Rattle.promises.specs.Runs.Turns.{sideAt, CallsOn, Finds, on-side, on-mail, Mails, Sure, Fair}
+use Rattle.promises.specs.Runs.Turns.{side_at, CallsOn, Finds, on-side, on-mail, Mails, Sure, Fair}
 
 -- ---- calls and places
 
@@ -48,7 +48,7 @@ mail-far (WaitFits.writer x a p) n l g = omega (arith, l a, p)
 mail-far (WaitFits.reader x a p) n l g = omega (arith, l a, p)
 mail-far (WaitFits.events x a p) n l g = not-mail x (λ y. omega arith) (λ y. omega arith) (λ y. omega arith) g
 
-side-high : (side : Bool) (b : ℕ) → 28 ≤ sideAt side b
+side-high : (side : Bool) (b : ℕ) → 28 ≤ side_at side b
 side-high true b = omega arith
 side-high false b = omega arith
 
@@ -60,13 +60,13 @@ module _ (z : Sizes) (sized : GoodSizes z) (a : Thread) (g : GoodThread z a) whe
   call-box false b (inr k, o) = omega (arith, o, rw k at (g.object (λ e. omega (arith, k, e))))
 
   -- whoever waits at a mailbox's side has a call on it
-  seat : (that : Bool) (d : ℕ) → d < 4 → (a.state ≡ 3) × (a.place ≡ sideAt that d) → CallsOn that d a.call
+  seat : (that : Bool) (d : ℕ) → d < 4 → (a.state ≡ 3) × (a.place ≡ side_at that d) → CallsOn that d a.call
   seat that d s p = by that p.1 (thread-fits z a g sized).wait
     where
       q : a.state ≡ 3
       q = p.0
 
-      by : (that : Bool) → a.place ≡ sideAt that d → WaitFits a → CallsOn that d a.call
+      by : (that : Bool) → a.place ≡ side_at that d → WaitFits a → CallsOn that d a.call
       by that p (WaitFits.ready e y) = absurd (omega (arith, e, q))
       by that p (WaitFits.sleeps e n y) = absurd (omega (arith, n, q))
       by that p (WaitFits.reference e n y) = absurd (omega (arith, n, q))
@@ -81,14 +81,14 @@ module _ (z : Sizes) (sized : GoodSizes z) (a : Thread) (g : GoodThread z a) whe
       by false p (WaitFits.reader e n y) = absurd (omega (arith, p, y, s))
 
 -- tables at work that are good
-pub mails-good : (p : Plant) → Good p → Mails (worldOf p)
+pub mails-good : (p : Plant) → Good p → Mails (world_of p)
 mails-good p g =
     record {
       few = g.sizes.threads.1;
       boxes = λ l a side b h.
-          let m = call-box p.sizes g.sizes (threadAt p.kernel l) (g.threads l a) side b h in
+          let m = call-box p.sizes g.sizes (thread_at p.kernel l) (g.threads l a) side b h in
           (omega (arith, m, g.sizes.mailboxes), (g.mailboxes b m).count);
-      seats = λ l a that d s q. seat p.sizes g.sizes (threadAt p.kernel l) (g.threads l a) that d s q;
+      seats = λ l a that d s q. seat p.sizes g.sizes (thread_at p.kernel l) (g.threads l a) that d s q;
     }
 
 -- whoever is ready has a first
@@ -115,15 +115,15 @@ module _ (t : Tables) (c : Clock) (s : Step) (host : Host t c s) (e : (stepped t
   good-found = (hangs t c s host (accepted t c s host e)).together.good
 
   -- the act serves thread j, at a side of the mailbox o, which becomes y
-  module _ (that : Bool) (o j n d : ℕ) (y : Mailbox) (there : o < t.sizes.mailboxes) (h : Highest w₀ (sideAt that o) j) (finds : Finds that y (slots_of w₀ o)) where
+  module _ (that : Bool) (o j n d : ℕ) (y : Mailbox) (there : o < t.sizes.mailboxes) (h : Highest w₀ (side_at that o) j) (finds : Finds that y (slots_of w₀ o)) where
     abbrev u : World
-    u = boxTo (madeReady w₀ j (pos 0) n) o y
+    u = box_to (made_ready w₀ j (pos 0) n) o y
 
     abbrev v : World
     v = ended u s.caller (pos 0) d
 
     abbrev r : Thread
-    r = readyWith (w₀.thread j) (pos 0) n w₀.step
+    r = ready_with (w₀.thread j) (pos 0) n w₀.step
 
     states : (l : ℕ) → l ≢ j → (v.thread l).state ≡ (w₀.thread l).state
     states l a = ended-state u s.caller (pos 0) d l ∙ ap (λ (a : Thread). a.state) (put_other w₀.thread j l r a)
@@ -186,7 +186,7 @@ module _ (t : Tables) (c : Clock) (s : Step) (host : Host t c s) (e : (stepped t
   -- thread k, whom the act has woken, and who was due
   module _ (k : ℕ) (within : k < t.sizes.threads) where
     abbrev a : Thread
-    a = rowOf t k
+    a = row_of t k
 
     due-slept : Due t s k → a.state ≢ 0
     due-slept (Due.last-tick q r) z = by (fits t c s host e k within).ticks
@@ -200,14 +200,14 @@ module _ (t : Tables) (c : Clock) (s : Step) (host : Host t c s) (e : (stepped t
     due-slept (Due.first p r h) z = omega (arith, h.waits.0, z)
 
     -- it was served by the act's own call
-    module _ (that : Bool) (there : s.object < t.sizes.mailboxes) (h : Highest w₀ (sideAt that s.object) k) where
-      serves-sure : {v : World} (n d : ℕ) (y : Mailbox) → Finds that y (slots_of w₀ s.object) → Release w₀ (sideAt that s.object) (pos 0) n v
-          → x ≡ ended (boxTo v s.object y) s.caller (pos 0) d → Sure x k
+    module _ (that : Bool) (there : s.object < t.sizes.mailboxes) (h : Highest w₀ (side_at that s.object) k) where
+      serves-sure : {v : World} (n d : ℕ) (y : Mailbox) → Finds that y (slots_of w₀ s.object) → Release w₀ (side_at that s.object) (pos 0) n v
+          → x ≡ ended (box_to v s.object y) s.caller (pos 0) d → Sure x k
       serves-sure n d y finds (Release.nobody none q) z = absurd (none k h)
       serves-sure n d y finds (Release.first j g q) z =
           let it = served-sure that s.object j n d y there g finds in
-          subst (λ (l : ℕ). Sure x l) (highest-only w₀ (sideAt that s.object) j k g h)
-          (subst (λ (u : World). Sure u j) (sym (z ∙ ap (λ (u : World). ended (boxTo u s.object y) s.caller (pos 0) d) q)) it)
+          subst (λ (l : ℕ). Sure x l) (highest-only w₀ (side_at that s.object) j k g h)
+          (subst (λ (u : World). Sure u j) (sym (z ∙ ap (λ (u : World). ended (box_to u s.object y) s.caller (pos 0) d) q)) it)
 
     post-sure : (n : ℕ) → s.object < t.sizes.mailboxes → (w₀.box s.object).reset ≡ 0
         → (w₀.box s.object).positions.count < slots_of w₀ s.object → Highest w₀ (32 + s.object) k
@@ -225,7 +225,7 @@ module _ (t : Tables) (c : Clock) (s : Step) (host : Host t c s) (e : (stepped t
     reset-gone : s.kind ≡ 18 → a.state ≡ 3 → (a.place ≡ 28 + s.object) ⊎ (a.place ≡ 32 + s.object) → {m : ℤ} {o : ℕ} → WokenBy t s k a m o → m ≡ negsuc 1
     reset-gone q st pl by =
         let reset : WokenBy t s k a (negsuc 1) 7 = WokenBy.call (λ v. omega (arith, q, v.0)) (CalledOut.box-reset q st pl) in
-        message-by t c s host e by ∙ ap (messageBy s) (cause-for t c s host e by ∙ sym (cause-for t c s host e reset))
+        message-by t c s host e by ∙ ap (message_by s) (cause-for t c s host e by ∙ sym (cause-for t c s host e reset))
 
     -- it waited at a mailbox's side, and is sure if it is to answer another message than 0
     module _ (st : a.state ≡ 3) (far : 28 ≤ a.place) {m : ℤ} {o : ℕ} (by : WokenBy t s k a m o) (answers : m ≢ pos 0 → Sure x k) where

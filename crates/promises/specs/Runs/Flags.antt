@@ -10,11 +10,11 @@ use Rattle.kernel.specs.declared.records.Thread.{Thread}
 use Rattle.kernel.proofs.Cases.{same_or, contrary}
 use Rattle.library.specs.declared.calls.Step.{Step}
 use Rattle.library.specs.declared.tables.Tables.{Tables}
-use Rattle.promises.specs.Paper.World.{World, found, readyWith, callEnded, asleep}
-use Rattle.promises.specs.Paper.Waking.{rowOf, IsMailing, CalledOut, heard, AnswerOf, SleeperAfter, ReadyAfter, OwnWait}
-use Rattle.promises.specs.Paper.Flags.{awaitsFlags, GoesOn, FlagsAfter}
-use Rattle.promises.specs.Runs.Keeping.{ownFlags, OwnEnd, Keeps}
-use Rattle.promises.specs.Runs.OneRow.{flagsTaken, mail-other, Stands, Steady, row_keeps}
+use Rattle.promises.specs.Paper.World.{World, found, ready_with, call_ended, asleep}
+use Rattle.promises.specs.Paper.Waking.{row_of, IsMailing, CalledOut, heard, AnswerOf, SleeperAfter, ReadyAfter, OwnWait}
+use Rattle.promises.specs.Paper.Flags.{awaits_flags, GoesOn, FlagsAfter}
+use Rattle.promises.specs.Runs.Keeping.{own_flags, OwnEnd, Keeps}
+use Rattle.promises.specs.Runs.OneRow.{flags_taken, mail-other, Stands, Steady, row_keeps}
 use Rattle.promises.specs.Runs.Passing.{Passed, found_passed, ticks-passed, events-passed}
 use Rattle.promises.specs.Runs.Sleepers.{no-event, called-state, not-side}
 
@@ -22,18 +22,18 @@ use Rattle.promises.specs.Runs.Sleepers.{no-event, called-state, not-side}
 
 module _ (t : Tables) (s : Step) (i : ℕ) (apart : s.caller ≢ i) where
   abbrev a : Thread
-  a = rowOf t i
+  a = row_of t i
 
   -- its kept call is an event wait, or not
-  kept-awaits : awaitsFlags t s i ≡ eqb a.call.kind 14
+  kept-awaits : awaits_flags t s i ≡ eqb a.call.kind 14
   kept-awaits = rw (ne_eqb s.caller i apart)
 
-  no-wait : a.call.kind ≢ 14 → (f : Bool) → (awaitsFlags t s i && f) ≡ false
+  no-wait : a.call.kind ≢ 14 → (f : Bool) → (awaits_flags t s i && f) ≡ false
   no-wait n f = rw (kept-awaits, ne_eqb a.call.kind 14 n)
 
   -- whose call did not finish keeps its flags
   unfinished : {b : Thread} {f : Bool} → b.pending ≡ heard s i a → f ≡ false → FlagsAfter t s i b f
-  unfinished p q = FlagsAfter.stays (rw q (and-false (awaitsFlags t s i))) p
+  unfinished p q = FlagsAfter.stays (rw q (and-false (awaits_flags t s i))) p
 
   module _ (b : Thread) (f : Bool) (m : ℤ) (q : f ≡ true) where
     answered : {x : ℤ} {d e : ℕ} → (a.call.kind ≡ 14 → GoesOn t s i a.call.operand m) → AnswerOf a (heard s i a) m x d e
@@ -80,13 +80,13 @@ own-state (OwnWait.writer (inr e) n) k = absurd (omega (arith, e, k))
 own-state (OwnWait.reader e n) k = absurd (omega (arith, e, k))
 own-state (OwnWait.pool e n) k = absurd (omega (arith, e, k))
 
-module _ (t : Tables) (s : Step) (someone : s.caller ≢ 255) (was-ready : (rowOf t s.caller).state ≡ 0)
-    (no-ticks : (rowOf t s.caller).remaining ≡ 0) (no_call : (rowOf t s.caller).call.kind ≡ 0) where
+module _ (t : Tables) (s : Step) (someone : s.caller ≢ 255) (was-ready : (row_of t s.caller).state ≡ 0)
+    (no-ticks : (row_of t s.caller).remaining ≡ 0) (no_call : (row_of t s.caller).call.kind ≡ 0) where
   abbrev i : ℕ
   i = s.caller
 
   abbrev b : Thread
-  b = rowOf t i
+  b = row_of t i
 
   abbrev f : ℕ
   f = heard s i b
@@ -96,9 +96,9 @@ module _ (t : Tables) (s : Step) (someone : s.caller ≢ 255) (was-ready : (rowO
   pub data Flagged (r : Thread) (finished : Bool) : Type 0 where
     waits : r.pending ≡ f → finished ≡ false → (r.call.kind ≡ 0) ⊎ ((r.call.kind ≡ s.kind) × (s.kind ≡ 14 → r.state ≡ 4))
         → Flagged r finished
-    taken : s.kind ≡ 14 → ownFlags t s ≢ 0 → finished ≡ true → r.answer ≡ record { message = pos 0; datum = bit_and f s.a }
+    taken : s.kind ≡ 14 → own_flags t s ≢ 0 → finished ≡ true → r.answer ≡ record { message = pos 0; datum = bit_and f s.a }
         → r.pending ≡ f - bit_and f s.a → r.call.kind ≡ 0 → Flagged r finished
-    late : s.kind ≡ 14 → ownFlags t s ≡ 0 → s.timeout ≡ 0 → finished ≡ true → r.answer ≡ record { message = negsuc 0; datum = 0 }
+    late : s.kind ≡ 14 → own_flags t s ≡ 0 → s.timeout ≡ 0 → finished ≡ true → r.answer ≡ record { message = negsuc 0; datum = 0 }
         → r.pending ≡ f → r.call.kind ≡ 0 → Flagged r finished
     done : s.kind ≢ 14 → finished ≡ true → r.pending ≡ f → r.call.kind ≢ 14 → Flagged r finished
 
@@ -114,21 +114,21 @@ module _ (t : Tables) (s : Step) (someone : s.caller ≢ 255) (was-ready : (rowO
       Flagged.waits (ap (λ (u : Thread). u.pending) p.row) p.finished (inl (ap (λ (u : Thread). u.call.kind) p.row ∙ no_call))
 
   -- the step's own call ends, and it has taken no flags
-  ended-with : (r : Thread) (m : ℤ) (d : ℕ) → OwnEnd t s m d → r.pending ≡ f → Flagged (callEnded r m d) true
+  ended-with : (r : Thread) (m : ℤ) (d : ℕ) → OwnEnd t s m d → r.pending ≡ f → Flagged (call_ended r m d) true
   ended-with r m d o p =
       same_or s.kind 14
       (λ k. let x = o k in Flagged.late k x.2 x.3 refl (λ y. record { message = x.0 y; datum = x.1 y }) p refl)
       (λ n. Flagged.done n refl p (no-event refl))
 
   module _ {r : Thread} {q : Bool} where
-    own-ends : (m : ℤ) (d : ℕ) → OwnEnd t s m d → Flagged r q → Flagged (callEnded r m d) true
+    own-ends : (m : ℤ) (d : ℕ) → OwnEnd t s m d → Flagged r q → Flagged (call_ended r m d) true
     own-ends m d o (Flagged.taken k n e g p c) = absurd (n (o k).2)
     own-ends m d o (Flagged.waits p e g) = ended-with r m d o p
     own-ends m d o (Flagged.late k z l e g p c) = ended-with r m d o p
     own-ends m d o (Flagged.done n e p c) = ended-with r m d o p
 
     -- a call that is continued is not an event wait
-    ends_on : (m : ℤ) (d : ℕ) → r.state ≡ 0 → r.call.kind ≢ 0 → Flagged r q → Flagged (callEnded r m d) true
+    ends_on : (m : ℤ) (d : ℕ) → r.state ≡ 0 → r.call.kind ≢ 0 → Flagged r q → Flagged (call_ended r m d) true
     ends_on m d z n (Flagged.waits p e (inl k)) = absurd (n k)
     ends_on m d z n (Flagged.waits p e (inr k)) = Flagged.done (λ x. absurd (omega (arith, z, k.1 x))) refl p (no-event refl)
     ends_on m d z n (Flagged.taken k x e g p c) = absurd (n c)
@@ -143,7 +143,7 @@ module _ (t : Tables) (s : Step) (someone : s.caller ≢ 255) (was-ready : (rowO
     no_takes z k (Flagged.done x e p c) = c k
 
     -- it falls asleep, in the step's own call or in a mailbox call that was tried again
-    own-sleeps : (st pl : ℕ) (c : Call) → OwnWait s st pl → c.kind ≡ s.kind → (s.kind ≡ 14 → ownFlags t s ≡ 0) → Flagged r q
+    own-sleeps : (st pl : ℕ) (c : Call) → OwnWait s st pl → c.kind ≡ s.kind → (s.kind ≡ 14 → own_flags t s ≡ 0) → Flagged r q
         → Flagged (asleep r st pl c) q
     own-sleeps st pl c o k none (Flagged.waits p e g) = Flagged.waits p e (inr (k, λ x. (own-state o x).0))
     own-sleeps st pl c o k none (Flagged.taken x n e g p y) = absurd (n (none x))
@@ -158,7 +158,7 @@ module _ (t : Tables) (s : Step) (someone : s.caller ≢ 255) (was-ready : (rowO
     sleeps-on pl g (Flagged.done n e p k) = Flagged.done n e p k
 
     -- it is woken, if it fell asleep before
-    wakes : (m : ℤ) (o v : ℕ) → CalledOut t s r.state r.place m o → Flagged r q → Flagged (readyWith r m o v) q
+    wakes : (m : ℤ) (o v : ℕ) → CalledOut t s r.state r.place m o → Flagged r q → Flagged (ready_with r m o v) q
     wakes m o v c (Flagged.waits p e (inl k)) = Flagged.waits p e (inl k)
     wakes m o v c (Flagged.waits p e (inr k)) =
         Flagged.waits p e
@@ -168,7 +168,7 @@ module _ (t : Tables) (s : Step) (someone : s.caller ≢ 255) (was-ready : (rowO
     wakes m o v c (Flagged.done n e p k) = Flagged.done n e p k
 
   -- it takes flags at once, or not at all
-  own-takes : s.kind ≡ 14 → ownFlags t s ≢ 0 → {q : Bool} → q ≡ false → Flagged b q → Flagged (flagsTaken b s.a) true
+  own-takes : s.kind ≡ 14 → own_flags t s ≢ 0 → {q : Bool} → q ≡ false → Flagged b q → Flagged (flags_taken b s.a) true
   own-takes k n z (Flagged.waits p q g) =
       Flagged.taken k n refl (ap (λ (x : ℕ). record { message = pos 0; datum = bit_and x s.a }) p) (ap (λ (x : ℕ). x - bit_and x s.a) p) refl
   own-takes k n z (Flagged.taken g x q r p e) = contrary q z
@@ -194,12 +194,12 @@ module _ (t : Tables) (s : Step) (someone : s.caller ≢ 255) (was-ready : (rowO
         sleeps = λ e st pl c o k none b h. own-sleeps st pl c o k none h;
       })
 
-  own-awaits : s.kind ≢ 14 → (q : Bool) → (awaitsFlags t s i && q) ≡ false
+  own-awaits : s.kind ≢ 14 → (q : Bool) → (awaits_flags t s i && q) ≡ false
   own-awaits n q = rw (eq-eqb i i refl, ne_eqb s.kind 14 n)
 
   -- OF THE CALLER
   pub caller-flags : {r : Thread} {q : Bool} → Flagged r q → FlagsAfter t s i r q
-  caller-flags (Flagged.waits p e g) = FlagsAfter.stays (rw e (and-false (awaitsFlags t s i))) p
+  caller-flags (Flagged.waits p e g) = FlagsAfter.stays (rw e (and-false (awaits_flags t s i))) p
   caller-flags (Flagged.taken k n e r p g) = FlagsAfter.taken s.a (GoesOn.finds refl k n) e r p
   caller-flags (Flagged.late k z l e r p g) = FlagsAfter.late s.a (negsuc 0) (GoesOn.finds-none refl k z l) (λ x. pos-ne-negsuc 0 0 (sym x)) e r p
   caller-flags {r} {q} (Flagged.done n e p g) = FlagsAfter.stays (own-awaits n q) p

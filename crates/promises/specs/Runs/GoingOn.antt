@@ -10,15 +10,15 @@ use Rattle.kernel.proofs.Cases.{same_or, contrary}
 use Rattle.library.specs.declared.calls.Step.{Step}
 use Rattle.library.specs.declared.tables.Tables.{Tables}
 use Rattle.steps.specs.Stepping.{stepped}
-use Rattle.promises.specs.Paper.World.{World, found, counterTo, boxTo, poolTo, threadTo, readyWith, madeReady, ended, asleep, fallAsleep, kept, First, Running}
+use Rattle.promises.specs.Paper.World.{World, found, counter_to, box_to, pool_to, thread_to, ready_with, made_ready, ended, asleep, fall_asleep, kept, First, Running}
 use Rattle.promises.specs.Paper.Host.{Host}
 use Rattle.promises.specs.Paper.Rows.{
   TickOf,
   Ticks,
   Waits,
   Release,
-  pendingTo,
-  tookFlags,
+  pending_to,
+  took_flags,
   flagged,
   EventSignal,
   EventWait,
@@ -28,8 +28,8 @@ use Rattle.promises.specs.Paper.Rows.{
 }
 use Rattle.promises.specs.Paper.Settling.{Continued, Settles}
 use Rattle.promises.specs.Paper.Step.{StepOf}
-use Rattle.promises.specs.Paper.Waking.{rowOf, inMask}
-use Rattle.promises.specs.Paper.Flags.{awaitsFlags}
+use Rattle.promises.specs.Paper.Waking.{row_of, in_mask}
+use Rattle.promises.specs.Paper.Flags.{awaits_flags}
 use Rattle.promises.specs.Runs.Keeping.{put_same, put_other, put-part, KeepsAct, act-keeps}
 use Rattle.promises.specs.Runs.OneRow.{ended-other, ended-unfinished, ended-own, ended-state, took-other, took-unfinished}
 use Rattle.promises.specs.Runs.Accepted.{unbroken, caller-first, held, someone}
@@ -61,10 +61,10 @@ module _ (i : ℕ) (someone : i ≢ 255) where
         no_call = ap (λ (u : Thread). u.call.kind) (ended-own w i m d someone);
       }
 
-  took-goes : (w : World) (a : ℕ) → First w i → Goes (tookFlags w i a)
+  took-goes : (w : World) (a : ℕ) → First w i → Goes (took_flags w i a)
   took-goes w a f =
-      ended-goes (threadTo w i _) (pos 0) _
-      (first-stays w (threadTo w i (pendingTo (w.thread i) _)) i refl (put-part (λ (v : Thread). v.state) w.thread i (pendingTo (w.thread i) _) refl) f)
+      ended-goes (thread_to w i _) (pos 0) _
+      (first-stays w (thread_to w i (pending_to (w.thread i) _)) i refl (put-part (λ (v : Thread). v.state) w.thread i (pending_to (w.thread i) _) refl) f)
 
   -- ---- an event wait of thread i that is not finished yet
 
@@ -76,13 +76,13 @@ module _ (i : ℕ) (someone : i ≢ 255) where
   waiting-on w x e f h = record { kind = ap (λ (c : Call). c.kind) e ∙ h.kind; unfinished = f ∙ h.unfinished }
 
   -- another is woken, or it is itself: its call stays
-  ready_call : (w : World) (j : ℕ) (m : ℤ) (c : ℕ) → ((madeReady w j m c).thread i).call ≡ (w.thread i).call
+  ready_call : (w : World) (j : ℕ) (m : ℤ) (c : ℕ) → ((made_ready w j m c).thread i).call ≡ (w.thread i).call
   ready_call w j m c =
-      same_or i j (λ e. rw e (ap (λ (u : Thread). u.call) (put_same w.thread j (readyWith (w.thread j) m c w.step))))
-      (λ d. ap (λ (u : Thread). u.call) (put_other w.thread j i (readyWith (w.thread j) m c w.step) d))
+      same_or i j (λ e. rw e (ap (λ (u : Thread). u.call) (put_same w.thread j (ready_with (w.thread j) m c w.step))))
+      (λ d. ap (λ (u : Thread). u.call) (put_other w.thread j i (ready_with (w.thread j) m c w.step) d))
 
   release-waiting : {w v : World} {p : ℕ} {m : ℤ} {c : ℕ} → Release w p m c v → Waiting w → Waiting v
-  release-waiting {w} {v} {p} {m} {c} (Release.first j h e) g = subst Waiting (sym e) (waiting-on w (madeReady w j m c) (ready_call w j m c) refl g)
+  release-waiting {w} {v} {p} {m} {c} (Release.first j h e) g = subst Waiting (sym e) (waiting-on w (made_ready w j m c) (ready_call w j m c) refl g)
   release-waiting (Release.nobody h e) g = subst Waiting (sym e) g
 
   -- another's call ends, or sleeps
@@ -95,10 +95,10 @@ module _ (i : ℕ) (someone : i ≢ 255) where
     sleeps-waiting {w} (Waits.now a e) g = subst Waiting (sym e) (ended-waiting w _ 0 g)
     sleeps-waiting {w} {x} {st} {pl} {c} (Waits.later a e) g =
         subst Waiting (sym e)
-        (waiting-on w (fallAsleep w r st pl c) (ap (λ (u : Thread). u.call) (put_other w.thread r i (asleep (w.thread r) st pl c) apart)) refl g)
+        (waiting-on w (fall_asleep w r st pl c) (ap (λ (u : Thread). u.call) (put_other w.thread r i (asleep (w.thread r) st pl c) apart)) refl g)
 
-    boxed : (v : World) (b : ℕ) (y : _) (m : ℤ) (d : ℕ) → Waiting v → Waiting (ended (boxTo v b y) r m d)
-    boxed v b y m d g = ended-waiting (boxTo v b y) m d (waiting-on v (boxTo v b y) refl refl g)
+    boxed : (v : World) (b : ℕ) (y : _) (m : ℤ) (d : ℕ) → Waiting v → Waiting (ended (box_to v b y) r m d)
+    boxed v b y m d g = ended-waiting (box_to v b y) m d (waiting-on v (box_to v b y) refl refl g)
 
     post-waiting : {w x : World} {c : Call} → Post w r c x → Waiting w → Waiting x
     post-waiting {w} (Post.in-reset a e) g = subst Waiting (sym e) (ended-waiting w _ 0 g)
@@ -115,11 +115,11 @@ module _ (i : ℕ) (someone : i ≢ 255) where
     other-waiting {w} (Continued.flags k m e) g =
         let a = (w.thread r).call.operand in
         subst Waiting (sym e)
-        (waiting-on w (tookFlags w r a) (ap (λ (u : Thread). u.call) (took-other w r a i apart)) (took-unfinished w r a i apart) g)
+        (waiting-on w (took_flags w r a) (ap (λ (u : Thread). u.call) (took-other w r a i apart)) (took-unfinished w r a i apart) g)
     other-waiting (Continued.posts k m h) g = post-waiting h g
     other-waiting (Continued.fetches k m h) g = fetch-waiting h g
     other-waiting {w} (Continued.takes k m e) g =
-        subst Waiting (sym e) (ended-waiting (poolTo w _ _) (pos 0) _ (waiting-on w (poolTo w _ _) refl refl g))
+        subst Waiting (sym e) (ended-waiting (pool_to w _ _) (pos 0) _ (waiting-on w (pool_to w _ _) refl refl g))
     other-waiting {w} (Continued.answers k e) g = subst Waiting (sym e) (ended-waiting w _ 0 g)
 
   -- its own is continued: it is finished, and its thread is the first ready one still
@@ -145,7 +145,7 @@ module _ (i : ℕ) (someone : i ≢ 255) where
 
 module _ (t : Tables) (s : Step) (i : ℕ) (someone : i ≢ 255) where
   -- a wait that the records kept: the act of another leaves it so
-  module _ (apart : s.caller ≢ i) (kind : (rowOf t i).call.kind ≡ 14) where
+  module _ (apart : s.caller ≢ i) (kind : (row_of t i).call.kind ≡ 14) where
     abbrev W : World → Type 0
     W = Waiting i someone
 
@@ -155,14 +155,14 @@ module _ (t : Tables) (s : Step) (i : ℕ) (someone : i ≢ 255) where
     waiting-found : W (found t)
     waiting-found = record { kind = kind; unfinished = refl }
 
-    row-waiting : (w : World) (j : ℕ) (u : Thread) → u.call ≡ (w.thread j).call → W w → W (threadTo w j u)
+    row-waiting : (w : World) (j : ℕ) (u : Thread) → u.call ≡ (w.thread j).call → W w → W (thread_to w j u)
     row-waiting w j u e =
-        waiting-on i someone w (threadTo w j u)
+        waiting-on i someone w (thread_to w j u)
         (same_or i j (λ x. rw x (ap (λ (v : Thread). v.call) (put_same w.thread j u) ∙ e))
         (λ d. ap (λ (v : Thread). v.call) (put_other w.thread j i u d))) refl
 
-    ready-waiting : (w : World) (j : ℕ) (m : ℤ) (o : ℕ) → W w → W (madeReady w j m o)
-    ready-waiting w j m o = waiting-on i someone w (madeReady w j m o) (ready_call i someone w j m o) refl
+    ready-waiting : (w : World) (j : ℕ) (m : ℤ) (o : ℕ) → W w → W (made_ready w j m o)
+    ready-waiting w j m o = waiting-on i someone w (made_ready w j m o) (ready_call i someone w j m o) refl
 
     tick-waiting : {w x : World} (j : ℕ) → TickOf w j x → W w → W x
     tick-waiting j (TickOf.no-ticks z e) g = subst W (sym e) g
@@ -182,9 +182,9 @@ module _ (t : Tables) (s : Step) (i : ℕ) (someone : i ≢ 255) where
     kept-act =
         record {
           moves = record {
-            counter = λ w p c g. waiting-on i someone w (counterTo w p c) refl refl g;
-            box = λ w b x g. waiting-on i someone w (boxTo w b x) refl refl g;
-            pool = λ w q x g. waiting-on i someone w (poolTo w q x) refl refl g;
+            counter = λ w p c g. waiting-on i someone w (counter_to w p c) refl refl g;
+            box = λ w b x g. waiting-on i someone w (box_to w b x) refl refl g;
+            pool = λ w q x g. waiting-on i someone w (pool_to w q x) refl refl g;
             wakes = λ w j m o n c g. ready-waiting w j m o g;
           };
           begins = λ x y. waiting-found;
@@ -192,17 +192,17 @@ module _ (t : Tables) (s : Step) (i : ℕ) (someone : i ≢ 255) where
           events = λ v e h. events-waiting s.object s.a h;
           ends = λ w m d o g. ended-waiting i someone s.caller off w m d g;
           takes = λ k n g.
-              waiting-on i someone (found t) (tookFlags (found t) s.caller s.a)
+              waiting-on i someone (found t) (took_flags (found t) s.caller s.a)
               (ap (λ (u : Thread). u.call) (took-other (found t) s.caller s.a i off)) (took-unfinished (found t) s.caller s.a i off) g;
           sleeps = λ w st pl c o k n b g.
-              waiting-on i someone w (fallAsleep w s.caller st pl c)
+              waiting-on i someone w (fall_asleep w s.caller st pl c)
               (ap (λ (u : Thread). u.call) (put_other w.thread s.caller i (asleep (w.thread s.caller) st pl c) off)) refl g;
         }
 
   -- the step's own: it is finished at once, and runs still, or sleeps
   own-act : {now : SystemTime} {w : World} → s.caller ≡ i → First (found t) i → Act t now s w 14 → Goes i someone w ⊎ Waiting i someone w
   own-act c f (Act.event-wait (EventWait.finds a e)) =
-      inl (subst (Goes i someone) (sym e) (subst (λ (j : ℕ). Goes i someone (tookFlags (found t) j s.a)) (sym c) (took-goes i someone (found t) s.a f)))
+      inl (subst (Goes i someone) (sym e) (subst (λ (j : ℕ). Goes i someone (took_flags (found t) j s.a)) (sym c) (took-goes i someone (found t) s.a f)))
   own-act c f (Act.event-wait (EventWait.finds-none a (Waits.now b e))) =
       inl (subst (Goes i someone) (sym e) (subst (λ (j : ℕ). Goes i someone (ended (found t) j (negsuc 0) 0)) (sym c) (ended-goes i someone (found t) (negsuc 0) 0 f)))
   own-act c f (Act.event-wait (EventWait.finds-none a (Waits.later b e))) =
@@ -210,7 +210,7 @@ module _ (t : Tables) (s : Step) (i : ℕ) (someone : i ≢ 255) where
       inr (subst (Waiting i someone) (sym e)
       (record {
         kind =
-            subst (λ (j : ℕ). ((fallAsleep (found t) j 4 0 call).thread i).call.kind ≡ 14) (sym c)
+            subst (λ (j : ℕ). ((fall_asleep (found t) j 4 0 call).thread i).call.kind ≡ 14) (sym c)
             (ap (λ (u : Thread). u.call.kind) (put_same (found t).thread i (asleep ((found t).thread i) 4 0 call)));
         unfinished = refl;
       }))
@@ -232,18 +232,18 @@ module _ (t : Tables) (c : Clock) (s : Step) (host : Host t c s) (e : (stepped t
           | inr g ↦ settles-running i me settles g finished
         ]
 
-    kept-first : s.caller ≢ i → (rowOf t i).call.kind ≡ 14 → First x i
+    kept-first : s.caller ≢ i → (row_of t i).call.kind ≡ 14 → First x i
     kept-first n k =
         settles-running i me settles
         (act-keeps t s (Waiting i me) (kept-act t s i me n k) c.time (held t c s host e) refl act) finished
 
-    is-first : awaitsFlags t s i ≡ true → First x i
+    is-first : awaits_flags t s i ≡ true → First x i
     is-first a =
         same_or s.caller i
         (λ z. own_first z (eqb-true s.kind 14 (rw (eq-eqb s.caller i z) at a)))
-        (λ n. kept-first n (eqb-true (rowOf t i).call.kind 14 (rw (ne_eqb s.caller i n) at a)))
+        (λ n. kept-first n (eqb-true (row_of t i).call.kind 14 (rw (ne_eqb s.caller i n) at a)))
 
-  pub goes-running : awaitsFlags t s i ≡ true → inMask i (stepped t c s).outcome.finished ≡ true → (stepped t c s).outcome.running ≡ i
+  pub goes-running : awaits_flags t s i ≡ true → in_mask i (stepped t c s).outcome.finished ≡ true → (stepped t c s).outcome.running ≡ i
   goes-running a q = by (step_is t c s host)
     where
       by : StepOf t c s (stepped t c s) → (stepped t c s).outcome.running ≡ i

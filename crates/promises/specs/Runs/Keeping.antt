@@ -16,12 +16,12 @@ use Rattle.promises.specs.Paper.World.{
   World,
   found,
   put,
-  counterTo,
-  boxTo,
-  poolTo,
-  madeReady,
+  counter_to,
+  box_to,
+  pool_to,
+  made_ready,
   ended,
-  fallAsleep,
+  fall_asleep,
   signed,
   kept,
   Highest,
@@ -36,12 +36,12 @@ use Rattle.promises.specs.Paper.Rows.{
   ReleaseOf,
   ReleaseAll,
   Resume,
-  tookFlags,
+  took_flags,
   EventSignal,
   EventWait,
   Post,
   Fetch,
-  topIn,
+  top_in,
   Alloc,
   Act,
 }
@@ -76,11 +76,11 @@ pub data Ends (b : Thread) : ℤ → ℕ → Type 0 where
 
 -- P is kept by each move that the step's own act and a continued call share; C is who calls out a thread, by its state and place
 pub record Moves (t : Tables) (s : Step) (C : ℕ → ℕ → ℤ → ℕ → Type 0) (P : World → Type 0) : Type 0 where
-  pub counter : (w : World) (p : ℕ) (c : ℤ) → P w → P (counterTo w p c)
-  pub box : (w : World) (b : ℕ) (x : Mailbox) → P w → P (boxTo w b x)
-  pub pool : (w : World) (q : ℕ) (x : Pool) → P w → P (poolTo w q x)
+  pub counter : (w : World) (p : ℕ) (c : ℤ) → P w → P (counter_to w p c)
+  pub box : (w : World) (b : ℕ) (x : Mailbox) → P w → P (box_to w b x)
+  pub pool : (w : World) (q : ℕ) (x : Pool) → P w → P (pool_to w q x)
   pub wakes : (w : World) (j : ℕ) (m : ℤ) (c : ℕ) → (w.thread j).state ≢ 0 → C (w.thread j).state (w.thread j).place m c → P w
-      → P (madeReady w j m c)
+      → P (made_ready w j m c)
 
 -- and by each that a continued call makes, which wakes others only where it serves: thread r's call ends, takes flags or
 -- sleeps again, if it was not woken in this step
@@ -89,17 +89,17 @@ pub record KeepsOn (t : Tables) (s : Step) (P : World → Type 0) : Type 0 where
   pub ends_on : (w : World) (r : ℕ) (m : ℤ) (d : ℕ) → r < t.sizes.threads → (w.thread r).state ≡ 0 → (w.thread r).call.kind ≢ 0
       → Ends (w.thread r) m d → P w → P (ended w r m d)
   pub takes-on : (w : World) (r : ℕ) → r < t.sizes.threads → (w.thread r).state ≡ 0 → (w.thread r).call.kind ≡ 14
-      → (w.thread r).message ≡ pos 0 → P w → P (tookFlags w r (w.thread r).call.operand)
+      → (w.thread r).message ≡ pos 0 → P w → P (took_flags w r (w.thread r).call.operand)
   pub sleeps-on : (w : World) (r q : ℕ) → r < t.sizes.threads → (w.thread r).state ≡ 0 → IsMailing (w.thread r).call.kind
-      → (w.thread r).message ≡ pos 0 → SideOf (w.thread r).call q → w.woken r ≡ false → P w → P (fallAsleep w r 3 q (w.thread r).call)
+      → (w.thread r).message ≡ pos 0 → SideOf (w.thread r).call q → w.woken r ≡ false → P w → P (fall_asleep w r 3 q (w.thread r).call)
 
 -- the flags that the step's own event wait finds
-abbrev pub ownFlags : Tables → Step → ℕ
-ownFlags t s = bit_and ((found t).thread s.caller).pending s.a
+abbrev pub own_flags : Tables → Step → ℕ
+own_flags t s = bit_and ((found t).thread s.caller).pending s.a
 
 -- what the step's own call may end with, beside flags that it takes: an event wait ends so only where it finds none, with timeout 0
 abbrev pub OwnEnd : Tables → Step → ℤ → ℕ → Type 0
-OwnEnd t s m d = s.kind ≡ 14 → (m ≡ negsuc 0) × (d ≡ 0) × (ownFlags t s ≡ 0) × (s.timeout ≡ 0)
+OwnEnd t s m d = s.kind ≡ 14 → (m ≡ negsuc 0) × (d ≡ 0) × (own_flags t s ≡ 0) × (s.timeout ≡ 0)
 
 -- or by each that the step's own act makes
 pub record KeepsAct (t : Tables) (s : Step) (P : World → Type 0) : Type 0 where
@@ -110,9 +110,9 @@ pub record KeepsAct (t : Tables) (s : Step) (P : World → Type 0) : Type 0 wher
   pub events : (v : World) → s.kind ≡ 13 → EventSignal (found t) s.object s.a v → P v
   -- the step's own call ends, takes flags, or sleeps
   pub ends : (w : World) (m : ℤ) (d : ℕ) → OwnEnd t s m d → P w → P (ended w s.caller m d)
-  pub takes : s.kind ≡ 14 → ownFlags t s ≢ 0 → P (found t) → P (tookFlags (found t) s.caller s.a)
-  pub sleeps : (w : World) (st pl : ℕ) (c : Call) → OwnWait s st pl → c.kind ≡ s.kind → (s.kind ≡ 14 → ownFlags t s ≡ 0)
-      → (IsMailing c.kind → c.object ≡ s.object) → P w → P (fallAsleep w s.caller st pl c)
+  pub takes : s.kind ≡ 14 → own_flags t s ≢ 0 → P (found t) → P (took_flags (found t) s.caller s.a)
+  pub sleeps : (w : World) (st pl : ℕ) (c : Call) → OwnWait s st pl → c.kind ≡ s.kind → (s.kind ≡ 14 → own_flags t s ≡ 0)
+      → (IsMailing c.kind → c.object ≡ s.object) → P w → P (fall_asleep w s.caller st pl c)
 
 -- and so by the whole step
 pub record Keeps (t : Tables) (s : Step) (P : World → Type 0) : Type 0 where
@@ -140,7 +140,7 @@ module _ (t : Tables) (s : Step) (P : World → Type 0) {C : ℕ → ℕ → ℤ
 
   -- the first of the waiters at p
   highest-keeps : (w : World) (p i : ℕ) (m : ℤ) (c : ℕ) → Highest w p i → ((st pl : ℕ) → st ≡ 3 → pl ≡ p → C st pl m c) → P w
-      → P (madeReady w i m c)
+      → P (made_ready w i m c)
   highest-keeps w p i m c h by = k.wakes w i m c (queued-asleep h.waits.0) (by (w.thread i).state (w.thread i).place h.waits.0 h.waits.1)
 
   release-keeps : {w x : World} (p : ℕ) (m : ℤ) (c : ℕ) → Release w p m c x → ((st pl : ℕ) → st ≡ 3 → pl ≡ p → C st pl m c) → P w → P x
@@ -160,7 +160,7 @@ module _ (t : Tables) (s : Step) (P : World → Type 0) (k : KeepsOn t s P) wher
   -- resets is not at work
   module _ (w : World) (r : ℕ) (thread : r < t.sizes.threads) (is-ready : (w.thread r).state ≡ 0) (call : (w.thread r).call.kind ≢ 0)
       (timed : (w.thread r).call.timeout ≢ 0) (tried : IsMailing (w.thread r).call.kind → Tried t s (w.thread r).call.kind (w.thread r).call.object)
-      (top : (w.thread r).call.kind ≡ 20 → (w.thread r).message ≡ pos 0 → topIn (w.pool (w.thread r).call.object) < 32)
+      (top : (w.thread r).call.kind ≡ 20 → (w.thread r).message ≡ pos 0 → top_in (w.pool (w.thread r).call.object) < 32)
       (shut : s.kind ≡ 18 → (w.box (w.thread r).call.object).reset ≡ 0 → (w.thread r).call.object ≢ s.object) where
     abbrev c : Call
     c = (w.thread r).call
@@ -186,12 +186,12 @@ module _ (t : Tables) (s : Step) (P : World → Type 0) (k : KeepsOn t s P) wher
     on_post p m (Post.in-reset a e) u g = to t s P k.moves e (ends_at w (negsuc 1) 0 refl (Ends.in-reset (inl p) m) g)
     on_post p m (Post.behind a l b v h e) u g =
         to t s P k.moves e
-        (ends_at (boxTo v c.object _) (pos 0) 0 (released-row h) (Ends.posted p m)
+        (ends_at (box_to v c.object _) (pos 0) 0 (released-row h) (Ends.posted p m)
         (k.moves.box v c.object _
         (release-keeps t s P k.moves (32 + c.object) (pos 0) 5 h (λ st pl x y. Served.post c.object (λ z. shut z a) (posts t s P k.moves c tried (inl p) p) x y) g)))
     on_post p m (Post.ahead a l b v h e) u g =
         to t s P k.moves e
-        (ends_at (boxTo v c.object _) (pos 0) 0 (released-row h) (Ends.posted p m)
+        (ends_at (box_to v c.object _) (pos 0) 0 (released-row h) (Ends.posted p m)
         (k.moves.box v c.object _
         (release-keeps t s P k.moves (32 + c.object) (pos 0) 5 h (λ st pl x y. Served.post c.object (λ z. shut z a) (posts t s P k.moves c tried (inl p) p) x y) g)))
     on_post p m (Post.no_room a l h) u g = sleeps-at (28 + c.object) (inl p) m (SideOf.writers p) h u g
@@ -200,7 +200,7 @@ module _ (t : Tables) (s : Step) (P : World → Type 0) (k : KeepsOn t s P) wher
     on-fetch p m (Fetch.in-reset a e) u g = to t s P k.moves e (ends_at w (negsuc 1) 0 refl (Ends.in-reset (inr p) m) g)
     on-fetch p m (Fetch.message a l v h e) u g =
         to t s P k.moves e
-        (ends_at (boxTo v c.object _) (pos 0) _ (released-row h) (Ends.fetched p m _)
+        (ends_at (box_to v c.object _) (pos 0) _ (released-row h) (Ends.fetched p m _)
         (k.moves.box v c.object _
         (release-keeps t s P k.moves (28 + c.object) (pos 0) 6 h
         (λ st pl x y. Served.fetch c.object (λ z. shut z a) (subst (λ (n : ℕ). Tried t s n c.object) p (tried (inr p))) x y) g)))
@@ -212,7 +212,7 @@ module _ (t : Tables) (s : Step) (P : World → Type 0) (k : KeepsOn t s P) wher
     continue-keeps (Continued.posts p m h) u g = on_post p m h u g
     continue-keeps (Continued.fetches p m h) u g = on-fetch p m h u g
     continue-keeps (Continued.takes p m e) u g =
-        to t s P k.moves e (ends_at (poolTo w c.object _) (pos 0) _ refl (Ends.object p m _ (top p m)) (k.moves.pool w c.object _ g))
+        to t s P k.moves e (ends_at (pool_to w c.object _) (pos 0) _ refl (Ends.object p m _ (top p m)) (k.moves.pool w c.object _ g))
     continue-keeps (Continued.answers h e) u g = to t s P k.moves e (ends_at w (w.thread r).message 0 refl (Ends.message h) g)
 
 module _ (t : Tables) (s : Step) (P : World → Type 0) (k : KeepsAct t s P) where
@@ -239,7 +239,7 @@ module _ (t : Tables) (s : Step) (P : World → Type 0) (k : KeepsAct t s P) whe
     tried : IsMailing c.kind → Tried t s c.kind c.object
     tried m = Tried.own (sym kind) (sym (same m))
 
-    waits-keeps : {w x : World} (st pl : ℕ) → (s.kind ≡ 14 → (ownFlags t s ≡ 0) × (c.timeout ≡ s.timeout))
+    waits-keeps : {w x : World} (st pl : ℕ) → (s.kind ≡ 14 → (own_flags t s ≡ 0) × (c.timeout ≡ s.timeout))
         → (c.timeout ≢ 0 → OwnWait s st pl) → Waits w s.caller st pl c x → P w → P x
     waits-keeps {w} st pl none own (Waits.now a e) g =
         to t s P k.moves e (k.ends w (negsuc 0) 0 (λ q. (refl, refl, (none q).0, sym (none q).1 ∙ a)) g)
@@ -251,13 +251,13 @@ module _ (t : Tables) (s : Step) (P : World → Type 0) (k : KeepsAct t s P) whe
       other q = absurd (plain q)
 
       semaphore-keeps : {w x : World} (p : ℕ) → (c.timeout ≢ 0 → OwnWait s 3 p) → SemaphoreWait w s.caller p c x → P w → P x
-      semaphore-keeps {w} p own (SemaphoreWait.above a e) g = to t s P k.moves e (k.ends (counterTo w p _) (pos 0) 0 other (k.moves.counter w p _ g))
+      semaphore-keeps {w} p own (SemaphoreWait.above a e) g = to t s P k.moves e (k.ends (counter_to w p _) (pos 0) 0 other (k.moves.counter w p _ g))
       semaphore-keeps p own (SemaphoreWait.not-above a h) g = waits-keeps 3 p (λ y. absurd (plain y)) own h g
 
       alloc_keeps : {w x : World} → (c.timeout ≢ 0 → OwnWait s 3 (16 + c.object)) → Alloc w s.caller c x → P w → P x
       alloc_keeps {w} own (Alloc.above a e) g =
-          let v : World = counterTo w (16 + c.object) _ in
-          to t s P k.moves e (k.ends (poolTo v c.object _) (pos 0) _ other (k.moves.pool v c.object _ (k.moves.counter w (16 + c.object) _ g)))
+          let v : World = counter_to w (16 + c.object) _ in
+          to t s P k.moves e (k.ends (pool_to v c.object _) (pos 0) _ other (k.moves.pool v c.object _ (k.moves.counter w (16 + c.object) _ g)))
       alloc_keeps own (Alloc.not-above a h) g = waits-keeps 3 (16 + c.object) (λ y. absurd (plain y)) own h g
 
       module _ (box : IsMailing c.kind) where
@@ -269,15 +269,15 @@ module _ (t : Tables) (s : Step) (P : World → Type 0) (k : KeepsAct t s P) whe
         post-keeps : {w x : World} → (c.timeout ≢ 0 → OwnWait s 3 (28 + c.object)) → IsPost c.kind → Post w s.caller c x → P w → P x
         post-keeps {w} own p (Post.in-reset a e) g = to t s P k.moves e (k.ends w (negsuc 1) 0 other g)
         post-keeps own p (Post.behind a l b v r e) g =
-            to t s P k.moves e (k.ends (boxTo v c.object _) (pos 0) 0 other (k.moves.box v c.object _ (release-keeps t s P k.moves (32 + c.object) (pos 0) 5 r (λ st pl x y. CalledOut.served (Served.post c.object (no-reset box) (posts t s P k.moves c tried box p) x y)) g)))
+            to t s P k.moves e (k.ends (box_to v c.object _) (pos 0) 0 other (k.moves.box v c.object _ (release-keeps t s P k.moves (32 + c.object) (pos 0) 5 r (λ st pl x y. CalledOut.served (Served.post c.object (no-reset box) (posts t s P k.moves c tried box p) x y)) g)))
         post-keeps own p (Post.ahead a l b v r e) g =
-            to t s P k.moves e (k.ends (boxTo v c.object _) (pos 0) 0 other (k.moves.box v c.object _ (release-keeps t s P k.moves (32 + c.object) (pos 0) 5 r (λ st pl x y. CalledOut.served (Served.post c.object (no-reset box) (posts t s P k.moves c tried box p) x y)) g)))
+            to t s P k.moves e (k.ends (box_to v c.object _) (pos 0) 0 other (k.moves.box v c.object _ (release-keeps t s P k.moves (32 + c.object) (pos 0) 5 r (λ st pl x y. CalledOut.served (Served.post c.object (no-reset box) (posts t s P k.moves c tried box p) x y)) g)))
         post-keeps own p (Post.no_room a l h) g = waits-keeps 3 (28 + c.object) (λ y. absurd (plain y)) own h g
 
         fetch-keeps : {w x : World} → (c.timeout ≢ 0 → OwnWait s 3 (32 + c.object)) → c.kind ≡ 17 → Fetch w s.caller c x → P w → P x
         fetch-keeps {w} own p (Fetch.in-reset a e) g = to t s P k.moves e (k.ends w (negsuc 1) 0 other g)
         fetch-keeps own p (Fetch.message a l v r e) g =
-            to t s P k.moves e (k.ends (boxTo v c.object _) (pos 0) _ other (k.moves.box v c.object _ (release-keeps t s P k.moves (28 + c.object) (pos 0) 6 r (λ st pl x y. CalledOut.served (Served.fetch c.object (no-reset box) (subst (λ (n : ℕ). Tried t s n c.object) p (tried box)) x y)) g)))
+            to t s P k.moves e (k.ends (box_to v c.object _) (pos 0) _ other (k.moves.box v c.object _ (release-keeps t s P k.moves (28 + c.object) (pos 0) 6 r (λ st pl x y. CalledOut.served (Served.fetch c.object (no-reset box) (subst (λ (n : ℕ). Tried t s n c.object) p (tried box)) x y)) g)))
         fetch-keeps own p (Fetch.no-message a l h) g = waits-keeps 3 (32 + c.object) (λ y. absurd (plain y)) own h g
 
   -- ---- the rows

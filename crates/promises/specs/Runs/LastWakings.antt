@@ -10,13 +10,13 @@ use Rattle.library.specs.declared.sizes.Sizes.{Sizes}
 use Rattle.library.specs.declared.tables.Tables.{Tables}
 use Rattle.steps.specs.Stepping.{stepped}
 use Rattle.steps.proofs.StepLaws.{step-refused}
-use Rattle.promises.specs.Paper.World.{noThread, risen}
+use Rattle.promises.specs.Paper.World.{no_thread, risen}
 use Rattle.promises.specs.Paper.Fresh.{FreshTables}
 use Rattle.promises.specs.Paper.Host.{HostStep, HostSteps, Going}
-use Rattle.promises.specs.Paper.Waking.{rowOf, inMask}
-use Rattle.promises.specs.Paper.Run.{Moment, isAccepted, howMany, any_of}
-use Rattle.promises.specs.Paper.Causes.{Why, whyOf, notYet, WhyAfter, numberAfter, numbered, LastWaking}
-use Rattle.promises.specs.Code.Steps.{ran, momentOf, moments}
+use Rattle.promises.specs.Paper.Waking.{row_of, in_mask}
+use Rattle.promises.specs.Paper.Run.{Moment, is_accepted, how_many, any_of}
+use Rattle.promises.specs.Paper.Causes.{Why, why_of, not_yet, WhyAfter, number_after, numbered, LastWaking}
+use Rattle.promises.specs.Code.Steps.{ran, moment_of, moments}
 use Rattle.promises.specs.Together.Hanging.{all-blank}
 use Rattle.promises.specs.Together.Tests.{neither-means}
 use Rattle.promises.specs.Runs.OneStep.{sizes-after, steps-after, why-after}
@@ -29,7 +29,7 @@ module _ (t : Tables) (c : Clock) (g : Going t c) (s : Step) (h : HostStep s) wh
   u = (stepped t c s).tables
 
   -- its number
-  number-after : u.kernel.steps ≡ numberAfter t.kernel.steps (momentOf t c s)
+  number-after : u.kernel.steps ≡ number_after t.kernel.steps (moment_of t c s)
   number-after =
       same_or (stepped t c s).outcome.code 0
       (λ e. rw (eq-eqb (stepped t c s).outcome.code 0 e) (steps-after t c s (host t c g s h) e))
@@ -37,23 +37,23 @@ module _ (t : Tables) (c : Clock) (g : Going t c) (s : Step) (h : HostStep s) wh
 
   module _ (i : ℕ) (within : i < t.sizes.threads) where
     -- it decides, or leaves what was
-    waking-after : {last : Why} {ms : List Moment} → LastWaking i last u.kernel.steps (whyOf (rowOf u i)) ms
-        → LastWaking i last t.kernel.steps (whyOf (rowOf t i)) (momentOf t c s ∷ ms)
+    waking-after : {last : Why} {ms : List Moment} → LastWaking i last u.kernel.steps (why_of (row_of u i)) ms
+        → LastWaking i last t.kernel.steps (why_of (row_of t i)) (moment_of t c s ∷ ms)
     waking-after {last} {ms} l =
         same_or (stepped t c s).outcome.code 0 (λ e. taken e (why-after t c s (host t c g s h) e i within))
         (λ d.
         let same = step-refused t c s d in
-        LastWaking.passes (rw same.nobody-woken (no-bit i)) (from (ap (λ (x : Tables). whyOf (rowOf x i)) same.tables)))
+        LastWaking.passes (rw same.nobody-woken (no-bit i)) (from (ap (λ (x : Tables). why_of (row_of x i)) same.tables)))
       where
-        from : {y : Why} → whyOf (rowOf u i) ≡ y → LastWaking i last (numberAfter t.kernel.steps (momentOf t c s)) y ms
+        from : {y : Why} → why_of (row_of u i) ≡ y → LastWaking i last (number_after t.kernel.steps (moment_of t c s)) y ms
         from {y} e =
             subst (λ (n : ℕ). LastWaking i last n y ms) number-after (subst (λ (x : Why). LastWaking i last u.kernel.steps x ms) e l)
 
-        numbered-here : (stepped t c s).outcome.code ≡ 0 → risen t.kernel.steps ≡ numberAfter t.kernel.steps (momentOf t c s)
+        numbered-here : (stepped t c s).outcome.code ≡ 0 → risen t.kernel.steps ≡ number_after t.kernel.steps (moment_of t c s)
         numbered-here e = rw (eq-eqb (stepped t c s).outcome.code 0 e)
 
-        taken : (stepped t c s).outcome.code ≡ 0 → WhyAfter t s i (whyOf (rowOf u i)) (inMask i (stepped t c s).outcome.woken)
-            → LastWaking i last t.kernel.steps (whyOf (rowOf t i)) (momentOf t c s ∷ ms)
+        taken : (stepped t c s).outcome.code ≡ 0 → WhyAfter t s i (why_of (row_of u i)) (in_mask i (stepped t c s).outcome.woken)
+            → LastWaking i last t.kernel.steps (why_of (row_of t i)) (moment_of t c s ∷ ms)
         taken e (WhyAfter.same w z) = LastWaking.passes w (from z)
         taken e (WhyAfter.woke {m = m} {c = o} w b z) =
             LastWaking.wakes m o w e b (from (z ∙ ap (λ (n : ℕ). record { message = m; cause = o; step = n }) (numbered-here e)))
@@ -61,7 +61,7 @@ module _ (t : Tables) (c : Clock) (g : Going t c) (s : Step) (h : HostStep s) wh
 -- ---- a run
 
 pub last-wakings : (ss : List Step) → HostSteps ss → (t : Tables) (c : Clock) → Going t c → (i : ℕ) → i < t.sizes.threads
-    → LastWaking i (whyOf (rowOf (ran t c ss).tables i)) t.kernel.steps (whyOf (rowOf t i)) (moments t c ss)
+    → LastWaking i (why_of (row_of (ran t c ss).tables i)) t.kernel.steps (why_of (row_of t i)) (moments t c ss)
 last-wakings [] hs t c g i l = LastWaking.ends refl
 last-wakings (s ∷ ss) (HostSteps.more h hs) t c g i l =
     waking-after t c g s h i l
@@ -86,39 +86,39 @@ risen-below : (n : ℕ) → n < 4294967295 → risen n ≡ n + 1
 risen-below n l = rw (ne_eqb n 4294967295 (λ e. omega (arith, l, e)))
 
 -- as many as were accepted, up to the end
-pub numbered-count : (n : ℕ) (ms : List Moment) → n + howMany isAccepted ms ≤ 4294967295 → numbered n ms ≡ n + howMany isAccepted ms
+pub numbered-count : (n : ℕ) (ms : List Moment) → n + how_many is_accepted ms ≤ 4294967295 → numbered n ms ≡ n + how_many is_accepted ms
 numbered-count n [] l = omega arith
 numbered-count n (m ∷ ms) l =
-    split (isAccepted m)
+    split (is_accepted m)
     (λ e. rw e
-    (let more : n + (1 + howMany isAccepted ms) ≤ 4294967295 = rw e at l in
+    (let more : n + (1 + how_many is_accepted ms) ≤ 4294967295 = rw e at l in
     ap (λ (k : ℕ). numbered k ms) (risen-below n (omega (arith, more))) ∙ numbered-count (n + 1) ms (omega (arith, more)) ∙ omega arith))
-    (λ e. rw e (let more : n + (0 + howMany isAccepted ms) ≤ 4294967295 = rw e at l in numbered-count n ms (omega (arith, more)) ∙ omega arith))
+    (λ e. rw e (let more : n + (0 + how_many is_accepted ms) ≤ 4294967295 = rw e at l in numbered-count n ms (omega (arith, more)) ∙ omega arith))
 
 -- "at 4294967295 it stays there"
 numbered-end : (ms : List Moment) → numbered 4294967295 ms ≡ 4294967295
 numbered-end [] = refl
-numbered-end (m ∷ ms) = split (isAccepted m) (λ e. rw e (numbered-end ms)) (λ e. rw e (numbered-end ms))
+numbered-end (m ∷ ms) = split (is_accepted m) (λ e. rw e (numbered-end ms)) (λ e. rw e (numbered-end ms))
 
-pub numbered-stays : (n : ℕ) (ms : List Moment) → n ≤ 4294967295 → 4294967295 ≤ n + howMany isAccepted ms → numbered n ms ≡ 4294967295
+pub numbered-stays : (n : ℕ) (ms : List Moment) → n ≤ 4294967295 → 4294967295 ≤ n + how_many is_accepted ms → numbered n ms ≡ 4294967295
 numbered-stays n [] l h = omega arith
 numbered-stays n (m ∷ ms) l h =
     same_or n 4294967295 (λ z. ap (λ (k : ℕ). numbered k (m ∷ ms)) z ∙ numbered-end (m ∷ ms))
-    (λ d. split (isAccepted m)
+    (λ d. split (is_accepted m)
     (λ e. rw e
-    (let more : 4294967295 ≤ n + (1 + howMany isAccepted ms) = rw e at h in
+    (let more : 4294967295 ≤ n + (1 + how_many is_accepted ms) = rw e at h in
     ap (λ (k : ℕ). numbered k ms) (risen-below n (omega arith)) ∙ numbered-stays (n + 1) ms (omega arith) (omega (arith, more))))
-    (λ e. rw e (let more : 4294967295 ≤ n + (0 + howMany isAccepted ms) = rw e at h in numbered-stays n ms l (omega (arith, more)))))
+    (λ e. rw e (let more : 4294967295 ≤ n + (0 + how_many is_accepted ms) = rw e at h in numbered-stays n ms l (omega (arith, more)))))
 
 -- who is in no woken mask keeps what its record said
-pub unwoken-same : {i n : ℕ} {last y : Why} {ms : List Moment} → LastWaking i last n y ms → any_of (λ m. inMask i m.result.woken) ms ≡ false
+pub unwoken-same : {i n : ℕ} {last y : Why} {ms : List Moment} → LastWaking i last n y ms → any_of (λ m. in_mask i m.result.woken) ms ≡ false
     → last ≡ y
 unwoken-same (LastWaking.ends e) z = e
 unwoken-same {i} (LastWaking.passes {m = m} {ms = ms} w l) z =
-    unwoken-same l (neither-means (inMask i m.result.woken) (any_of (λ m. inMask i m.result.woken) ms) z).1
+    unwoken-same l (neither-means (in_mask i m.result.woken) (any_of (λ m. in_mask i m.result.woken) ms) z).1
 unwoken-same {i} (LastWaking.wakes {m = m} {ms = ms} x c w e b l) z =
-    contrary w (neither-means (inMask i m.result.woken) (any_of (λ m. inMask i m.result.woken) ms) z).0
+    contrary w (neither-means (in_mask i m.result.woken) (any_of (λ m. in_mask i m.result.woken) ms) z).0
 
 -- fresh records say that nobody was woken yet
-pub fresh-why : (z : Sizes) (t : Tables) → FreshTables z t → (i : ℕ) → whyOf (rowOf t i) ≡ notYet
-fresh-why z t f i = ap whyOf (ap (λ (l : List Thread). get_or l i noThread) f.threads ∙ all-blank 16 noThread i)
+pub fresh-why : (z : Sizes) (t : Tables) → FreshTables z t → (i : ℕ) → why_of (row_of t i) ≡ not_yet
+fresh-why z t f i = ap why_of (ap (λ (l : List Thread). get_or l i no_thread) f.threads ∙ all-blank 16 no_thread i)

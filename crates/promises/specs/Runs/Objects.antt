@@ -7,7 +7,7 @@ use Rattle.kernel.proofs.Cases.{split, same_or, in-or-out, contrary, both-means}
 use Rattle.library.specs.declared.tables.Pool.{Pool}
 use Rattle.promises.specs.Paper.Together.{number, larger, listings, PoolFits}
 use Rattle.promises.specs.Paper.History.{Event, total, added, each}
-use Rattle.promises.specs.Paper.Ledger.{Standing, whenAdded, whenTaken, whenFreed, stood, standing, mark_of, isOut, wasAdded}
+use Rattle.promises.specs.Paper.Ledger.{Standing, when_added, when_taken, when_freed, stood, standing, mark_of, is_out, was_added}
 
 -- ---- sums over indexes
 
@@ -87,60 +87,60 @@ mistaken-stays q o (e ∷ es) =
     ap (λ (x : Standing). standing q o x es) one ∙ mistaken-stays q o es
 
 -- and what is in the pool stays there
-whenAdded-in : (x : Standing) → wasAdded (whenAdded x) ≡ true
-whenAdded-in Standing.absent = refl
-whenAdded-in Standing.free = refl
-whenAdded-in (Standing.out n i) = refl
-whenAdded-in Standing.mistaken = refl
+when_added-in : (x : Standing) → was_added (when_added x) ≡ true
+when_added-in Standing.absent = refl
+when_added-in Standing.free = refl
+when_added-in (Standing.out n i) = refl
+when_added-in Standing.mistaken = refl
 
-whenTaken-in : (e : Event) (x : Standing) → wasAdded (whenTaken e x) ≡ true
-whenTaken-in e Standing.absent = refl
-whenTaken-in e Standing.free = refl
-whenTaken-in e (Standing.out n i) = refl
-whenTaken-in e Standing.mistaken = refl
+when_taken-in : (e : Event) (x : Standing) → was_added (when_taken e x) ≡ true
+when_taken-in e Standing.absent = refl
+when_taken-in e Standing.free = refl
+when_taken-in e (Standing.out n i) = refl
+when_taken-in e Standing.mistaken = refl
 
-whenFreed-in : (x : Standing) → wasAdded (whenFreed x) ≡ true
-whenFreed-in Standing.absent = refl
-whenFreed-in Standing.free = refl
-whenFreed-in (Standing.out n i) = refl
-whenFreed-in Standing.mistaken = refl
+when_freed-in : (x : Standing) → was_added (when_freed x) ≡ true
+when_freed-in Standing.absent = refl
+when_freed-in Standing.free = refl
+when_freed-in (Standing.out n i) = refl
+when_freed-in Standing.mistaken = refl
 
-stood-in : (x : Standing) (e : Event) → wasAdded x ≡ true → wasAdded (stood x e) ≡ true
+stood-in : (x : Standing) (e : Event) → was_added x ≡ true → was_added (stood x e) ≡ true
 stood-in x e h =
-    split (eqb e.kind 20) (λ a. rw a (whenTaken-in e x))
-    (λ a. split (eqb e.kind 21) (λ b. rw (a, b) (whenFreed-in x))
-    (λ b. split (eqb e.kind 22) (λ c. rw (a, b, c) (whenAdded-in x)) (λ c. rw (a, b, c) h)))
+    split (eqb e.kind 20) (λ a. rw a (when_taken-in e x))
+    (λ a. split (eqb e.kind 21) (λ b. rw (a, b) (when_freed-in x))
+    (λ b. split (eqb e.kind 22) (λ c. rw (a, b, c) (when_added-in x)) (λ c. rw (a, b, c) h)))
 
-in-stays : (q o : ℕ) (x : Standing) (es : List Event) → wasAdded x ≡ true → wasAdded (standing q o x es) ≡ true
+in-stays : (q o : ℕ) (x : Standing) (es : List Event) → was_added x ≡ true → was_added (standing q o x es) ≡ true
 in-stays q o x [] h = h
 in-stays q o x (e ∷ es) h =
     let y = cond (eqb e.object q && eqb e.value o) (stood x e) x in
-    let on : wasAdded y ≡ true = split (eqb e.object q && eqb e.value o) (λ k. rw k (stood-in x e h)) (λ k. rw k h) in
+    let on : was_added y ≡ true = split (eqb e.object q && eqb e.value o) (λ k. rw k (stood-in x e h)) (λ k. rw k h) in
     in-stays q o y es on
 
 -- of an object that makes no mistake: an add brings it, an alloc and a free leave it in the pool
-added-brings : (x : Standing) → whenAdded x ≢ Standing.mistaken → wasAdded x ≡ false
+added-brings : (x : Standing) → when_added x ≢ Standing.mistaken → was_added x ≡ false
 added-brings Standing.absent h = refl
 added-brings Standing.free h = absurd (h refl)
 added-brings (Standing.out n i) h = absurd (h refl)
 added-brings Standing.mistaken h = absurd (h refl)
 
-taken-leaves : (e : Event) (x : Standing) → whenTaken e x ≢ Standing.mistaken → wasAdded x ≡ true
+taken-leaves : (e : Event) (x : Standing) → when_taken e x ≢ Standing.mistaken → was_added x ≡ true
 taken-leaves e Standing.absent h = absurd (h refl)
 taken-leaves e Standing.free h = refl
 taken-leaves e (Standing.out n i) h = refl
 taken-leaves e Standing.mistaken h = refl
 
-freed-leaves : (x : Standing) → whenFreed x ≢ Standing.mistaken → wasAdded x ≡ true
+freed-leaves : (x : Standing) → when_freed x ≢ Standing.mistaken → was_added x ≡ true
 freed-leaves Standing.absent h = absurd (h refl)
 freed-leaves Standing.free h = refl
 freed-leaves (Standing.out n i) h = refl
 freed-leaves Standing.mistaken h = refl
 
-stood-leaves : (x : Standing) (e : Event) → stood x e ≢ Standing.mistaken → eqb e.kind 22 ≡ false → wasAdded (stood x e) ≡ wasAdded x
+stood-leaves : (x : Standing) (e : Event) → stood x e ≢ Standing.mistaken → eqb e.kind 22 ≡ false → was_added (stood x e) ≡ was_added x
 stood-leaves x e h n =
-    split (eqb e.kind 20) (λ a. rw a (whenTaken-in e x ∙ sym (taken-leaves e x (rw a at h))))
-    (λ a. split (eqb e.kind 21) (λ b. rw (a, b) (whenFreed-in x ∙ sym (freed-leaves x (rw (a, b) at h)))) (λ b. rw (a, b, n)))
+    split (eqb e.kind 20) (λ a. rw a (when_taken-in e x ∙ sym (taken-leaves e x (rw a at h))))
+    (λ a. split (eqb e.kind 21) (λ b. rw (a, b) (when_freed-in x ∙ sym (freed-leaves x (rw (a, b) at h)))) (λ b. rw (a, b, n)))
 
 -- of so many objects
 module _ (n q : ℕ) where
@@ -150,31 +150,31 @@ module _ (n q : ℕ) where
   -- all that was ever added: what was there before, and the adds since
   pub added-sum : (es : List Event) (st : ℕ → Standing) → ((o : ℕ) → standing q o (st o) es ≢ Standing.mistaken)
       → ((o : ℕ) → n ≤ o → standing q o (st o) es ≡ Standing.absent)
-      → number (λ o. wasAdded (st o)) n + total (each (added q)) es ≡ number (λ o. wasAdded (standing q o (st o) es)) n
+      → number (λ o. was_added (st o)) n + total (each (added q)) es ≡ number (λ o. was_added (standing q o (st o) es)) n
   added-sum [] st right past = omega arith
   added-sum (e ∷ es) st right past =
       let rest = added-sum es (after e st) right past in
       let v = e.value in
-      let one : (o : ℕ) → o < n → cond (wasAdded (st o)) 1 0 + cond (eqb v o && added q e) 1 0 ≡ cond (wasAdded (after e st o)) 1 0 =
+      let one : (o : ℕ) → o < n → cond (was_added (st o)) 1 0 + cond (eqb v o && added q e) 1 0 ≡ cond (was_added (after e st o)) 1 0 =
       λ o l. brings o (right o) in
       let few : cond (added q e) 1 0 ≡ sum (λ o. cond (eqb v o && added q e) 1 0) n = within in
-      let a = number-sum (λ o. wasAdded (st o)) n in
-      let b = number-sum (λ o. wasAdded (after e st o)) n in
-      let c = sum_both (λ o. cond (wasAdded (st o)) 1 0) (λ o. cond (eqb v o && added q e) 1 0) n in
-      let d = sum_same (λ o. cond (wasAdded (st o)) 1 0 + cond (eqb v o && added q e) 1 0) (λ o. cond (wasAdded (after e st o)) 1 0) n one in
+      let a = number-sum (λ o. was_added (st o)) n in
+      let b = number-sum (λ o. was_added (after e st o)) n in
+      let c = sum_both (λ o. cond (was_added (st o)) 1 0) (λ o. cond (eqb v o && added q e) 1 0) n in
+      let d = sum_same (λ o. cond (was_added (st o)) 1 0 + cond (eqb v o && added q e) 1 0) (λ o. cond (was_added (after e st o)) 1 0) n one in
       omega (arith, rest, few, a, b, c, d)
     where
       unmistaken : (o : ℕ) → standing q o (after e st o) es ≢ Standing.mistaken → after e st o ≢ Standing.mistaken
       unmistaken o h z = h (ap (λ (x : Standing). standing q o x es) z ∙ mistaken-stays q o es)
 
       brings : (o : ℕ) → standing q o (after e st o) es ≢ Standing.mistaken
-          → ◌≡◌ {A = ℕ} (cond (wasAdded (st o)) 1 0 + cond (eqb e.value o && added q e) 1 0) (cond (wasAdded (after e st o)) 1 0)
+          → ◌≡◌ {A = ℕ} (cond (was_added (st o)) 1 0 + cond (eqb e.value o && added q e) 1 0) (cond (was_added (after e st o)) 1 0)
       brings o h =
           let k = unmistaken o h in
           split (eqb e.object q)
           (λ p. split (eqb e.value o)
           (λ w. split (eqb e.kind 22)
-          (λ a. rw (p, w, a, eqb-true e.kind 22 a, added-brings (st o) (rw (p, w, eqb-true e.kind 22 a) at k), whenAdded-in (st o)))
+          (λ a. rw (p, w, a, eqb-true e.kind 22 a, added-brings (st o) (rw (p, w, eqb-true e.kind 22 a) at k), when_added-in (st o)))
           (λ a. rw (p, w, stood-leaves (st o) e (rw (p, w) at k) a, a) (omega arith)))
           (λ w. rw (p, w) (omega arith)))
           (λ p. rw (p, and-false (eqb e.kind 22), and-false (eqb e.value o)) (omega arith))
@@ -192,26 +192,26 @@ module _ (n q : ℕ) where
           far h l =
               let v = e.value in
               let both = both-means (eqb e.kind 22) (eqb e.object q) h in
-              let in-now : wasAdded (after e st v) ≡ true = rw (both.1, eq-eqb v v refl, eqb-true e.kind 22 both.0) (whenAdded-in (st v)) in
-              contrary (in-stays q v (after e st v) es in-now) (ap wasAdded (past v l))
+              let in-now : was_added (after e st v) ≡ true = rw (both.1, eq-eqb v v refl, eqb-true e.kind 22 both.0) (when_added-in (st v)) in
+              contrary (in-stays q v (after e st v) es in-now) (ap was_added (past v l))
 
 -- those in the pool are free or out
 pub free-or-out : (n : ℕ) (f : ℕ → Standing) (m : ℕ → ℕ) → ((o : ℕ) → o < n → f o ≢ Standing.mistaken) → ((o : ℕ) → o < n → mark_of (f o) ≡ m o)
-    → number (λ o. wasAdded (f o)) n ≡ number (λ o. eqb (m o) 1) n + number (λ o. isOut (f o)) n
+    → number (λ o. was_added (f o)) n ≡ number (λ o. eqb (m o) 1) n + number (λ o. is_out (f o)) n
 free-or-out n f m right marks =
-    let a = number-sum (λ o. wasAdded (f o)) n in
+    let a = number-sum (λ o. was_added (f o)) n in
     let b = number-sum (λ o. eqb (m o) 1) n in
-    let c = number-sum (λ o. isOut (f o)) n in
-    let d = sum_both (λ o. cond (eqb (m o) 1) 1 0) (λ o. cond (isOut (f o)) 1 0) n in
-    let k = sum_same (λ o. cond (wasAdded (f o)) 1 0) (λ o. cond (eqb (m o) 1) 1 0 + cond (isOut (f o)) 1 0) n one in
+    let c = number-sum (λ o. is_out (f o)) n in
+    let d = sum_both (λ o. cond (eqb (m o) 1) 1 0) (λ o. cond (is_out (f o)) 1 0) n in
+    let k = sum_same (λ o. cond (was_added (f o)) 1 0) (λ o. cond (eqb (m o) 1) 1 0 + cond (is_out (f o)) 1 0) n one in
     omega (arith, a, b, c, d, k)
   where
     by : (x : Standing) (k : ℕ) → x ≢ Standing.mistaken → mark_of x ≡ k
-        → ◌≡◌ {A = ℕ} (cond (wasAdded x) 1 0) (cond (eqb k 1) 1 0 + cond (isOut x) 1 0)
+        → ◌≡◌ {A = ℕ} (cond (was_added x) 1 0) (cond (eqb k 1) 1 0 + cond (is_out x) 1 0)
     by Standing.absent k h z = rw (← z)
     by Standing.free k h z = rw (← z)
     by (Standing.out a i) k h z = rw (← z)
     by Standing.mistaken k h z = absurd (h refl)
 
-    one : (o : ℕ) → o < n → ◌≡◌ {A = ℕ} (cond (wasAdded (f o)) 1 0) (cond (eqb (m o) 1) 1 0 + cond (isOut (f o)) 1 0)
+    one : (o : ℕ) → o < n → ◌≡◌ {A = ℕ} (cond (was_added (f o)) 1 0) (cond (eqb (m o) 1) 1 0 + cond (is_out (f o)) 1 0)
     one o l = by (f o) (m o) (right o l) (marks o l)

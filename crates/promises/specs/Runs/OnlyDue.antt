@@ -9,7 +9,7 @@ use Rattle.kernel.proofs.Cases.{same_or, contrary}
 use Rattle.library.specs.declared.calls.Step.{Step}
 use Rattle.library.specs.declared.tables.Tables.{Tables}
 use Rattle.steps.specs.Stepping.{stepped}
-use Rattle.promises.specs.Paper.World.{World, found, madeReady, signed, kept, Highest}
+use Rattle.promises.specs.Paper.World.{World, found, made_ready, signed, kept, Highest}
 use Rattle.promises.specs.Paper.Host.{Host}
 use Rattle.promises.specs.Paper.Rows.{
   TickOf,
@@ -29,7 +29,7 @@ use Rattle.promises.specs.Paper.Rows.{
   Alloc,
   Act,
 }
-use Rattle.promises.specs.Paper.Waking.{rowOf, IsPost, ReleasesAll, ReleasesFirst, Due}
+use Rattle.promises.specs.Paper.Waking.{row_of, IsPost, ReleasesAll, ReleasesFirst, Due}
 use Rattle.promises.specs.Runs.Keeping.{put_same, put_other}
 use Rattle.promises.specs.Runs.Accepted.{held, x₀, someone}
 
@@ -74,7 +74,7 @@ module _ (i : ℕ) (w : World) (p : ℕ) (m : ℤ) (c : ℕ) where
       by {v} (ReleaseOf.waits a b e) rest =
           same_or i n
           (λ z.
-          let is : (x.thread i).state ≡ 0 = ap (λ (y : World). (y.thread i).state) e ∙ subst (λ (k : ℕ). ((madeReady v k m c).thread i).state ≡ 0) z (ap (λ (u : Thread). u.state) (put_same v.thread i _)) in
+          let is : (x.thread i).state ≡ 0 = ap (λ (y : World). (y.thread i).state) e ∙ subst (λ (k : ℕ). ((made_ready v k m c).thread i).state ≡ 0) z (ap (λ (u : Thread). u.state) (put_same v.thread i _)) in
           absurd (omega (arith, is, h)))
           (λ z. let same = ap (λ (y : World). y.thread i) e ∙ put_other v.thread n i _ z in same ∙ rest (ap (λ (u : Thread). u.state) (sym same) ∙ h))
 
@@ -86,7 +86,7 @@ module _ (t : Tables) (c : Clock) (s : Step) (host : Host t c s) (e : (stepped t
   x = x₀ t c s host e
 
   -- a tick has its turn for each: before it, nothing has happened to i
-  ticks-woken : (n : ℕ) (v : World) → Ticks w₀ n v → (n ≤ i → v.thread i ≡ w₀.thread i) × (v.woken i ≡ true → (rowOf t i).remaining ≡ 1)
+  ticks-woken : (n : ℕ) (v : World) → Ticks w₀ n v → (n ≤ i → v.thread i ≡ w₀.thread i) × (v.woken i ≡ true → (row_of t i).remaining ≡ 1)
   ticks-woken zero v z = (λ l. ap (λ (y : World). y.thread i) z, λ h. contrary (subst (λ (y : World). y.woken i ≡ true) z h) refl)
   ticks-woken (suc n) v h =
       let rest = ticks-woken n h.0 h.1 in (
@@ -99,8 +99,8 @@ module _ (t : Tables) (c : Clock) (s : Step) (host : Host t c s) (e : (stepped t
       same {y} (TickOf.falls a z) d = ap (λ (y : World). y.thread i) z ∙ put_other y.thread n i _ d
       same {y} (TickOf.last a z) d = ap (λ (y : World). y.thread i) z ∙ put_other y.thread n i _ d
 
-      woken : {y : World} → TickOf y n v → (y.woken i ≡ true → (rowOf t i).remaining ≡ 1) → (i ≡ n → y.thread i ≡ w₀.thread i) → v.woken i ≡ true
-          → (rowOf t i).remaining ≡ 1
+      woken : {y : World} → TickOf y n v → (y.woken i ≡ true → (row_of t i).remaining ≡ 1) → (i ≡ n → y.thread i ≡ w₀.thread i) → v.woken i ≡ true
+          → (row_of t i).remaining ≡ 1
       woken (TickOf.no-ticks a z) rest l k = rest (subst (λ (y : World). y.woken i ≡ true) z k)
       woken (TickOf.falls a z) rest l k = rest (subst (λ (y : World). y.woken i ≡ true) z k)
       woken {y} (TickOf.last a z) rest l k =
@@ -122,7 +122,7 @@ module _ (t : Tables) (c : Clock) (s : Step) (host : Host t c s) (e : (stepped t
     waits-none (Waits.later a z) = none z refl
 
     -- it is the one
-    the_one : {v : World} (j : ℕ) (m : ℤ) (o p : ℕ) → Highest w₀ p j → v ≡ madeReady w₀ j m o → v.woken i ≡ true → Highest w₀ p i
+    the_one : {v : World} (j : ℕ) (m : ℤ) (o p : ℕ) → Highest w₀ p j → v ≡ made_ready w₀ j m o → v.woken i ≡ true → Highest w₀ p i
     the_one j m o p h z k =
         same_or i j (λ d. subst (Highest w₀ p) (sym d) h)
         (λ d. contrary (subst (λ (y : World). y.woken i ≡ true) z k) (put_other w₀.woken j i true d))

@@ -10,11 +10,11 @@ use Rattle.kernel.proofs.Cases.{same_or}
 use Rattle.library.specs.declared.calls.Step.{Step}
 use Rattle.library.specs.declared.tables.Tables.{Tables}
 use Rattle.steps.specs.Stepping.{stepped}
-use Rattle.promises.specs.Paper.World.{World, found, ended, asleep, fallAsleep, kept}
+use Rattle.promises.specs.Paper.World.{World, found, ended, asleep, fall_asleep, kept}
 use Rattle.promises.specs.Paper.Host.{Host}
 use Rattle.promises.specs.Paper.Rows.{Waits, SemaphoreWait, EventWait, Post, Fetch, Alloc, Act}
-use Rattle.promises.specs.Paper.Waking.{rowOf, span_of, FellAsleep, ReadyAfter, WakerAfter}
-use Rattle.promises.specs.Paper.Run.{begunWith}
+use Rattle.promises.specs.Paper.Waking.{row_of, span_of, FellAsleep, ReadyAfter, WakerAfter}
+use Rattle.promises.specs.Paper.Run.{begun_with}
 use Rattle.promises.specs.Paper.Together.{WaitFits}
 use Rattle.promises.specs.Runs.Keeping.{put_same, KeepsOn}
 use Rattle.promises.specs.Runs.OneRow.{ended-own, Stands, Steady, row_on, mail-other}
@@ -39,7 +39,7 @@ module _ (t : Tables) (now : SystemTime) (s : Step) (i : ℕ) (someone : i ≢ 2
   owned-end w m d n = absurd (n (ap (λ (b : Thread). b.call.kind) (ended-own w i m d someone)))
 
   -- it sleeps in a call of the step's kind and timeout
-  owned-sleep : (w : World) (st pl : ℕ) (c : Call) → c.kind ≡ s.kind → c.timeout ≡ span_of now s → Owned (fallAsleep w i st pl c)
+  owned-sleep : (w : World) (st pl : ℕ) (c : Call) → c.kind ≡ s.kind → c.timeout ≡ span_of now s → Owned (fall_asleep w i st pl c)
   owned-sleep w st pl c k d n =
       let e = put_same w.thread i (asleep (w.thread i) st pl c) in
       rw e (record { kind = k; timeout = d; ticks = λ x. rw d })
@@ -65,8 +65,8 @@ module _ (t : Tables) (now : SystemTime) (s : Step) (i : ℕ) (someone : i ≢ 2
 
     -- a call with the step's kind and timeout
     module _ (c : Call) (k : c.kind ≡ s.kind) (d : c.timeout ≡ span_of now s) where
-      sleeps : {x : World} (w : World) (st pl : ℕ) → x ≡ fallAsleep w s.caller st pl c → Owned x
-      sleeps w st pl e = to e (subst (λ (j : ℕ). Owned (fallAsleep w j st pl c)) (sym caller) (owned-sleep w st pl c k d))
+      sleeps : {x : World} (w : World) (st pl : ℕ) → x ≡ fall_asleep w s.caller st pl c → Owned x
+      sleeps w st pl e = to e (subst (λ (j : ℕ). Owned (fall_asleep w j st pl c)) (sym caller) (owned-sleep w st pl c k d))
 
       waits : {w x : World} {st pl : ℕ} → Waits w s.caller st pl c x → Owned x
       waits {w} (Waits.now a e) = done w _ 0 e
@@ -125,8 +125,8 @@ module _ (t : Tables) (now : SystemTime) (s : Step) (i : ℕ) (someone : i ≢ 2
 
 -- WHO FALLS ASLEEP IN A STEP OF ITS OWN
 module _ (t : Tables) (c : Clock) (s : Step) (host : Host t c s) (e : (stepped t c s).outcome.code ≡ 0) where
-  pub fell-asleep : s.caller < t.sizes.threads → (rowOf (stepped t c s).tables s.caller).call.kind ≢ 0
-      → (rowOf (stepped t c s).tables s.caller).state ≢ 0 → FellAsleep c.time s (rowOf (stepped t c s).tables s.caller)
+  pub fell-asleep : s.caller < t.sizes.threads → (row_of (stepped t c s).tables s.caller).call.kind ≢ 0
+      → (row_of (stepped t c s).tables s.caller).state ≢ 0 → FellAsleep c.time s (row_of (stepped t c s).tables s.caller)
   fell-asleep l k n =
       let someone : s.caller ≢ 255 = λ z. absurd (omega (arith, z, l, few t c s host e)) in
       let i = s.caller in
@@ -149,26 +149,26 @@ module _ (t : Tables) (c : Clock) (s : Step) (host : Host t c s) (e : (stepped t
   calls (WaitFits.events x b p) n z = omega (arith, x, z)
 
   -- THE TIMEOUT OF A SLEEP THAT BEGINS IN THE STEP, of its own call or of a mailbox call that was tried again
-  pub begun-timeout : (i : ℕ) → i < t.sizes.threads → (rowOf t i).state ≡ 0 → (rowOf (stepped t c s).tables i).state ≢ 0
-      → WaitFits (rowOf (stepped t c s).tables i) → (rowOf (stepped t c s).tables i).call.timeout ≡ begunWith t c s i
+  pub begun-timeout : (i : ℕ) → i < t.sizes.threads → (row_of t i).state ≡ 0 → (row_of (stepped t c s).tables i).state ≢ 0
+      → WaitFits (row_of (stepped t c s).tables i) → (row_of (stepped t c s).tables i).call.timeout ≡ begun_with t c s i
   begun-timeout i l z n fit =
       let u = (stepped t c s).tables in
       same_or s.caller i
       (λ x. rw (eq-eqb s.caller i x)
-      (subst (λ (j : ℕ). (rowOf u j).call.timeout ≡ span_of c.time s) x
-      (fell-asleep (subst (λ (j : ℕ). j < t.sizes.threads) (sym x) l) (subst (λ (j : ℕ). (rowOf u j).call.kind ≢ 0) (sym x) (calls fit n))
-      (subst (λ (j : ℕ). (rowOf u j).state ≢ 0) (sym x) n)).timeout))
+      (subst (λ (j : ℕ). (row_of u j).call.timeout ≡ span_of c.time s) x
+      (fell-asleep (subst (λ (j : ℕ). j < t.sizes.threads) (sym x) l) (subst (λ (j : ℕ). (row_of u j).call.kind ≢ 0) (sym x) (calls fit n))
+      (subst (λ (j : ℕ). (row_of u j).state ≢ 0) (sym x) n)).timeout))
       (λ x. rw (ne_eqb s.caller i x) (waked (waker-after t c s host e i l z) x))
     where
-      again : {b : Thread} {w f : Bool} → ReadyAfter t s i b w f → b.state ≢ 0 → b.call.timeout ≡ (rowOf t i).call.timeout
+      again : {b : Thread} {w f : Bool} → ReadyAfter t s i b w f → b.state ≢ 0 → b.call.timeout ≡ (row_of t i).call.timeout
       again (ReadyAfter.on x p q) k = ap (λ (u : Thread). u.call.timeout) x
       again (ReadyAfter.done y d f a x p q) k = absurd (k (ap (λ (u : Thread). u.state) x))
       again (ReadyAfter.again pl side m x p q) k = ap (λ (u : Thread). u.call.timeout) x
       again (ReadyAfter.ready-again pl o side m by x p q) k = absurd (k (ap (λ (u : Thread). u.state) x))
       again (ReadyAfter.done-again pl o y d side m by a x p q) k = absurd (k (ap (λ (u : Thread). u.state) x))
 
-      waked : {w : Bool} → WakerAfter t s i (rowOf (stepped t c s).tables i) w → s.caller ≢ i
-          → (rowOf (stepped t c s).tables i).call.timeout ≡ (rowOf t i).call.timeout
+      waked : {w : Bool} → WakerAfter t s i (row_of (stepped t c s).tables i) w → s.caller ≢ i
+          → (row_of (stepped t c s).tables i).call.timeout ≡ (row_of t i).call.timeout
       waked (WakerAfter.unwoken a p) x = absurd (n a)
       waked (WakerAfter.own-sleep o st pl w a) x = absurd (x o)
       waked (WakerAfter.tried-again b m a) x = again (woken-after t c s host e i l z (λ k. (mail-other b).1 k)) n

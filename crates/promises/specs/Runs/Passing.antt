@@ -7,22 +7,22 @@ use Rattle.kernel.proofs.Cases.{same_or}
 use Rattle.library.specs.declared.calls.Step.{Step}
 use Rattle.library.specs.declared.tables.Tables.{Tables}
 use Rattle.promises.specs.Paper.World.{World, found}
-use Rattle.promises.specs.Paper.Rows.{TickOf, Ticks, pendingTo, flagged, EventSignal}
-use Rattle.promises.specs.Paper.Waking.{rowOf, heard, readyOn}
+use Rattle.promises.specs.Paper.Rows.{TickOf, Ticks, pending_to, flagged, EventSignal}
+use Rattle.promises.specs.Paper.Waking.{row_of, heard, ready_on}
 use Rattle.promises.specs.Runs.Keeping.{put_same, put_other}
 
-module _ (t : Tables) (s : Step) (i : ℕ) (was-ready : (rowOf t i).state ≡ 0) (no-ticks : (rowOf t i).remaining ≡ 0) where
+module _ (t : Tables) (s : Step) (i : ℕ) (was-ready : (row_of t i).state ≡ 0) (no-ticks : (row_of t i).remaining ≡ 0) where
   abbrev b : Thread
-  b = rowOf t i
+  b = row_of t i
 
   -- as it was
   pub record Passed (w : World) : Type 0 where
-    pub row : w.thread i ≡ readyOn s i b
+    pub row : w.thread i ≡ ready_on s i b
     pub woken : w.woken i ≡ false
     pub finished : w.finished i ≡ false
 
   -- no flags have come for it
-  unheard : heard s i b ≡ b.pending → b ≡ readyOn s i b
+  unheard : heard s i b ≡ b.pending → b ≡ ready_on s i b
   unheard e =
       λ x. record {
         state = b.state;
@@ -63,7 +63,7 @@ module _ (t : Tables) (s : Step) (i : ℕ) (was-ready : (rowOf t i).state ≡ 0)
     events-own x o (EventSignal.only-flagged g e) =
         let come : bit_or b.pending s.a ≡ heard s i b = rw (kind, o, eq-eqb i i refl) in
         subst Passed (sym e)
-        (record { row = put_same (found t).thread i _ ∙ ap (pendingTo b) come; woken = refl; finished = refl })
+        (record { row = put_same (found t).thread i _ ∙ ap (pending_to b) come; woken = refl; finished = refl })
 
     events-other : (x : World) (j : ℕ) → i ≢ j → heard s i b ≡ b.pending → EventSignal (found t) j s.a x → Passed x
     events-other x j n g (EventSignal.comes y h e) =

@@ -12,14 +12,14 @@ use Rattle.steps.specs.Stepping.{stepped}
 use Rattle.promises.specs.Paper.World.{found, First}
 use Rattle.promises.specs.Paper.Host.{Host}
 use Rattle.promises.specs.Paper.Together.{CallFits}
-use Rattle.promises.specs.Paper.Waking.{rowOf, IsMailing, Tried, Served, CalledOut, WokenBy, OwnWait}
-use Rattle.promises.specs.Paper.Causes.{FallsAt, causeFell, resetsAt, queueCause, causeFor, messageBy}
+use Rattle.promises.specs.Paper.Waking.{row_of, IsMailing, Tried, Served, CalledOut, WokenBy, OwnWait}
+use Rattle.promises.specs.Paper.Causes.{FallsAt, cause_fell, resets_at, queue_cause, cause_for, message_by}
 use Rattle.promises.specs.Runs.Accepted.{together, caller-first, semaphore-there, queue-there, mailbox-there, pool-there, someone, fits}
 use Rattle.promises.specs.Runs.OneRow.{mail-other, not-mail}
 
 -- the cause by state and place
-abbrev calledCause : Step → ℕ → ℕ → ℕ
-calledCause s state p = cond (eqb state 4) 4 (cond (eqb state 2) 3 (queueCause s p))
+abbrev called_cause : Step → ℕ → ℕ → ℕ
+called_cause s state p = cond (eqb state 4) 4 (cond (eqb state 2) 3 (queue_cause s p))
 
 -- a mailbox call that a record keeps is of a mailbox that is there
 mail-there : {z : Sizes} {c : Call} → CallFits z c → IsMailing c.kind → c.object < z.mailboxes
@@ -40,7 +40,7 @@ mail-kinds (inl (inr e)) = (omega arith, omega arith)
 mail-kinds (inr e) = (omega arith, omega arith)
 
 -- a place that is at neither side of the mailbox that the step resets
-not-reset : (s : Step) (p : ℕ) → (s.kind ≡ 18 → p ≢ 28 + s.object) → (s.kind ≡ 18 → p ≢ 32 + s.object) → resetsAt s p ≡ false
+not-reset : (s : Step) (p : ℕ) → (s.kind ≡ 18 → p ≢ 28 + s.object) → (s.kind ≡ 18 → p ≢ 32 + s.object) → resets_at s p ≡ false
 not-reset s p a b =
     same_or s.kind 18 (λ k. rw (k, ne_eqb p (28 + s.object) (a k), ne_eqb p (32 + s.object) (b k))) (λ d. rw (ne_eqb s.kind 18 d))
 
@@ -61,11 +61,11 @@ module _ (t : Tables) (c : Clock) (s : Step) (host : Host t c s) (e : (stepped t
   module _ {state p : ℕ} where
     -- a mailbox's side
     at_side : state ≡ 3 → 28 ≤ p → (s.kind ≡ 18 → p ≢ 28 + s.object) → (s.kind ≡ 18 → p ≢ 32 + s.object) → (n : ℕ)
-        → n ≡ cond (ltb p 32) 6 5 → n ≡ calledCause s state p
+        → n ≡ cond (ltb p 32) 6 5 → n ≡ called_cause s state p
     at_side q l a b n h =
         h ∙ rw (q, le-ltb p 16 (omega (arith, l)), le-ltb p 20 (omega (arith, l)), le-ltb p 28 l, not-reset s p a b)
 
-    served-at : {m : ℤ} {o : ℕ} → Served t s state p m o → o ≡ calledCause s state p
+    served-at : {m : ℤ} {o : ℕ} → Served t s state p m o → o ≡ called_cause s state p
     served-at (Served.post b z k q x) =
         at_side q (omega (arith, x)) (λ y w. omega (arith, x, w, reset-there y)) (λ y w. z y (omega (arith, x, w))) 5
         (rw (le-ltb p 32 (omega (arith, x))))
@@ -73,13 +73,13 @@ module _ (t : Tables) (c : Clock) (s : Step) (host : Host t c s) (e : (stepped t
         let l : b < 4 = tried-there (inr refl) k in
         at_side q (omega (arith, x)) (λ y w. z y (omega (arith, x, w))) (λ y w. omega (arith, x, w, l)) 6 (rw (lt-ltb p 32 (omega (arith, x, l))))
 
-    queued : state ≡ 3 → p ≡ 20 + s.object → s.object < t.sizes.queues → 2 ≡ calledCause s state p
+    queued : state ≡ 3 → p ≡ 20 + s.object → s.object < t.sizes.queues → 2 ≡ called_cause s state p
     queued q x l = rw (q, le-ltb p 16 (omega (arith, x)), le-ltb p 20 (omega (arith, x)), lt-ltb p 28 (omega (arith, x, l, few.1)))
 
-    pooled : state ≡ 3 → p ≡ 16 + s.object → s.object < t.sizes.pools → 1 ≡ calledCause s state p
+    pooled : state ≡ 3 → p ≡ 16 + s.object → s.object < t.sizes.pools → 1 ≡ called_cause s state p
     pooled q x l = rw (q, le-ltb p 16 (omega (arith, x)), lt-ltb p 20 (omega (arith, x, l, few.3)))
 
-    called_at : {m : ℤ} {o : ℕ} → CalledOut t s state p m o → o ≡ calledCause s state p
+    called_at : {m : ℤ} {o : ℕ} → CalledOut t s state p m o → o ≡ called_cause s state p
     called_at (CalledOut.signal (inl k) q x) = rw (q, k, at-semaphore p (omega (arith, k)) (omega (arith, k)) x)
     called_at (CalledOut.signal (inr k) q x) = rw (q, k, at-semaphore p (omega (arith, k)) (omega (arith, k)) x)
     called_at (CalledOut.reset k q x) = rw (q, k, at-semaphore p (omega (arith, k)) (omega (arith, k)) x)
@@ -103,14 +103,14 @@ module _ (t : Tables) (c : Clock) (s : Step) (host : Host t c s) (e : (stepped t
     called_at (CalledOut.object (inr k) q x) = pooled q x (pool-there t c s host e (omega (arith, k)) (omega (arith, k)))
 
   -- WHY A SLEEPER WAKES
-  pub cause-for : {i : ℕ} {a : Thread} {m : ℤ} {o : ℕ} → WokenBy t s i a m o → o ≡ causeFor s a
+  pub cause-for : {i : ℕ} {a : Thread} {m : ℤ} {o : ℕ} → WokenBy t s i a m o → o ≡ cause_for s a
   cause-for (WokenBy.last-tick k r) = rw (k, r)
   cause-for (WokenBy.events k o q f) = rw (k, q)
   cause-for {a = a} (WokenBy.call u b) =
       called_at b
       ∙ same_or s.kind 1 (λ k. rw (k, ne_eqb a.remaining 1 (λ r. u (k, r)))) (λ d. rw (ne_eqb s.kind 1 d))
 
-  pub message-by : {i : ℕ} {a : Thread} {m : ℤ} {o : ℕ} → WokenBy t s i a m o → m ≡ messageBy s o
+  pub message-by : {i : ℕ} {a : Thread} {m : ℤ} {o : ℕ} → WokenBy t s i a m o → m ≡ message_by s o
   message-by (WokenBy.last-tick k r) = refl
   message-by (WokenBy.events k o q f) = refl
   message-by (WokenBy.call u (CalledOut.signal k q x)) = refl
@@ -139,9 +139,9 @@ module _ (t : Tables) (c : Clock) (s : Step) (host : Host t c s) (e : (stepped t
   -- WHY ONE WAKES THAT FELL ASLEEP IN THE STEP
   module _ (i : ℕ) (within : i < t.sizes.threads) where
     abbrev a : Thread
-    a = rowOf t i
+    a = row_of t i
 
-    fell-own : s.caller ≡ i → {st pl : ℕ} {m : ℤ} {o : ℕ} → OwnWait s st pl → Served t s st pl m o → (o ≡ causeFell s i a) × (m ≡ pos 0)
+    fell-own : s.caller ≡ i → {st pl : ℕ} {m : ℤ} {o : ℕ} → OwnWait s st pl → Served t s st pl m o → (o ≡ cause_fell s i a) × (m ≡ pos 0)
     fell-own z (OwnWait.semaphore k d) b = absurd (omega (arith, (served-far b).1, few.0, semaphore-there t c s host e (omega (arith, k)) (omega (arith, k))))
     fell-own z (OwnWait.queue k d) b = absurd (omega (arith, (served-far b).1, few.1, queue-there t c s host e (omega (arith, k)) (omega (arith, k))))
     fell-own z (OwnWait.reference k d) b = absurd (omega (arith, (served-far b).0))
@@ -159,7 +159,7 @@ module _ (t : Tables) (c : Clock) (s : Step) (host : Host t c s) (e : (stepped t
     kept-call : IsMailing a.call.kind → eqb s.caller i ≡ false
     kept-call g = ne_eqb s.caller i (not-caller (mail-other g).1)
 
-    pub fell-cause : {st pl : ℕ} {m : ℤ} {o : ℕ} → FallsAt t s i st pl → Served t s st pl m o → (o ≡ causeFell s i a) × (m ≡ pos 0)
+    pub fell-cause : {st pl : ℕ} {m : ℤ} {o : ℕ} → FallsAt t s i st pl → Served t s st pl m o → (o ≡ cause_fell s i a) × (m ≡ pos 0)
     fell-cause (FallsAt.own z w) b = fell-own z w b
     fell-cause (FallsAt.writer (inl k)) b = rw (kept-call (inl (inl k)), k) (served-writer a.call.object (tried-there (inl (inl k)) (Tried.kept i within refl refl)) b)
     fell-cause (FallsAt.writer (inr k)) b = rw (kept-call (inl (inr k)), k) (served-writer a.call.object (tried-there (inl (inr k)) (Tried.kept i within refl refl)) b)

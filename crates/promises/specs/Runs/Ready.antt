@@ -6,12 +6,12 @@ use Rattle.kernel.specs.declared.records.Thread.{Thread}
 use Rattle.kernel.proofs.Cases.{contrary}
 use Rattle.library.specs.declared.calls.Step.{Step}
 use Rattle.library.specs.declared.tables.Tables.{Tables}
-use Rattle.promises.specs.Paper.World.{World, noCall, noAnswer, found, readyWith, callEnded, asleep}
-use Rattle.promises.specs.Paper.Rows.{pendingTo}
+use Rattle.promises.specs.Paper.World.{World, no_call, no_answer, found, ready_with, call_ended, asleep}
+use Rattle.promises.specs.Paper.Rows.{pending_to}
 use Rattle.promises.specs.Paper.Together.{AwaitedFit}
-use Rattle.promises.specs.Paper.Waking.{rowOf, IsMailing, Served, heard, AnswerOf, wokenRow, doneRow, SideOf, againRow, readyOn, ReadyAfter}
+use Rattle.promises.specs.Paper.Waking.{row_of, IsMailing, Served, heard, AnswerOf, woken_row, done_row, SideOf, again_row, ready_on, ReadyAfter}
 use Rattle.promises.specs.Runs.Keeping.{queued-asleep, Ends, KeepsOn, KeepsAct}
-use Rattle.promises.specs.Runs.OneRow.{flagsTaken, mail-other, Steady, row_on, row-act}
+use Rattle.promises.specs.Runs.OneRow.{flags_taken, mail-other, Steady, row_on, row-act}
 use Rattle.promises.specs.Runs.Passing.{Passed, found_passed, ticks-passed, events-passed}
 use Rattle.promises.specs.Runs.Sleepers.{no-event, ends-answer, not-side}
 
@@ -20,10 +20,10 @@ served-zero : {t : Tables} {s : Step} {st pl : ℕ} {m : ℤ} {c : ℕ} → Serv
 served-zero (Served.post b z a x y) = refl
 served-zero (Served.fetch b z a x y) = refl
 
-module _ (t : Tables) (s : Step) (i : ℕ) (someone : i ≢ 255) (apart : i ≢ s.caller) (was-ready : (rowOf t i).state ≡ 0)
-    (no-ticks : (rowOf t i).remaining ≡ 0) (no_place : (rowOf t i).place ≡ 0) (awaits : AwaitedFit (rowOf t i)) where
+module _ (t : Tables) (s : Step) (i : ℕ) (someone : i ≢ 255) (apart : i ≢ s.caller) (was-ready : (row_of t i).state ≡ 0)
+    (no-ticks : (row_of t i).remaining ≡ 0) (no_place : (row_of t i).place ≡ 0) (awaits : AwaitedFit (row_of t i)) where
   abbrev a : Thread
-  a = rowOf t i
+  a = row_of t i
 
   -- the number of the step
   abbrev num : ℕ
@@ -31,13 +31,13 @@ module _ (t : Tables) (s : Step) (i : ℕ) (someone : i ≢ 255) (apart : i ≢ 
 
   -- before settling: nothing has happened to it, but that flags have come
   abbrev pub Acted : Thread → Bool → Bool → Type 0
-  Acted r w f = (r ≡ readyOn s i a) × (w ≡ false) × (f ≡ false)
+  Acted r w f = (r ≡ ready_on s i a) × (w ≡ false) × (f ≡ false)
 
   passed : (w : World) → Passed t s i was-ready no-ticks w → Acted (w.thread i) (w.woken i) (w.finished i)
   passed w p = (p.row, p.woken, p.finished)
 
   -- its record, ended: it is ready, nowhere, and has no ticks
-  ended-row : (x : ℤ) (d g : ℕ) → callEnded (pendingTo a g) x d ≡ doneRow a.message a.cause a.step x d g
+  ended-row : (x : ℤ) (d g : ℕ) → call_ended (pending_to a g) x d ≡ done_row a.message a.cause a.step x d g
   ended-row x d g =
       λ y. record {
         state = was-ready y;
@@ -46,7 +46,7 @@ module _ (t : Tables) (s : Step) (i : ℕ) (someone : i ≢ 255) (apart : i ≢ 
         pending = g;
         awaited = 0;
         message = a.message;
-        call = noCall;
+        call = no_call;
         answer = record { message = x; datum = d };
         cause = a.cause;
         step = a.step;
@@ -60,7 +60,7 @@ module _ (t : Tables) (s : Step) (i : ℕ) (someone : i ≢ 255) (apart : i ≢ 
       by (AwaitedFit.none d h) = rw (ne_eqb a.call.kind 14 d) (sym h)
 
   -- its record, asleep again: its waking was with 0
-  again-row : (q : ℕ) → a.message ≡ pos 0 → asleep (readyOn s i a) 3 q a.call ≡ againRow s i a q
+  again-row : (q : ℕ) → a.message ≡ pos 0 → asleep (ready_on s i a) 3 q a.call ≡ again_row s i a q
   again-row q e =
       λ y. record {
         state = 3;
@@ -70,13 +70,13 @@ module _ (t : Tables) (s : Step) (i : ℕ) (someone : i ≢ 255) (apart : i ≢ 
         awaited = awaited-is y;
         message = e y;
         call = a.call;
-        answer = noAnswer;
+        answer = no_answer;
         cause = a.cause;
         step = a.step;
       }
 
   -- one that sleeps is not ready
-  not-asleep : {r : Thread} {p : ℕ} → r ≡ againRow s i a p → r.state ≢ 0
+  not-asleep : {r : Thread} {p : ℕ} → r ≡ again_row s i a p → r.state ≢ 0
   not-asleep e = queued-asleep (ap (λ (u : Thread). u.state) e)
 
   -- a side has its own kinds
@@ -84,33 +84,33 @@ module _ (t : Tables) (s : Step) (i : ℕ) (someone : i ≢ 255) (apart : i ≢ 
   not-event side k = not-side k (λ y. omega arith) (λ y. omega arith) (λ y. omega arith) side
 
   -- it is served, if it fell asleep before
-  rouse : {r : Thread} {f : Bool} {pl : ℕ} (m : ℤ) (o : ℕ) → SideOf a.call pl → a.message ≡ pos 0 → r ≡ againRow s i a pl → Served t s r.state r.place m o
-      → f ≡ false → ReadyAfter t s i (readyWith r m o num) true f
+  rouse : {r : Thread} {f : Bool} {pl : ℕ} (m : ℤ) (o : ℕ) → SideOf a.call pl → a.message ≡ pos 0 → r ≡ again_row s i a pl → Served t s r.state r.place m o
+      → f ≡ false → ReadyAfter t s i (ready_with r m o num) true f
   rouse {r} {f} {pl} m o side x e by q =
       let zero = served-zero by in
       let there : Served t s 3 pl m o = subst (λ (u : Thread). Served t s u.state u.place m o) e by in
-      subst (λ (y : ℤ). ReadyAfter t s i (readyWith r y o num) true f) (sym zero)
-      (ReadyAfter.ready-again pl o side x (subst (λ (y : ℤ). Served t s 3 pl y o) zero there) (ap (λ (u : Thread). readyWith u (pos 0) o num) e) refl q)
+      subst (λ (y : ℤ). ReadyAfter t s i (ready_with r y o num) true f) (sym zero)
+      (ReadyAfter.ready-again pl o side x (subst (λ (y : ℤ). Served t s 3 pl y o) zero there) (ap (λ (u : Thread). ready_with u (pos 0) o num) e) refl q)
 
   module _ {r : Thread} {w f : Bool} where
-    ends-own : (x : ℤ) (d : ℕ) → r.state ≡ 0 → r.call.kind ≢ 0 → Ends r x d → ReadyAfter t s i r w f → ReadyAfter t s i (callEnded r x d) w true
+    ends-own : (x : ℤ) (d : ℕ) → r.state ≡ 0 → r.call.kind ≢ 0 → Ends r x d → ReadyAfter t s i r w f → ReadyAfter t s i (call_ended r x d) w true
     ends-own x d z n h (ReadyAfter.on e p q) =
-        ReadyAfter.done x d (heard s i a) (ends-answer a (readyOn s i a) refl (heard s i a) (subst (λ (u : Thread). Ends u x d) e h))
-        (ap (λ (u : Thread). callEnded u x d) e ∙ ended-row x d (heard s i a)) p refl
+        ReadyAfter.done x d (heard s i a) (ends-answer a (ready_on s i a) refl (heard s i a) (subst (λ (u : Thread). Ends u x d) e h))
+        (ap (λ (u : Thread). call_ended u x d) e ∙ ended-row x d (heard s i a)) p refl
     ends-own x d z n h (ReadyAfter.done y c g k e p q) = absurd (n (ap (λ (u : Thread). u.call.kind) e))
     ends-own x d z n h (ReadyAfter.again pl side m e p q) = absurd (not-asleep e z)
     ends-own x d z n h (ReadyAfter.ready-again pl c side m by e p q) =
         ReadyAfter.done-again pl c x d side m by
-        (ends-answer a (wokenRow s i a (pos 0) c num noAnswer) refl (heard s i a) (subst (λ (u : Thread). Ends u x d) e h))
-        (ap (λ (u : Thread). callEnded u x d) e) p refl
+        (ends-answer a (woken_row s i a (pos 0) c num no_answer) refl (heard s i a) (subst (λ (u : Thread). Ends u x d) e h))
+        (ap (λ (u : Thread). call_ended u x d) e) p refl
     ends-own x d z n h (ReadyAfter.done-again pl c y o side m by k e p q) = absurd (n (ap (λ (u : Thread). u.call.kind) e))
 
     takes-own : r.state ≡ 0 → r.call.kind ≡ 14 → r.message ≡ pos 0 → ReadyAfter t s i r w f
-        → ReadyAfter t s i (flagsTaken r r.call.operand) w true
+        → ReadyAfter t s i (flags_taken r r.call.operand) w true
     takes-own z k m (ReadyAfter.on e p q) =
         ReadyAfter.done (pos 0) _ _
         (AnswerOf.events (sym (ap (λ (u : Thread). u.call.kind) e) ∙ k) (sym (ap (λ (u : Thread). u.message) e) ∙ m))
-        (ap (λ (u : Thread). flagsTaken u u.call.operand) e ∙ ended-row (pos 0) _ _) p refl
+        (ap (λ (u : Thread). flags_taken u u.call.operand) e ∙ ended-row (pos 0) _ _) p refl
     takes-own z k m (ReadyAfter.done y c g h e p q) = absurd (no-event (ap (λ (u : Thread). u.call.kind) e) k)
     takes-own z k m (ReadyAfter.again pl side o e p q) = absurd (not-asleep e z)
     takes-own z k m (ReadyAfter.ready-again pl c side o by e p q) = absurd (not-event side (sym (ap (λ (u : Thread). u.call.kind) e) ∙ k))
@@ -127,7 +127,7 @@ module _ (t : Tables) (s : Step) (i : ℕ) (someone : i ≢ 255) (apart : i ≢ 
     sleeps-own q z g m side u (ReadyAfter.ready-again pl c k x by e p o) = contrary p u
     sleeps-own q z g m side u (ReadyAfter.done-again pl c y d k x by h e p o) = contrary p u
 
-    woken-own : (m : ℤ) (o : ℕ) → r.state ≢ 0 → Served t s r.state r.place m o → ReadyAfter t s i r w f → ReadyAfter t s i (readyWith r m o num) true f
+    woken-own : (m : ℤ) (o : ℕ) → r.state ≢ 0 → Served t s r.state r.place m o → ReadyAfter t s i r w f → ReadyAfter t s i (ready_with r m o num) true f
     woken-own m o n by (ReadyAfter.on e p z) = absurd (n (ap (λ (u : Thread). u.state) e ∙ was-ready))
     woken-own m o n by (ReadyAfter.done y c f k e p z) = absurd (n (ap (λ (u : Thread). u.state) e))
     woken-own m o n by (ReadyAfter.again pl side x e p z) = rouse m o side x e by z

@@ -9,7 +9,7 @@ use Rattle.library.specs.declared.tables.Tables.{Tables}
 use Rattle.steps.specs.declared.stepping.Outcome.{Outcome}
 use Rattle.steps.specs.Stepping.{stepped}
 use Rattle.steps.proofs.StepLaws.{Untouched, step-refused}
-use Rattle.promises.specs.Paper.Run.{ranOn}
+use Rattle.promises.specs.Paper.Run.{ran_on}
 use Rattle.promises.specs.Code.Steps.{ran}
 
 -- an accepted step's result
@@ -17,17 +17,17 @@ abbrev pub is_taken : Outcome → Bool
 is_taken o = eqb o.code 0
 
 -- the results of the accepted steps
-abbrev pub acceptedOutcomes : List Outcome → List Outcome
-acceptedOutcomes [] = []
-acceptedOutcomes (o ∷ os) = cond (is_taken o) (o ∷ acceptedOutcomes os) (acceptedOutcomes os)
+abbrev pub accepted_outcomes : List Outcome → List Outcome
+accepted_outcomes [] = []
+accepted_outcomes (o ∷ os) = cond (is_taken o) (o ∷ accepted_outcomes os) (accepted_outcomes os)
 
 -- the accepted ones of a run's steps
-unfoldable pub acceptedSteps : Tables → Clock → List Step → List Step
-acceptedSteps t c [] = []
-acceptedSteps t c (s ∷ ss) =
+unfoldable pub accepted_steps : Tables → Clock → List Step → List Step
+accepted_steps t c [] = []
+accepted_steps t c (s ∷ ss) =
     cond (is_taken (stepped t c s).outcome)
-    (s ∷ acceptedSteps (stepped t c s).tables (stepped t c s).clock ss)
-    (acceptedSteps (stepped t c s).tables (stepped t c s).clock ss)
+    (s ∷ accepted_steps (stepped t c s).tables (stepped t c s).clock ss)
+    (accepted_steps (stepped t c s).tables (stepped t c s).clock ss)
 
 -- a run gives as many results as it has steps
 pub run-answers : (t : Tables) (c : Clock) (ss : List Step) → length (ran t c ss).outcomes ≡ length ss
@@ -43,26 +43,26 @@ pub run-parts : (t : Tables) (c : Clock) (xs ys : List Step)
       outcomes = (ran t c xs).outcomes ++ (ran (ran t c xs).tables (ran t c xs).clock ys).outcomes;
     }
 run-parts t c [] ys = refl
-run-parts t c (s ∷ xs) ys = ap (ranOn (stepped t c s).outcome) (run-parts (stepped t c s).tables (stepped t c s).clock xs ys)
+run-parts t c (s ∷ xs) ys = ap (ran_on (stepped t c s).outcome) (run-parts (stepped t c s).tables (stepped t c s).clock xs ys)
 
 -- "All tables keep their bytes": after a refused step a run goes on as if it had not been
 pub run-refused : (t : Tables) (c : Clock) (s : Step) (ss : List Step) → (stepped t c s).outcome.code ≢ 0
-    → ran t c (s ∷ ss) ≡ ranOn (stepped t c s).outcome (ran t c ss)
+    → ran t c (s ∷ ss) ≡ ran_on (stepped t c s).outcome (ran t c ss)
 run-refused t c s ss n = rw ((step-refused t c s n).tables, (step-refused t c s n).clock)
 
 -- the accepted steps alone leave what all the steps leave, and give the accepted ones' results
 pub run-accepted : (t : Tables) (c : Clock) (ss : List Step)
-    → ran t c (acceptedSteps t c ss)
+    → ran t c (accepted_steps t c ss)
     ≡ record {
       tables = (ran t c ss).tables;
       clock = (ran t c ss).clock;
-      outcomes = acceptedOutcomes (ran t c ss).outcomes;
+      outcomes = accepted_outcomes (ran t c ss).outcomes;
     }
-unfolding acceptedSteps
+unfolding accepted_steps
 run-accepted t c [] = refl
 run-accepted t c (s ∷ ss) =
     split (is_taken (stepped t c s).outcome)
-    (λ e. rw e (ap (ranOn (stepped t c s).outcome) (run-accepted (stepped t c s).tables (stepped t c s).clock ss)))
+    (λ e. rw e (ap (ran_on (stepped t c s).outcome) (run-accepted (stepped t c s).tables (stepped t c s).clock ss)))
     (λ e. rw (e, (refused e).tables, (refused e).clock) (run-accepted t c ss))
   where
     refused : is_taken (stepped t c s).outcome ≡ false → Untouched t c (stepped t c s)

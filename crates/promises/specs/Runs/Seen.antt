@@ -10,8 +10,8 @@ use Rattle.library.specs.declared.calls.Step.{Step}
 use Rattle.library.specs.declared.tables.Tables.{Tables}
 use Rattle.promises.specs.Paper.World.{World, found, kept}
 use Rattle.promises.specs.Paper.Together.{is_zero}
-use Rattle.promises.specs.Paper.Waking.{rowOf}
-use Rattle.promises.specs.Paper.History.{Event, isCounted, eventsOf, those, is_of, isAmong, in_turn}
+use Rattle.promises.specs.Paper.Waking.{row_of}
+use Rattle.promises.specs.Paper.History.{Event, is_counted, events_of, those, is_of, is_among, in_turn}
 use Rattle.promises.specs.Meant.Step.{own}
 use Rattle.promises.specs.Runs.Dealing.{those-append}
 use Rattle.promises.specs.Runs.Deeds.{answer_of, Own, Did}
@@ -19,11 +19,11 @@ use Rattle.promises.specs.Runs.Deeds.{answer_of, Own, Did}
 -- ---- turn by turn
 
 -- who has the last turn is among those who have one, and nobody else is for it
-among_self : (r : ℕ) (is : List ℕ) → isAmong r (is ++ (r ∷ [])) ≡ true
+among_self : (r : ℕ) (is : List ℕ) → is_among r (is ++ (r ∷ [])) ≡ true
 among_self r [] = rw (eq-eqb r r refl)
 among_self r (i ∷ is) = rw (among_self r is) (or-true (eqb i r))
 
-among-other : (i r : ℕ) (is : List ℕ) → i ≢ r → isAmong i (is ++ (r ∷ [])) ≡ isAmong i is
+among-other : (i r : ℕ) (is : List ℕ) → i ≢ r → is_among i (is ++ (r ∷ [])) ≡ is_among i is
 among-other i r [] d = rw (ne_eqb r i (λ z. d (sym z)))
 among-other i r (j ∷ js) d = rw (among-other i r js d)
 
@@ -36,10 +36,10 @@ turn_last f g r same none (i ∷ is) =
     same_or i r
     (λ z.
     subst (λ (k : ℕ). in_turn f (k ∷ (is ++ (r ∷ []))) ≡ in_turn g (k ∷ is) ++ f r) (sym z)
-    (rw (among_self r is, none, nothing (isAmong r is)) rest))
+    (rw (among_self r is, none, nothing (is_among r is)) rest))
     (λ d.
     rw (among-other i r is d, same i d, rest)
-    (sym (append_assoc (cond (isAmong i is) [] (g i)) (in_turn g is) (f r))))
+    (sym (append_assoc (cond (is_among i is) [] (g i)) (in_turn g is) (f r))))
   where
     nothing : (b : Bool) → ◌≡◌ {A = List Event} (cond b [] []) []
     nothing true = refl
@@ -52,11 +52,11 @@ turns_same f g h (i ∷ is) = rw (h i, turns_same f g h is)
 
 module _ (n : ℕ) (t : Tables) where
   -- a call's events are its own
-  pub those-own : (i : ℕ) (c : Call) (a : Answer) → those (is_of i) (eventsOf n t i c a) ≡ eventsOf n t i c a
-  those-own i c a = split (isCounted c.kind && is_zero a.message) (λ e. rw (e, eq-eqb i i refl)) (λ e. rw e)
+  pub those-own : (i : ℕ) (c : Call) (a : Answer) → those (is_of i) (events_of n t i c a) ≡ events_of n t i c a
+  those-own i c a = split (is_counted c.kind && is_zero a.message) (λ e. rw (e, eq-eqb i i refl)) (λ e. rw e)
 
-  those-other : (i j : ℕ) (c : Call) (a : Answer) → j ≢ i → those (is_of i) (eventsOf n t j c a) ≡ []
-  those-other i j c a d = split (isCounted c.kind && is_zero a.message) (λ e. rw (e, ne_eqb j i d)) (λ e. rw e)
+  those-other : (i j : ℕ) (c : Call) (a : Answer) → j ≢ i → those (is_of i) (events_of n t j c a) ≡ []
+  those-other i j c a d = split (is_counted c.kind && is_zero a.message) (λ e. rw (e, ne_eqb j i d)) (λ e. rw e)
 
   pub did-own : (i : ℕ) (c : Call) (w x : World) (es : List Event) → Own n t i c w es x → those (is_of i) es ≡ es
   did-own i c w x es (Own.over e f z) = rw e (those-own i c (answer_of x i))
@@ -74,13 +74,13 @@ module _ (n : ℕ) (t : Tables) (s : Step) where
 
   -- the call that i may finish
   abbrev pub call_in : ℕ → Call
-  call_in i = cond (eqb s.caller i) own-call (rowOf t i).call
+  call_in i = cond (eqb s.caller i) own-call (row_of t i).call
 
   -- in the middle of a step: of each thread the events so far are what it has finished, and an unfinished call is the one that it may finish
   pub record Seen (w : World) (es : List Event) : Type 0 where
-    pub thread : (i : ℕ) → i ≢ 255 → those (is_of i) es ≡ cond (w.finished i) (eventsOf n t i (call_in i) (w.thread i).answer) []
-    pub interrupt : those (is_of 255) es ≡ cond (eqb s.caller 255) (eventsOf n t 255 own-call w.answer) []
-    pub same : (i : ℕ) → i ≢ 255 → w.finished i ≡ false → (a : Answer) → eventsOf n t i (w.thread i).call a ≡ eventsOf n t i (call_in i) a
+    pub thread : (i : ℕ) → i ≢ 255 → those (is_of i) es ≡ cond (w.finished i) (events_of n t i (call_in i) (w.thread i).answer) []
+    pub interrupt : those (is_of 255) es ≡ cond (eqb s.caller 255) (events_of n t 255 own-call w.answer) []
+    pub same : (i : ℕ) → i ≢ 255 → w.finished i ≡ false → (a : Answer) → events_of n t i (w.thread i).call a ≡ events_of n t i (call_in i) a
     pub done : (i : ℕ) → i ≢ 255 → w.finished i ≡ true → (w.thread i).call.kind ≡ 0
     pub within : (i : ℕ) → i ≢ 255 → t.sizes.threads ≤ i → w.finished i ≡ false
 
@@ -94,8 +94,8 @@ module _ (n : ℕ) (t : Tables) (s : Step) where
 
     record OwnSeen (b : Bool) : Type 0 where
       pub is : x.finished j ≡ b
-      pub events : es ≡ cond b (eventsOf n t j own-call (x.thread j).answer) []
-      pub same : b ≡ false → (a : Answer) → eventsOf n t j (x.thread j).call a ≡ eventsOf n t j own-call a
+      pub events : es ≡ cond b (events_of n t j own-call (x.thread j).answer) []
+      pub same : b ≡ false → (a : Answer) → events_of n t j (x.thread j).call a ≡ events_of n t j own-call a
       pub done : b ≡ true → (x.thread j).call.kind ≡ 0
 
     own-seen : j ≢ 255 → Own n t j own-call (found t) es x → (b : Bool) × OwnSeen b
@@ -109,12 +109,12 @@ module _ (n : ℕ) (t : Tables) (s : Step) where
         no : false ≡ true → ⊥
         no y = contrary y refl
 
-    own-thread : (i : ℕ) → i ≡ j → i ≢ 255 → those (is_of i) es ≡ cond (x.finished i) (eventsOf n t i (call_in i) (x.thread i).answer) []
+    own-thread : (i : ℕ) → i ≡ j → i ≢ 255 → those (is_of i) es ≡ cond (x.finished i) (events_of n t i (call_in i) (x.thread i).answer) []
     own-thread i z y =
-        subst (λ (r : ℕ). those (is_of r) es ≡ cond (x.finished r) (eventsOf n t r (call_in r) (x.thread r).answer) []) (sym z)
+        subst (λ (r : ℕ). those (is_of r) es ≡ cond (x.finished r) (events_of n t r (call_in r) (x.thread r).answer) []) (sym z)
         (by (own-seen (rw z at y) d.own))
       where
-        by : (b : Bool) × OwnSeen b → those (is_of j) es ≡ cond (x.finished j) (eventsOf n t j (call_in j) (x.thread j).answer) []
+        by : (b : Bool) × OwnSeen b → those (is_of j) es ≡ cond (x.finished j) (events_of n t j (call_in j) (x.thread j).answer) []
         by (true, k) = rw (k.events, k.is, eq-eqb j j refl) (those-own n t j own-call (x.thread j).answer)
         by (false, k) = rw (k.events, k.is)
 
@@ -131,7 +131,7 @@ module _ (n : ℕ) (t : Tables) (s : Step) where
           same = λ i y e a.
               same_or i j
               (λ z. own_same i z y e a)
-              (λ z. rw (ne_eqb j i (λ r. z (sym r))) (ap (λ (c : Call). eventsOf n t i c a) (d.calls i z)));
+              (λ z. rw (ne_eqb j i (λ r. z (sym r))) (ap (λ (c : Call). events_of n t i c a) (d.calls i z)));
           done = λ i y e.
               same_or i j (λ z. own-done i z y e) (λ z. contrary e (other-thread i z));
           within = λ i y l.
@@ -140,18 +140,18 @@ module _ (n : ℕ) (t : Tables) (s : Step) where
         }
       where
         by-interrupt : j ≡ 255 → Own n t j own-call (found t) es x
-            → those (is_of 255) es ≡ cond (eqb j 255) (eventsOf n t 255 own-call x.answer) []
+            → those (is_of 255) es ≡ cond (eqb j 255) (events_of n t 255 own-call x.answer) []
         by-interrupt z (Own.over e f k) =
             rw (z, rw z at e) (those-own n t 255 own-call x.answer)
         by-interrupt z (Own.on e m f k) = absurd (m z)
 
         own_same : (i : ℕ) → i ≡ j → i ≢ 255 → x.finished i ≡ false → (a : Answer)
-            → eventsOf n t i (x.thread i).call a ≡ eventsOf n t i (call_in i) a
+            → events_of n t i (x.thread i).call a ≡ events_of n t i (call_in i) a
         own_same i z y e a =
-            subst (λ (r : ℕ). eventsOf n t r (x.thread r).call a ≡ eventsOf n t r (call_in r) a) (sym z)
+            subst (λ (r : ℕ). events_of n t r (x.thread r).call a ≡ events_of n t r (call_in r) a) (sym z)
             (rw (eq-eqb j j refl) (by (own-seen (rw z at y) d.own)))
           where
-            by : (b : Bool) × OwnSeen b → eventsOf n t j (x.thread j).call a ≡ eventsOf n t j own-call a
+            by : (b : Bool) × OwnSeen b → events_of n t j (x.thread j).call a ≡ events_of n t j own-call a
             by (true, k) = contrary k.is (rw z at e)
             by (false, k) = k.same refl a
 
@@ -180,7 +180,7 @@ module _ (n : ℕ) (t : Tables) (s : Step) where
     own-events = those-append (is_of r) es fs ∙ rw none_yet
 
     own-now : Own n t r (w.thread r).call w fs x
-        → those (is_of r) (es ++ fs) ≡ cond (x.finished r) (eventsOf n t r (call_in r) (x.thread r).answer) []
+        → those (is_of r) (es ++ fs) ≡ cond (x.finished r) (events_of n t r (call_in r) (x.thread r).answer) []
     own-now (Own.over e f k) =
         own-events
         ∙ rw (f someone, rw (ne_eqb r 255 someone) at e)
@@ -188,7 +188,7 @@ module _ (n : ℕ) (t : Tables) (s : Step) where
     own-now (Own.on e m f k) = own-events ∙ rw (e, f ∙ unfinished)
 
     own-same-now : Own n t r (w.thread r).call w fs x → x.finished r ≡ false → (a : Answer)
-        → eventsOf n t r (x.thread r).call a ≡ eventsOf n t r (call_in r) a
+        → events_of n t r (x.thread r).call a ≡ events_of n t r (call_in r) a
     own-same-now (Own.over e f k) z a = contrary (f someone) z
     own-same-now (Own.on e m f k) z a = k a ∙ seen.same r someone unfinished a
 
@@ -201,14 +201,14 @@ module _ (n : ℕ) (t : Tables) (s : Step) where
         record {
           thread = λ i y.
               same_or i r
-              (λ z. subst (λ (q : ℕ). those (is_of q) (es ++ fs) ≡ cond (x.finished q) (eventsOf n t q (call_in q) (x.thread q).answer) []) (sym z)
+              (λ z. subst (λ (q : ℕ). those (is_of q) (es ++ fs) ≡ cond (x.finished q) (events_of n t q (call_in q) (x.thread q).answer) []) (sym z)
               (own-now d.own))
               (λ z. other-events i z ∙ seen.thread i y ∙ rw (d.finished i z, d.answers i z));
           interrupt = other-events 255 (λ e. someone (sym e)) ∙ seen.interrupt ∙ rw (d.answer someone);
           same = λ i y e a.
               same_or i r
-              (λ z. subst (λ (q : ℕ). eventsOf n t q (x.thread q).call a ≡ eventsOf n t q (call_in q) a) (sym z) (own-same-now d.own (rw z at e) a))
-              (λ z. ap (λ (c : Call). eventsOf n t i c a) (d.calls i z) ∙ seen.same i y (sym (d.finished i z) ∙ e) a);
+              (λ z. subst (λ (q : ℕ). events_of n t q (x.thread q).call a ≡ events_of n t q (call_in q) a) (sym z) (own-same-now d.own (rw z at e) a))
+              (λ z. ap (λ (c : Call). events_of n t i c a) (d.calls i z) ∙ seen.same i y (sym (d.finished i z) ∙ e) a);
           done = λ i y e.
               same_or i r
               (λ z. subst (λ (q : ℕ). (x.thread q).call.kind ≡ 0) (sym z) (own-done-now d.own (rw z at e)))

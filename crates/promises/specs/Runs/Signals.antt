@@ -12,7 +12,7 @@ use Rattle.kernel.specs.declared.records.Kernel.{Kernel}
 use Rattle.kernel.specs.declared.records.Thread.{Thread}
 use Rattle.kernel.specs.Moves.{finished}
 use Rattle.kernel.specs.Semaphore.{signalled}
-use Rattle.kernel.specs.Tables.{threadAt, counterAt}
+use Rattle.kernel.specs.Tables.{thread_at, counter_at}
 use Rattle.kernel.proofs.Cases.{split, same_or, contrary}
 use Rattle.kernel.proofs.CountersLaws.{top-not-below}
 use Rattle.kernel.proofs.MovesLaws.{finish-interrupt}
@@ -22,21 +22,21 @@ use Rattle.library.specs.declared.calls.Step.{Step}
 use Rattle.library.specs.declared.tables.Plant.{Plant}
 use Rattle.library.specs.declared.tables.Tables.{Tables}
 use Rattle.library.specs.Acting.{acted}
-use Rattle.library.specs.Settling.{runningIn}
-use Rattle.library.specs.Tables.{closed, withKernel}
+use Rattle.library.specs.Settling.{running_in}
+use Rattle.library.specs.Tables.{closed, with_kernel}
 use Rattle.steps.specs.declared.stepping.Stepped.{Stepped}
-use Rattle.steps.specs.Stepping.{budgetOf, outcomeOf, doneWith, started, stepped}
-use Rattle.promises.specs.Paper.World.{World, found, noCall, ended, First, Running}
+use Rattle.steps.specs.Stepping.{budget_of, outcome_of, done_with, started, stepped}
+use Rattle.promises.specs.Paper.World.{World, found, no_call, ended, First, Running}
 use Rattle.promises.specs.Paper.Host.{Host}
 use Rattle.promises.specs.Paper.Rows.{Signal, BinarySignal, Waits, Release, Post, Fetch, Act}
 use Rattle.promises.specs.Paper.Settling.{Continued}
 use Rattle.promises.specs.Paper.Step.{ResultOf}
-use Rattle.promises.specs.Paper.Waking.{rowOf, inMask}
-use Rattle.promises.specs.Paper.Signals.{AnswersWith, risenIn, answeredIn, AtTop, Counts, SignalTold}
+use Rattle.promises.specs.Paper.Waking.{row_of, in_mask}
+use Rattle.promises.specs.Paper.Signals.{AnswersWith, risen_in, answered_in, AtTop, Counts, SignalTold}
 use Rattle.promises.specs.Kept.Whole.{Whole, whole-good}
 use Rattle.promises.specs.Meant.Kinds.{rows}
 use Rattle.promises.specs.Meant.Settling.{settle-stops}
-use Rattle.promises.specs.Meant.Moves.{worldOf}
+use Rattle.promises.specs.Meant.Moves.{world_of}
 use Rattle.promises.specs.Meant.Calls.{sized}
 use Rattle.promises.specs.Meant.Step.{settled-keeps, result-is, running-is, h, hangs, acted-whole, settled-whole, own}
 use Rattle.promises.specs.Runs.Answers.{step-done}
@@ -108,7 +108,7 @@ signal-counts {w} {p = p} (Signal.wakes a k f e) =
 signal-counts (Signal.at_top a e) = sym a
 
 -- which the meaning says too
-uncounted : (k : Kernel) (p : ℕ) → lt_z (counterAt k p) (pos 2147483647) ≡ false → (signalled k p).counted ≡ false
+uncounted : (k : Kernel) (p : ℕ) → lt_z (counter_at k p) (pos 2147483647) ≡ false → (signalled k p).counted ≡ false
 unfolding signalled
 uncounted k p e = e
 
@@ -133,7 +133,7 @@ module _ (t : Tables) (c : Clock) (s : Step) (host : Host t c s) (e : (stepped t
   whole : Whole (acted (started t s) c.time s).sizes (acted (started t s) c.time s)
   whole = own t c s host (accepted t c s host e) (acted-whole t c s host (accepted t c s host e))
 
-  res : ResultOf (worldOf (h t c s host)) j (outcomeOf (h t c s host).kernel j)
+  res : ResultOf (world_of (h t c s host)) j (outcome_of (h t c s host).kernel j)
   res = result-is (h t c s host) (settled-whole t c s host (accepted t c s host e)) j
 
   -- ---- a call that finished at once
@@ -168,7 +168,7 @@ module _ (t : Tables) (c : Clock) (s : Step) (host : Host t c s) (e : (stepped t
 
   -- WHAT A CALL THAT FINISHES AT ONCE ANSWERS
   pub answers_with : (m : ℤ) (v : World) → x₀ t c s host e ≡ ended v j m 0 → (j ≢ 255 → (v.thread j).state ≡ 0) → AnswersWith s (stepped t c s) m
-  unfolding doneWith outcomeOf
+  unfolding done_with outcome_of
   answers_with m v x is-ready =
       subst (λ (q : Stepped). AnswersWith s q m) (sym (step-done t c s e)) (same_or j 255 interrupt thread)
     where
@@ -176,9 +176,9 @@ module _ (t : Tables) (c : Clock) (s : Step) (host : Host t c s) (e : (stepped t
       a = record { message = m; datum = 0 }
 
       w : World
-      w = worldOf (h t c s host)
+      w = world_of (h t c s host)
 
-      interrupt : j ≡ 255 → AnswersWith s (doneWith (h t c s host) c s) m
+      interrupt : j ≡ 255 → AnswersWith s (done_with (h t c s host) c s) m
       interrupt z =
           let kept : w.answer ≡ a = settle-keeps t c s host e (λ u. u.answer ≡ a) (told-on a) (ap (λ (y : World). y.answer) x ∙ rw z) in
           record {
@@ -188,7 +188,7 @@ module _ (t : Tables) (c : Clock) (s : Step) (host : Host t c s) (e : (stepped t
             finished = λ n. absurd (n z);
           }
 
-      thread : j ≢ 255 → AnswersWith s (doneWith (h t c s host) c s) m
+      thread : j ≢ 255 → AnswersWith s (done_with (h t c s host) c s) m
       thread z =
           let P = Stands t s j z (Done a) in
           let d : P w = (settle-keeps t c s host e (Steady t s j z (Done a)) (row_on t s j z (Done a) (done_on a z)) (act-step t c s host e, subst P (sym x) (begun z))).1 in
@@ -215,13 +215,13 @@ module _ (t : Tables) (c : Clock) (s : Step) (host : Host t c s) (e : (stepped t
     k = (started t s).kernel
 
     abbrev left : Plant
-    left = withKernel (started t s) (finished k j (pos 1) 0)
+    left = with_kernel (started t s) (finished k j (pos 1) 0)
 
     -- the act leaves all else
     acted-top : acted (started t s) c.time s ≡ left
     acted-top = (rows (started t s) c.time s).signal kind ∙ by
       where
-        by : withKernel (started t s) (finished (signalled k s.object).kernel j (cond (signalled k s.object).counted (pos 0) (pos 1)) 0) ≡ left
+        by : with_kernel (started t s) (finished (signalled k s.object).kernel j (cond (signalled k s.object).counted (pos 0) (pos 1)) 0) ≡ left
         by = rw (signal-top k s.object top, uncounted k s.object top)
 
     act-top : x₀ t c s host e ≡ w₁
@@ -252,17 +252,17 @@ module _ (t : Tables) (c : Clock) (s : Step) (host : Host t c s) (e : (stepped t
     settled-top : h t c s host ≡ left
     settled-top =
         let p = acted (started t s) c.time s in
-        settle-stops p (budgetOf t.sizes.threads)
-        (free (subst (λ (w : World). Running w (runningIn p)) act-top (running-is p (whole-good p p.sizes whole))))
+        settle-stops p (budget_of t.sizes.threads)
+        (free (subst (λ (w : World). Running w (running_in p)) act-top (running-is p (whole-good p p.sizes whole))))
         ∙ acted-top
       where
-        free : {r : ℕ} → Running w₁ r → (threadAt (acted (started t s) c.time s).kernel r).call.kind ≡ 0
+        free : {r : ℕ} → Running w₁ r → (thread_at (acted (started t s) c.time s).kernel r).call.kind ≡ 0
         free {r} (Running.thread f) = ap (λ (w : World). (w.thread r).call.kind) act-top ∙ quiet f
         free (Running.idle n z) =
             rw (z, thread-blank (acted (started t s) c.time s).kernel 255 (omega (arith, (sized (acted (started t s) c.time s) whole).threads)))
 
     -- a calling thread has no call, and awaits nothing
-    no_call : j ≢ 255 → ((rowOf t j).call ≡ noCall) × ((rowOf t j).awaited ≡ 0)
+    no_call : j ≢ 255 → ((row_of t j).call ≡ no_call) × ((row_of t j).awaited ≡ 0)
     no_call z =
         let f = caller-first t c s host e z in
         let none = (together t c s host e).running j f in
@@ -270,38 +270,38 @@ module _ (t : Tables) (c : Clock) (s : Step) (host : Host t c s) (e : (stepped t
         let n = g.no_call none in
         (λ x. record { kind = none x; object = n.0 x; operand = n.1.0 x; timeout = n.1.1 x }, g.awaited ∙ rw none)
 
-    left-thread : j ≢ 255 → closed left ≡ answeredIn t j (pos 1)
+    left-thread : j ≢ 255 → closed left ≡ answered_in t j (pos 1)
     unfolding finished
     left-thread z =
         let q = no_call z in
         rw (ne_eqb j 255 z, q.0, q.1)
 
-    left-interrupt : j ≡ 255 → closed left ≡ risenIn t
+    left-interrupt : j ≡ 255 → closed left ≡ risen_in t
     left-interrupt z = rw (finish-interrupt k j (pos 1) 0 z)
 
     pub at_top : AtTop t c s (stepped t c s)
-    unfolding doneWith outcomeOf
+    unfolding done_with outcome_of
     at_top =
         record {
           answers = answers_with (pos 1) (found t) act-top caller-ready;
-          nobody-woken = λ i. subst (λ (q : Stepped). inMask i q.outcome.woken ≡ false) (sym (step-done t c s e)) (bit_in _ i false (woken i));
+          nobody-woken = λ i. subst (λ (q : Stepped). in_mask i q.outcome.woken ≡ false) (sym (step-done t c s e)) (bit_in _ i false (woken i));
           no-other-finished = λ i n.
-              subst (λ (q : Stepped). inMask i q.outcome.finished ≡ false) (sym (step-done t c s e)) (bit_in _ i false (others i n));
+              subst (λ (q : Stepped). in_mask i q.outcome.finished ≡ false) (sym (step-done t c s e)) (bit_in _ i false (others i n));
           running =
               subst (λ (q : Stepped). Running (found t) q.outcome.running) (sym (step-done t c s e))
-              (running-same (subst (λ (w : World). Running w (outcomeOf (h t c s host).kernel j).running) world res.running));
+              (running-same (subst (λ (w : World). Running w (outcome_of (h t c s host).kernel j).running) world res.running));
           thread = λ z. ap (λ (q : Stepped). q.tables) (step-done t c s e) ∙ ap closed settled-top ∙ left-thread z;
           interrupt = λ z. ap (λ (q : Stepped). q.tables) (step-done t c s e) ∙ ap closed settled-top ∙ left-interrupt z;
           clock = ap (λ (q : Stepped). q.clock) (step-done t c s e) ∙ rw kind;
         }
       where
-        world : worldOf (h t c s host) ≡ w₁
-        world = ap worldOf (settled-top ∙ sym acted-top) ∙ act-top
+        world : world_of (h t c s host) ≡ w₁
+        world = ap world_of (settled-top ∙ sym acted-top) ∙ act-top
 
-        woken : (i : ℕ) → (outcomeOf (h t c s host).kernel j).woken / 2 ^ i % 2 ≡ 0
+        woken : (i : ℕ) → (outcome_of (h t c s host).kernel j).woken / 2 ^ i % 2 ≡ 0
         woken i = res.woken i ∙ ap (λ (w : World). cond (w.woken i) 1 0) world
 
-        others : (i : ℕ) → i ≢ j → (outcomeOf (h t c s host).kernel j).finished / 2 ^ i % 2 ≡ 0
+        others : (i : ℕ) → i ≢ j → (outcome_of (h t c s host).kernel j).finished / 2 ^ i % 2 ≡ 0
         others i n =
             res.finished i ∙ ap (λ (w : World). cond (w.finished i) 1 0) world
             ∙ split (eqb j 255) (λ z. rw z) (λ z. rw (z, ne_eqb i j n))
@@ -310,11 +310,11 @@ module _ (t : Tables) (c : Clock) (s : Step) (host : Host t c s) (e : (stepped t
 
   -- no continued call touches the counter of a semaphore
   counter-after : (p : ℕ) → p < 20 → (found (stepped t c s).tables).counter p ≡ (x₀ t c s host e).counter p
-  unfolding doneWith
+  unfolding done_with
   counter-after p near =
       ap (λ (q : Stepped). (found q.tables).counter p) (step-done t c s e)
       ∙ settled-keeps (λ w. w.counter p ≡ (x₀ t c s host e).counter p) (λ q v i f n x r y. continued-counter p near r ∙ y)
-      (budgetOf t.sizes.threads) (acted (started t s) c.time s) whole refl
+      (budget_of t.sizes.threads) (acted (started t s) c.time s) whole refl
 
   below_top : Acts 3 → s.object < 20 → lt_z ((found t).counter s.object) (pos 2147483647) ≡ true → Counts t s (stepped t c s)
   below_top (Act.signal v false r q) near low = contrary low (sym (signal-counts r))

@@ -7,11 +7,11 @@ use Rattle.kernel.specs.declared.records.Thread.{Thread}
 use Rattle.kernel.proofs.Cases.{same_or, contrary}
 use Rattle.library.specs.declared.calls.Step.{Step}
 use Rattle.library.specs.declared.tables.Tables.{Tables}
-use Rattle.promises.specs.Paper.World.{World, found, readyWith, callEnded}
+use Rattle.promises.specs.Paper.World.{World, found, ready_with, call_ended}
 use Rattle.promises.specs.Paper.Rows.{TickOf, Ticks, flagged, EventSignal}
 use Rattle.promises.specs.Paper.Settling.{IsOther}
 use Rattle.promises.specs.Paper.Waking.{
-  rowOf,
+  row_of,
   IsPost,
   IsMailing,
   Served,
@@ -19,14 +19,14 @@ use Rattle.promises.specs.Paper.Waking.{
   LastTick,
   WokenBy,
   heard,
-  sleptOn,
+  slept_on,
   AnswerOf,
-  wokenRow,
+  woken_row,
   SleeperAfter,
   SideOf,
 }
 use Rattle.promises.specs.Runs.Keeping.{put_same, put_other, Ends, Keeps}
-use Rattle.promises.specs.Runs.OneRow.{flagsTaken, not-mail, Stands, Steady, row_stays, ready-stays, RowOn, row_keeps}
+use Rattle.promises.specs.Runs.OneRow.{flags_taken, not-mail, Stands, Steady, row_stays, ready-stays, RowOn, row_keeps}
 
 -- a thread without a call has no event wait
 pub no-event : {n : ℕ} → n ≡ 0 → n ≢ 14
@@ -63,9 +63,9 @@ pub not-side : {c : Call} {k : ℕ} → c.kind ≡ k → k ≢ 15 → k ≢ 16 �
 not-side e x y z (SideOf.writers h) = not-mail e x y z (inl h)
 not-side e x y z (SideOf.readers h) = not-mail e x y z (inr h)
 
-module _ (t : Tables) (s : Step) (i : ℕ) (someone : i ≢ 255) (within : i < t.sizes.threads) (before : (rowOf t i).state ≢ 0) (apart : i ≢ s.caller) where
+module _ (t : Tables) (s : Step) (i : ℕ) (someone : i ≢ 255) (within : i < t.sizes.threads) (before : (row_of t i).state ≢ 0) (apart : i ≢ s.caller) where
   abbrev a : Thread
-  a = rowOf t i
+  a = row_of t i
 
   -- how thread i stands in a world
   abbrev pub Life : World → Type 0
@@ -76,37 +76,37 @@ module _ (t : Tables) (s : Step) (i : ℕ) (someone : i ≢ 255) (within : i < t
   num = (found t).step
 
   -- a record that is ready is one that was woken
-  not_on : {r : Thread} → r ≡ sleptOn s i a → r.state ≢ 0
+  not_on : {r : Thread} → r ≡ slept_on s i a → r.state ≢ 0
   not_on e z = before (sym (ap (λ (u : Thread). u.state) e) ∙ z)
 
   module _ {r : Thread} {w f : Bool} where
     -- it is called out, where it has slept until now: so its last tick has not come
-    rouse : (m : ℤ) (o : ℕ) → r.state ≢ 0 → CalledOut t s r.state r.place m o → SleeperAfter t s i r w f → SleeperAfter t s i (readyWith r m o num) true f
+    rouse : (m : ℤ) (o : ℕ) → r.state ≢ 0 → CalledOut t s r.state r.place m o → SleeperAfter t s i r w f → SleeperAfter t s i (ready_with r m o num) true f
     rouse m o n c (SleeperAfter.on u e p q) =
         SleeperAfter.ready m o (WokenBy.call u (subst (λ (v : Thread). CalledOut t s v.state v.place m o) e c))
-        (ap (λ (v : Thread). readyWith v m o num) e) refl q
+        (ap (λ (v : Thread). ready_with v m o num) e) refl q
     rouse m o n c (SleeperAfter.ready x y b e p q) = absurd (n (ap (λ (u : Thread). u.state) e))
     rouse m o n c (SleeperAfter.done x y v d f b g e p q) = absurd (n (ap (λ (u : Thread). u.state) e))
 
     -- ---- its call is continued
 
     ends-own : (x : ℤ) (d : ℕ) → r.state ≡ 0 → r.call.kind ≢ 0 → Ends r x d → SleeperAfter t s i r w f
-        → SleeperAfter t s i (callEnded r x d) w true
+        → SleeperAfter t s i (call_ended r x d) w true
     ends-own x d z n h (SleeperAfter.on u e p q) = absurd (not_on e z)
     ends-own x d z n h (SleeperAfter.ready m o b e p q) =
         SleeperAfter.done m x o d (heard s i a) b
-        (ends-answer a (wokenRow s i a m o num a.answer) refl (heard s i a) (subst (λ (u : Thread). Ends u x d) e h))
-        (ap (λ (u : Thread). callEnded u x d) e) p refl
+        (ends-answer a (woken_row s i a m o num a.answer) refl (heard s i a) (subst (λ (u : Thread). Ends u x d) e h))
+        (ap (λ (u : Thread). call_ended u x d) e) p refl
     ends-own x d z n h (SleeperAfter.done m y o c f b g e p q) = absurd (n (ap (λ (u : Thread). u.call.kind) e))
 
     -- its event wait "clears and answers all pending flags in its mask"
     takes-own : r.state ≡ 0 → r.call.kind ≡ 14 → r.message ≡ pos 0 → SleeperAfter t s i r w f
-        → SleeperAfter t s i (flagsTaken r r.call.operand) w true
+        → SleeperAfter t s i (flags_taken r r.call.operand) w true
     takes-own z k h (SleeperAfter.on u e p q) = absurd (not_on e z)
     takes-own z k h (SleeperAfter.ready m o b e p q) =
         SleeperAfter.done m (pos 0) o _ _ b
         (AnswerOf.events (sym (ap (λ (u : Thread). u.call.kind) e) ∙ k) (sym (ap (λ (u : Thread). u.message) e) ∙ h))
-        (ap (λ (u : Thread). flagsTaken u u.call.operand) e) p refl
+        (ap (λ (u : Thread). flags_taken u u.call.operand) e) p refl
     takes-own z k h (SleeperAfter.done m y o c f b g e p q) = absurd (no-event (ap (λ (u : Thread). u.call.kind) e) k)
 
     -- it is not tried again, for it was woken in this step
@@ -137,7 +137,7 @@ module _ (t : Tables) (s : Step) (i : ℕ) (someone : i ≢ 255) (within : i < t
   found-untouched = record { row = refl; woken = refl; finished = refl; step = refl }
 
   -- a sleep that nothing shortens and no flags come to
-  on-as : s.kind ≢ 1 → heard s i a ≡ a.pending → a ≡ sleptOn s i a
+  on-as : s.kind ≢ 1 → heard s i a ≡ a.pending → a ≡ slept_on s i a
   on-as n h =
       λ x. record {
         state = a.state;
@@ -166,7 +166,7 @@ module _ (t : Tables) (s : Step) (i : ℕ) (someone : i ≢ 255) (within : i < t
     unheard = heard-none (λ e. omega (arith, kind, e))
 
     -- a tick shorter
-    shorter : (n : ℕ) → n ≡ a.remaining - 1 → n ≡ (sleptOn s i a).remaining
+    shorter : (n : ℕ) → n ≡ a.remaining - 1 → n ≡ (slept_on s i a).remaining
     shorter n e = e ∙ rw kind
 
     tick-own : (w x : World) → Untouched w → TickOf w i x → Life x
@@ -203,7 +203,7 @@ module _ (t : Tables) (s : Step) (i : ℕ) (someone : i ≢ 255) (within : i < t
         more : 1 < a.remaining
         more = rw (← ap (λ (v : Thread). v.remaining) u.row) z
 
-        less : (w.thread i).remaining - 1 ≡ (sleptOn s i a).remaining
+        less : (w.thread i).remaining - 1 ≡ (slept_on s i a).remaining
         less = shorter ((w.thread i).remaining - 1) (ap (λ (v : Thread). v.remaining - 1) u.row)
     tick-own w x u (TickOf.last z e) =
         let last : a.remaining ≡ 1 = sym (ap (λ (v : Thread). v.remaining) u.row) ∙ z in
@@ -261,7 +261,7 @@ module _ (t : Tables) (s : Step) (i : ℕ) (someone : i ≢ 255) (within : i < t
     event-own x o (EventSignal.comes g h e) =
         subst Life (sym e)
         (SleeperAfter.ready (pos 0) 4 (WokenBy.events kind o g h)
-        (put_same (flagged (found t) i s.a).thread i _ ∙ ap (λ (u : Thread). readyWith u (pos 0) 4 num) (put_same (found t).thread i _)
+        (put_same (flagged (found t) i s.a).thread i _ ∙ ap (λ (u : Thread). ready_with u (pos 0) 4 num) (put_same (found t).thread i _)
         ∙ (λ y. record {
           state = 0;
           place = 0;

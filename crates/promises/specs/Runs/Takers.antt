@@ -8,16 +8,16 @@ use Rattle.kernel.specs.declared.clock.Clock.{Clock}
 use Rattle.library.specs.declared.calls.Step.{Step}
 use Rattle.library.specs.declared.tables.Tables.{Tables}
 use Rattle.accounts.specs.declared.account.Account.{Account}
-use Rattle.accounts.specs.Account.{freshAccount, objectPlace, setIf, entered}
+use Rattle.accounts.specs.Account.{fresh_account, object_place, set_if, entered}
 use Rattle.promises.specs.Paper.Host.{HostSteps, Going}
 use Rattle.promises.specs.Paper.Run.{Moment}
-use Rattle.promises.specs.Paper.History.{Event, shownBy, those, in_turn, isOwn, OwnFirst, History, shown, shownIn, total, each}
-use Rattle.promises.specs.Paper.Ledger.{Standing, whenAdded, whenTaken, whenFreed, stood, standing, mark_of, standingAt, AccountOf}
+use Rattle.promises.specs.Paper.History.{Event, shown_by, those, in_turn, is_own, OwnFirst, History, shown, shown_in, total, each}
+use Rattle.promises.specs.Paper.Ledger.{Standing, when_added, when_taken, when_freed, stood, standing, mark_of, standing_at, AccountOf}
 use Rattle.promises.specs.Code.Steps.{tallied, moments}
 use Rattle.promises.specs.Runs.Counting.{Few, total-shown}
 use Rattle.promises.specs.Runs.Dealing.{standing-append}
 use Rattle.promises.specs.Runs.Objects.{mistaken-stays}
-use Rattle.promises.specs.Runs.Tallied.{entryFor, enteredAll, entered-append, run_enters, posted-fresh, fetched-fresh, lost-fresh, added-fresh}
+use Rattle.promises.specs.Runs.Tallied.{entry_for, entered_all, entered-append, run_enters, posted-fresh, fetched-fresh, lost-fresh, added-fresh}
 use Rattle.promises.specs.Runs.Ledgers.{run-few}
 use Rattle.promises.specs.Together.Tests.{neither-means}
 
@@ -26,41 +26,41 @@ use Rattle.promises.specs.Together.Tests.{neither-means}
 -- a table in which each alloc puts v of it at its object
 abbrev placed : (Event → ℕ) → List ℕ → List Event → List ℕ
 placed v l [] = l
-placed v l (e ∷ es) = placed v (setIf (eqb e.kind 20) l (objectPlace e.object e.value) (v e)) es
+placed v l (e ∷ es) = placed v (set_if (eqb e.kind 20) l (object_place e.object e.value) (v e)) es
 
-takers-column : (es : List Event) (a : Account) → (enteredAll a es).takers ≡ placed (λ e. e.who) a.takers es
+takers-column : (es : List Event) (a : Account) → (entered_all a es).takers ≡ placed (λ e. e.who) a.takers es
 unfolding entered
 takers-column [] a = refl
-takers-column (e ∷ es) a = takers-column es (entered a e.step (entryFor e))
+takers-column (e ∷ es) a = takers-column es (entered a e.step (entry_for e))
 
-steps-column : (es : List Event) (a : Account) → (enteredAll a es).steps ≡ placed (λ e. e.step) a.steps es
+steps-column : (es : List Event) (a : Account) → (entered_all a es).steps ≡ placed (λ e. e.step) a.steps es
 unfolding entered
 steps-column [] a = refl
-steps-column (e ∷ es) a = steps-column es (entered a e.step (entryFor e))
+steps-column (e ∷ es) a = steps-column es (entered a e.step (entry_for e))
 
 -- ---- where an object is
 
 -- the number and the thread of one that is out
-abbrev outStep : Standing → ℕ
-outStep Standing.absent = 0
-outStep Standing.free = 0
-outStep (Standing.out n i) = n
-outStep Standing.mistaken = 0
+abbrev out_step : Standing → ℕ
+out_step Standing.absent = 0
+out_step Standing.free = 0
+out_step (Standing.out n i) = n
+out_step Standing.mistaken = 0
 
-abbrev outWho : Standing → ℕ
-outWho Standing.absent = 0
-outWho Standing.free = 0
-outWho (Standing.out n i) = i
-outWho Standing.mistaken = 0
+abbrev out_who : Standing → ℕ
+out_who Standing.absent = 0
+out_who Standing.free = 0
+out_who (Standing.out n i) = i
+out_who Standing.mistaken = 0
 
 -- what was out before a run was handed over in no step of it
-pub before-run : (m n i : ℕ) → standingAt m ≡ Standing.out (suc n) i → ⊥
-before-run zero n i e = omega (arith, ap outStep e)
-before-run (suc zero) n i e = omega (arith, ap outStep e)
-before-run (suc (suc m)) n i e = omega (arith, ap outStep e)
+pub before-run : (m n i : ℕ) → standing_at m ≡ Standing.out (suc n) i → ⊥
+before-run zero n i e = omega (arith, ap out_step e)
+before-run (suc zero) n i e = omega (arith, ap out_step e)
+before-run (suc (suc m)) n i e = omega (arith, ap out_step e)
 
 pub never-added : (n i : ℕ) → Standing.absent ≡ Standing.out (suc n) i → ⊥
-never-added n i e = omega (arith, ap outStep e)
+never-added n i e = omega (arith, ap out_step e)
 
 -- object o of pool q
 module _ (q o : ℕ) (pool : q < 4) (object : o < 32) where
@@ -74,19 +74,19 @@ module _ (q o : ℕ) (pool : q < 4) (object : o < 32) where
   abbrev takes : Event → Bool
   takes e = eqb e.kind 20 && hits e
 
-  abbrev ofTake : (Event → ℕ) → Event → ℕ
-  ofTake v e = cond (takes e) (v e) 0
+  abbrev of_take : (Event → ℕ) → Event → ℕ
+  of_take v e = cond (takes e) (v e) 0
 
-  setIf-length : (b : Bool) (l : List ℕ) (i x : ℕ) → length (setIf b l i x) ≡ length l
-  setIf-length true l i x = length-set l i x
-  setIf-length false l i x = refl
+  set_if-length : (b : Bool) (l : List ℕ) (i x : ℕ) → length (set_if b l i x) ≡ length l
+  set_if-length true l i x = length-set l i x
+  set_if-length false l i x = refl
 
   -- two places are one only if pool and object are
   place_of : (a b : ℕ) → b < 32 → a * 32 + b ≡ q * 32 + o → (a ≡ q) × (b ≡ o)
   place_of a b l e = (omega (arith, object, l, e), omega (arith, object, l, e))
 
   placed_one : (v : Event → ℕ) (l : List ℕ) → length l ≡ 128 → (e : Event)
-      → get_or (setIf (eqb e.kind 20) l (objectPlace e.object e.value) (v e)) place 0 ≡ cond (takes e) (v e) (get_or l place 0)
+      → get_or (set_if (eqb e.kind 20) l (object_place e.object e.value) (v e)) place 0 ≡ cond (takes e) (v e) (get_or l place 0)
   placed_one v l long e =
       split (eqb e.kind 20)
       (λ k. in-or-out e.value 32
@@ -110,26 +110,26 @@ module _ (q o : ℕ) (pool : q < 4) (object : o < 32) where
   placed-none : (v : Event → ℕ) (es : List Event) (l : List ℕ) → length l ≡ 128 → total (each takes) es ≡ 0 → get_or (placed v l es) place 0 ≡ get_or l place 0
   placed-none v [] l long z = refl
   placed-none v (e ∷ es) l long z =
-      let k = setIf (eqb e.kind 20) l (objectPlace e.object e.value) (v e) in
+      let k = set_if (eqb e.kind 20) l (object_place e.object e.value) (v e) in
       split (takes e)
       (λ h. absurd (omega (arith, rw h at z)))
       (λ h.
       let none : total (each takes) es ≡ 0 = omega (arith, rw h at z) in
-      placed-none v es k (setIf-length (eqb e.kind 20) l _ (v e) ∙ long) none ∙ placed_one v l long e ∙ rw h)
+      placed-none v es k (set_if-length (eqb e.kind 20) l _ (v e) ∙ long) none ∙ placed_one v l long e ∙ rw h)
 
   -- where none takes it, nothing is to be summed
-  none_of : (v : Event → ℕ) (es : List Event) → total (each takes) es ≡ 0 → total (ofTake v) es ≡ 0
+  none_of : (v : Event → ℕ) (es : List Event) → total (each takes) es ≡ 0 → total (of_take v) es ≡ 0
   none_of v [] z = refl
   none_of v (e ∷ es) z =
       split (takes e) (λ h. absurd (omega (arith, rw h at z)))
       (λ h. let none : total (each takes) es ≡ 0 = omega (arith, rw h at z) in rw h (omega (arith, none_of v es none)))
 
   placed-once : (v : Event → ℕ) (es : List Event) (l : List ℕ) → length l ≡ 128 → total (each takes) es ≡ 1
-      → get_or (placed v l es) place 0 ≡ total (ofTake v) es
+      → get_or (placed v l es) place 0 ≡ total (of_take v) es
   placed-once v [] l long z = absurd (omega (arith, z))
   placed-once v (e ∷ es) l long z =
-      let k = setIf (eqb e.kind 20) l (objectPlace e.object e.value) (v e) in
-      let size : length k ≡ 128 = setIf-length (eqb e.kind 20) l _ (v e) ∙ long in
+      let k = set_if (eqb e.kind 20) l (object_place e.object e.value) (v e) in
+      let size : length k ≡ 128 = set_if-length (eqb e.kind 20) l _ (v e) ∙ long in
       split (takes e)
       (λ h.
       let none : total (each takes) es ≡ 0 = omega (arith, rw h at z) in
@@ -142,7 +142,7 @@ module _ (q o : ℕ) (pool : q < 4) (object : o < 32) where
   -- ---- where it stands
 
   -- an alloc finds it free, and hands it over
-  taken_free : (e : Event) (x : Standing) → whenTaken e x ≢ Standing.mistaken → (x ≡ Standing.free) × (whenTaken e x ≡ Standing.out e.step e.who)
+  taken_free : (e : Event) (x : Standing) → when_taken e x ≢ Standing.mistaken → (x ≡ Standing.free) × (when_taken e x ≡ Standing.out e.step e.who)
   taken_free e Standing.absent h = absurd (h refl)
   taken_free e Standing.free h = (refl, refl)
   taken_free e (Standing.out n i) h = absurd (h refl)
@@ -161,7 +161,7 @@ module _ (q o : ℕ) (pool : q < 4) (object : o < 32) where
   -- what becomes of it where nothing is freed or added: it stays, or is handed over once
   data Handed (x : Standing) (es : List Event) : Type 0 where
     stays : total (each takes) es ≡ 0 → standing q o x es ≡ x → Handed x es
-    once : total (each takes) es ≡ 1 → standing q o x es ≡ Standing.out (total (ofTake (λ e. e.step)) es) (total (ofTake (λ e. e.who)) es)
+    once : total (each takes) es ≡ 1 → standing q o x es ≡ Standing.out (total (of_take (λ e. e.step)) es) (total (of_take (λ e. e.who)) es)
         → x ≡ Standing.free → Handed x es
 
   -- two that were handed over alike
@@ -169,8 +169,8 @@ module _ (q o : ℕ) (pool : q < 4) (object : o < 32) where
   outs a b = rw (a, b)
 
   -- an event that does not hand it over is not summed
-  skip : (v : Event → ℕ) (e : Event) (es : List Event) → takes e ≡ false → total (ofTake v) es ≡ total (ofTake v) (e ∷ es)
-  skip v e es h = sym (rw h (zero-add (total (ofTake v) es)))
+  skip : (v : Event → ℕ) (e : Event) (es : List Event) → takes e ≡ false → total (of_take v) es ≡ total (of_take v) (e ∷ es)
+  skip v e es h = sym (rw h (zero-add (total (of_take v) es)))
 
   -- and may leave it where it is
   passed : (e : Event) (es : List Event) (x : Standing) → takes e ≡ false → after e x ≡ x → Handed x es → Handed x (e ∷ es)
@@ -183,7 +183,7 @@ module _ (q o : ℕ) (pool : q < 4) (object : o < 32) where
   handed : (e : Event) (es : List Event) (x : Standing) → takes e ≡ true → after e x ≢ Standing.mistaken → Handed (after e x) es → Handed x (e ∷ es)
   handed e es x h right rest =
       let both = both-means (eqb e.kind 20) (hits e) h in
-      let is : after e x ≡ whenTaken e x = rw (both.1, both.0) in
+      let is : after e x ≡ when_taken e x = rw (both.1, both.0) in
       let free = taken_free e x (λ z. right (is ∙ z)) in
       last (is ∙ free.1) free.0 rest
     where
@@ -194,11 +194,11 @@ module _ (q o : ℕ) (pool : q < 4) (object : o < 32) where
       last is free (Handed.once z s f) = absurd (out-taken (sym is ∙ f))
 
   -- a free or an add
-  abbrev isPut : Event → Bool
-  isPut e = eqb e.kind 21 || eqb e.kind 22
+  abbrev is_put : Event → Bool
+  is_put e = eqb e.kind 21 || eqb e.kind 22
 
   -- an event that is neither
-  unput : (e : Event) (x : Standing) → isPut e ≡ false → takes e ≡ false → after e x ≡ x
+  unput : (e : Event) (x : Standing) → is_put e ≡ false → takes e ≡ false → after e x ≡ x
   unput e x p h =
       let no = neither-means (eqb e.kind 21) (eqb e.kind 22) p in
       split (hits e)
@@ -208,7 +208,7 @@ module _ (q o : ℕ) (pool : q < 4) (object : o < 32) where
       (λ k. rw k)
 
   -- such an event first, and then those of continued calls
-  onward : (e : Event) (es : List Event) (x : Standing) → isPut e ≡ false → standing q o x (e ∷ es) ≢ Standing.mistaken
+  onward : (e : Event) (es : List Event) (x : Standing) → is_put e ≡ false → standing q o x (e ∷ es) ≢ Standing.mistaken
       → ((y : Standing) → standing q o y es ≢ Standing.mistaken → Handed y es) → Handed x (e ∷ es)
   onward e es x p right rest =
       split (takes e)
@@ -217,31 +217,31 @@ module _ (q o : ℕ) (pool : q < 4) (object : o < 32) where
       let a = unput e x p h in
       passed e es x h a (rest x (λ y. right (ap (λ (w : Standing). standing q o w es) a ∙ y))))
 
-  no-put : (es : List Event) (x : Standing) → those isOwn es ≡ [] → standing q o x es ≢ Standing.mistaken → Handed x es
+  no-put : (es : List Event) (x : Standing) → those is_own es ≡ [] → standing q o x es ≢ Standing.mistaken → Handed x es
   no-put [] x z right = Handed.stays refl refl
   no-put (e ∷ es) x z right =
-      let mine : isOwn e ≡ false = split (isOwn e) (λ h. absurd (omega (arith, ap length (rw h at z)))) (λ h. h) in
-      let tail : those isOwn es ≡ [] = rw mine at z in
-      let kinds = (neither-means (eqb e.who 255) (eqb e.kind 18 || isPut e) mine).1 in
-      onward e es x (neither-means (eqb e.kind 18) (isPut e) kinds).1 right (λ y. no-put es y tail)
+      let mine : is_own e ≡ false = split (is_own e) (λ h. absurd (omega (arith, ap length (rw h at z)))) (λ h. h) in
+      let tail : those is_own es ≡ [] = rw mine at z in
+      let kinds = (neither-means (eqb e.who 255) (eqb e.kind 18 || is_put e) mine).1 in
+      onward e es x (neither-means (eqb e.kind 18) (is_put e) kinds).1 right (λ y. no-put es y tail)
 
   -- a free and an add leave it free
-  put-free : (e : Event) (x : Standing) → isPut e ≡ true → hits e ≡ true → after e x ≢ Standing.mistaken → (after e x ≡ Standing.free) × (takes e ≡ false)
+  put-free : (e : Event) (x : Standing) → is_put e ≡ true → hits e ≡ true → after e x ≢ Standing.mistaken → (after e x ≡ Standing.free) × (takes e ≡ false)
   put-free e x p h right =
       same_or e.kind 21
-      (λ k. let is : after e x ≡ whenFreed x = rw (h, k) in (is ∙ freed x (λ z. right (is ∙ z)), rw k))
+      (λ k. let is : after e x ≡ when_freed x = rw (h, k) in (is ∙ freed x (λ z. right (is ∙ z)), rw k))
       (λ d.
       let k = eqb-true e.kind 22 (rw (ne_eqb e.kind 21 d) at p) in
-      let is : after e x ≡ whenAdded x = rw (h, k) in
+      let is : after e x ≡ when_added x = rw (h, k) in
       (is ∙ brought x (λ z. right (is ∙ z)), rw k))
     where
-      freed : (x : Standing) → whenFreed x ≢ Standing.mistaken → whenFreed x ≡ Standing.free
+      freed : (x : Standing) → when_freed x ≢ Standing.mistaken → when_freed x ≡ Standing.free
       freed Standing.absent h = absurd (h refl)
       freed Standing.free h = absurd (h refl)
       freed (Standing.out n i) h = refl
       freed Standing.mistaken h = absurd (h refl)
 
-      brought : (x : Standing) → whenAdded x ≢ Standing.mistaken → whenAdded x ≡ Standing.free
+      brought : (x : Standing) → when_added x ≢ Standing.mistaken → when_added x ≡ Standing.free
       brought Standing.absent h = refl
       brought Standing.free h = absurd (h refl)
       brought (Standing.out n i) h = absurd (h refl)
@@ -250,7 +250,7 @@ module _ (q o : ℕ) (pool : q < 4) (object : o < 32) where
   -- ONE STEP: who is out then was out before, or was handed over just now, once
   data Stepped (x : Standing) (es : List Event) : Type 0 where
     before : total (each takes) es ≡ 0 → ((n i : ℕ) → standing q o x es ≡ Standing.out n i → x ≡ Standing.out n i) → Stepped x es
-    now : total (each takes) es ≡ 1 → standing q o x es ≡ Standing.out (total (ofTake (λ e. e.step)) es) (total (ofTake (λ e. e.who)) es) → Stepped x es
+    now : total (each takes) es ≡ 1 → standing q o x es ≡ Standing.out (total (of_take (λ e. e.step)) es) (total (of_take (λ e. e.who)) es) → Stepped x es
 
   any-handed : {x : Standing} {es : List Event} → Handed x es → Stepped x es
   any-handed (Handed.stays z s) = Stepped.before z (λ n i e. sym s ∙ e)
@@ -259,7 +259,7 @@ module _ (q o : ℕ) (pool : q < 4) (object : o < 32) where
   own_first : (es : List Event) (x : Standing) → OwnFirst es → standing q o x es ≢ Standing.mistaken → Stepped x es
   own_first es x OwnFirst.none right = Stepped.before refl (λ n i e. e)
   own_first es x (OwnFirst.first e {es = fs} tail) right =
-      split (isPut e)
+      split (is_put e)
       (λ p. split (hits e)
       (λ h.
       let y = put-free e x p h (unmistaken e fs x right) in
@@ -286,9 +286,9 @@ module _ (q o : ℕ) (pool : q < 4) (object : o < 32) where
 
   placed-length : (v : Event → ℕ) (es : List Event) (l : List ℕ) → length (placed v l es) ≡ length l
   placed-length v [] l = refl
-  placed-length v (e ∷ es) l = placed-length v es _ ∙ setIf-length (eqb e.kind 20) l _ (v e)
+  placed-length v (e ∷ es) l = placed-length v es _ ∙ set_if-length (eqb e.kind 20) l _ (v e)
 
-  all-sized : (es : List Event) (a : Account) → Sized a → Sized (enteredAll a es)
+  all-sized : (es : List Event) (a : Account) → Sized a → Sized (entered_all a es)
   all-sized es a z =
       record {
         takers = ap length (takers-column es a) ∙ placed-length (λ e. e.who) es a.takers ∙ z.takers;
@@ -296,7 +296,7 @@ module _ (q o : ℕ) (pool : q < 4) (object : o < 32) where
       }
 
   step-has : (es fs : List Event) (x : Standing) (a : Account) → ((f : Event → ℕ) → total f es ≡ total f fs) → Stepped x es → Sized a → Has x a
-      → Has (standing q o x es) (enteredAll a fs)
+      → Has (standing q o x es) (entered_all a fs)
   step-has es fs x a same (Stepped.before z keeps) size h n i e =
       let none = sym (same (each takes)) ∙ z in
       let old = h n i (keeps (suc n) i e) in (
@@ -307,37 +307,37 @@ module _ (q o : ℕ) (pool : q < 4) (object : o < 32) where
       let one = sym (same (each takes)) ∙ z in
       let out = sym is ∙ e in (
         ap (λ (l : List ℕ). get_or l place 0) (takers-column fs a) ∙ placed-once (λ e. e.who) fs a.takers size.takers one
-            ∙ sym (same (ofTake (λ e. e.who))) ∙ ap outWho out,
+            ∙ sym (same (of_take (λ e. e.who))) ∙ ap out_who out,
         ap (λ (l : List ℕ). get_or l place 0) (steps-column fs a) ∙ placed-once (λ e. e.step) fs a.steps size.steps one
-            ∙ sym (same (ofTake (λ e. e.step))) ∙ ap outStep out,
+            ∙ sym (same (of_take (λ e. e.step))) ∙ ap out_step out,
       )
 
   pub run-has : {n : ℕ} {ms : List Moment} {es : List Event} → Few ms → History n ms es → (x : Standing) (a : Account) → Sized a → Has x a
-      → standing q o x es ≢ Standing.mistaken → Has (standing q o x es) (enteredAll a (shownIn n ms))
+      → standing q o x es ≢ Standing.mistaken → Has (standing q o x es) (entered_all a (shown_in n ms))
   run-has Few.none History.none x a size h right = h
   run-has {n} (Few.more {m} {ms} few rest) (History.more is fs turns s p hist) x a size h right =
-      let es = in_turn (shownBy n m) is in
+      let es = in_turn (shown_by n m) is in
       let y = standing q o x es in
       let mid : y ≢ Standing.mistaken = λ z. right (standing-append q o x es fs ∙ ap (λ (w : Standing). standing q o w fs) z ∙ mistaken-stays q o fs) in
       let now = step-has es (shown n m) x a (λ f. total-shown f n m es few s) (own_first es x p mid) size h in
-      rw (standing-append q o x es fs, entered-append a (shown n m) (shownIn (suc n) ms))
-      (run-has rest hist y (enteredAll a (shown n m)) (all-sized (shown n m) a size) now (λ z. right (standing-append q o x es fs ∙ z)))
+      rw (standing-append q o x es fs, entered-append a (shown n m) (shown_in (suc n) ms))
+      (run-has rest hist y (entered_all a (shown n m)) (all-sized (shown n m) a size) now (λ z. right (standing-append q o x es fs ∙ z)))
 
 -- WHAT IS PRINTED of a run with these events
 pub printed : (ss : List Step) → HostSteps ss → (t : Tables) (c : Clock) → Going t c → (st : ℕ → ℕ → Standing)
     → ((q o n i : ℕ) → st q o ≡ Standing.out (suc n) i → ⊥) → (es : List Event) → History 1 (moments t c ss) es
     → ((q o : ℕ) → q < t.sizes.pools → standing q o (st q o) es ≢ Standing.mistaken)
-    → AccountOf (tallied 1 freshAccount (moments t c ss)) t.sizes st (moments t c ss) es
+    → AccountOf (tallied 1 fresh_account (moments t c ss)) t.sizes st (moments t c ss) es
 printed ss hs t c g st unknown es hist right =
     let ms = moments t c ss in
-    let shows = shownIn 1 ms in
-    subst (λ (a : Account). AccountOf a t.sizes st ms es) (sym (run_enters ss hs 1 t c g freshAccount))
+    let shows = shown_in 1 ms in
+    subst (λ (a : Account). AccountOf a t.sizes st ms es) (sym (run_enters ss hs 1 t c g fresh_account))
     (record {
       posted-sums = posted-fresh shows;
       fetched-sums = fetched-fresh shows;
       lost-sums = lost-fresh shows;
       added-sums = added-fresh shows;
       takers = λ q o n i there small e.
-          run-has q o (omega (arith, there, g.together.sizes.pools)) small (run-few ss hs t c g) hist (st q o) freshAccount
+          run-has q o (omega (arith, there, g.together.sizes.pools)) small (run-few ss hs t c g) hist (st q o) fresh_account
           (record { takers = refl; steps = refl }) (λ n i e. absurd (unknown q o n i e)) (right q o there) n i e;
     })

@@ -9,18 +9,18 @@ use Rattle.library.specs.declared.calls.Step.{Step}
 use Rattle.library.specs.declared.tables.Tables.{Tables}
 use Rattle.promises.specs.Paper.World.{
   World,
-  noCall,
+  no_call,
   found,
   put,
-  threadTo,
-  readyWith,
-  madeReady,
-  callEnded,
+  thread_to,
+  ready_with,
+  made_ready,
+  call_ended,
   ended,
   asleep,
-  fallAsleep,
+  fall_asleep,
 }
-use Rattle.promises.specs.Paper.Rows.{TickOf, Ticks, pendingTo, tookFlags, flagged, EventSignal}
+use Rattle.promises.specs.Paper.Rows.{TickOf, Ticks, pending_to, took_flags, flagged, EventSignal}
 use Rattle.promises.specs.Paper.Waking.{IsMailing, Tried}
 use Rattle.promises.specs.Runs.Keeping.{put_same, put_other, Moves, Keeps}
 use Rattle.promises.specs.Runs.OneRow.{mail-other}
@@ -35,7 +35,7 @@ module _ (t : Tables) (s : Step) where
   -- what a move may do to a call: nothing, end it, or begin one that the step tries
   data CallAfter (c d : Call) : Type 0 where
     same : d ≡ c → CallAfter c d
-    none : d ≡ noCall → CallAfter c d
+    none : d ≡ no_call → CallAfter c d
     begun : (IsMailing d.kind → Tried t s d.kind d.object) → CallAfter c d
 
   kept_on : (w x : World) → x.sizes ≡ w.sizes → ((j : ℕ) → CallAfter (w.thread j).call (x.thread j).call) → Kept w → Kept x
@@ -61,26 +61,26 @@ module _ (t : Tables) (s : Step) where
   ended-kept w r m d =
       kept_on w (ended w r m d) refl
       (λ j. split (eqb r 255) (λ e. CallAfter.same (rw e))
-      (λ e. rw e (row_kept w.thread r (callEnded (w.thread r) m d) (CallAfter.none refl) j)))
+      (λ e. rw e (row_kept w.thread r (call_ended (w.thread r) m d) (CallAfter.none refl) j)))
 
-  thread-kept : (w : World) (i : ℕ) (u : Thread) → CallAfter (w.thread i).call u.call → Kept w → Kept (threadTo w i u)
-  thread-kept w i u h = kept_on w (threadTo w i u) refl (row_kept w.thread i u h)
+  thread-kept : (w : World) (i : ℕ) (u : Thread) → CallAfter (w.thread i).call u.call → Kept w → Kept (thread_to w i u)
+  thread-kept w i u h = kept_on w (thread_to w i u) refl (row_kept w.thread i u h)
 
-  ready-kept : (w : World) (i : ℕ) (m : ℤ) (c : ℕ) → Kept w → Kept (madeReady w i m c)
+  ready-kept : (w : World) (i : ℕ) (m : ℤ) (c : ℕ) → Kept w → Kept (made_ready w i m c)
   ready-kept w i m c =
-      kept_on w (madeReady w i m c) refl (row_kept w.thread i (readyWith (w.thread i) m c w.step) (CallAfter.same refl))
+      kept_on w (made_ready w i m c) refl (row_kept w.thread i (ready_with (w.thread i) m c w.step) (CallAfter.same refl))
 
   sleep-kept : (w : World) (i st pl : ℕ) (c : Call) → (IsMailing c.kind → Tried t s c.kind c.object) → Kept w
-      → Kept (fallAsleep w i st pl c)
-  sleep-kept w i st pl c h = kept_on w (fallAsleep w i st pl c) refl (row_kept w.thread i (asleep (w.thread i) st pl c) (CallAfter.begun h))
+      → Kept (fall_asleep w i st pl c)
+  sleep-kept w i st pl c h = kept_on w (fall_asleep w i st pl c) refl (row_kept w.thread i (asleep (w.thread i) st pl c) (CallAfter.begun h))
 
-  took-kept : (w : World) (i a : ℕ) → Kept w → Kept (tookFlags w i a)
+  took-kept : (w : World) (i a : ℕ) → Kept w → Kept (took_flags w i a)
   took-kept w i a k =
-      let u : Thread = pendingTo (w.thread i) ((w.thread i).pending - bit_and (w.thread i).pending a) in
-      ended-kept (threadTo w i u) i (pos 0) (bit_and (w.thread i).pending a) (thread-kept w i u (CallAfter.same refl) k)
+      let u : Thread = pending_to (w.thread i) ((w.thread i).pending - bit_and (w.thread i).pending a) in
+      ended-kept (thread_to w i u) i (pos 0) (bit_and (w.thread i).pending a) (thread-kept w i u (CallAfter.same refl) k)
 
   flag-kept : (w : World) (i a : ℕ) → Kept w → Kept (flagged w i a)
-  flag-kept w i a = thread-kept w i (pendingTo (w.thread i) (bit_or (w.thread i).pending a)) (CallAfter.same refl)
+  flag-kept w i a = thread-kept w i (pending_to (w.thread i) (bit_or (w.thread i).pending a)) (CallAfter.same refl)
 
   to-kept : {x y : World} → x ≡ y → Kept y → Kept x
   to-kept e k = subst Kept (sym e) k

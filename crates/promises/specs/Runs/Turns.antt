@@ -7,8 +7,8 @@ use Rattle.kernel.specs.declared.records.Call.{Call}
 use Rattle.kernel.specs.declared.records.Thread.{Thread}
 use Rattle.kernel.proofs.Cases.{split, same_or, in-or-out, contrary}
 use Rattle.library.specs.declared.tables.Mailbox.{Mailbox}
-use Rattle.promises.specs.Paper.World.{World, threadTo, boxTo, poolTo, readyWith, madeReady, ended, asleep, fallAsleep, Highest, First}
-use Rattle.promises.specs.Paper.Rows.{Waits, Release, pendingTo, slots_of, Post, Fetch}
+use Rattle.promises.specs.Paper.World.{World, thread_to, box_to, pool_to, ready_with, made_ready, ended, asleep, fall_asleep, Highest, First}
+use Rattle.promises.specs.Paper.Rows.{Waits, Release, pending_to, slots_of, Post, Fetch}
 use Rattle.promises.specs.Paper.Settling.{Continued}
 use Rattle.promises.specs.Paper.Waking.{IsPost, IsMailing}
 use Rattle.promises.specs.Meant.Only.{first-only}
@@ -17,9 +17,9 @@ use Rattle.promises.specs.Runs.OneRow.{ended-other, ended-own, ended-state, mail
 
 -- ---- the two sides of a mailbox: true is the readers', false the writers'
 
-abbrev pub sideAt : Bool → ℕ → ℕ
-sideAt true b = 32 + b
-sideAt false b = 28 + b
+abbrev pub side_at : Bool → ℕ → ℕ
+side_at true b = 32 + b
+side_at false b = 28 + b
 
 -- a call on a side of the mailbox b
 abbrev pub CallsOn : Bool → ℕ → Call → Type 0
@@ -71,7 +71,7 @@ pub record Mails (w : World) : Type 0 where
   pub few : w.sizes.threads ≤ 16
   pub boxes : (l : ℕ) → l < w.sizes.threads → (side : Bool) (b : ℕ) → CallsOn side b (w.thread l).call
       → (b < 4) × ((w.box b).positions.count ≤ slots_of w b)
-  pub seats : (l : ℕ) → l < w.sizes.threads → (that : Bool) (d : ℕ) → d < 4 → WaitsAt w (sideAt that d) l → CallsOn that d (w.thread l).call
+  pub seats : (l : ℕ) → l < w.sizes.threads → (that : Bool) (d : ℕ) → d < 4 → WaitsAt w (side_at that d) l → CallsOn that d (w.thread l).call
 
 -- ---- one turn
 
@@ -81,10 +81,10 @@ pub data Went (w v : World) (i : ℕ) : Type 0 where
   alone : (u : World) (m : ℤ) (d : ℕ) → u.sizes ≡ w.sizes → u.woken ≡ w.woken → (u.thread i).state ≡ 0 → ((l : ℕ) → l ≢ i → u.thread l ≡ w.thread l)
       → v ≡ ended u i m d → Went w v i
   -- it ends, and thread j is served, at the other side of its mailbox, which becomes y
-  serves : (side : Bool) (b j o d : ℕ) (y : Mailbox) → CallsOn side b (w.thread i).call → Highest w (sideAt (not side) b) j
-      → Finds (not side) y (slots_of w b) → v ≡ ended (boxTo (madeReady w j (pos 0) o) b y) i (pos 0) d → Went w v i
+  serves : (side : Bool) (b j o d : ℕ) (y : Mailbox) → CallsOn side b (w.thread i).call → Highest w (side_at (not side) b) j
+      → Finds (not side) y (slots_of w b) → v ≡ ended (box_to (made_ready w j (pos 0) o) b y) i (pos 0) d → Went w v i
   sleeps : (side : Bool) (b : ℕ) → CallsOn side b (w.thread i).call → (w.thread i).message ≡ pos 0 → Lacks side (w.box b) (slots_of w b)
-      → v ≡ fallAsleep w i 3 (sideAt side b) (w.thread i).call → Went w v i
+      → v ≡ fall_asleep w i 3 (side_at side b) (w.thread i).call → Went w v i
 
 module _ (w : World) (i : ℕ) (is-ready : (w.thread i).state ≡ 0) where
   abbrev c : Call
@@ -95,14 +95,14 @@ module _ (w : World) (i : ℕ) (is-ready : (w.thread i).state ≡ 0) where
 
   -- it serves the other side, with or without a waiter there
   served : {v x : World} (side : Bool) (b : ℕ) → CallsOn side b c → (y : Mailbox) → Finds (not side) y (slots_of w b) → (o d : ℕ)
-      → Release w (sideAt (not side) b) (pos 0) o v → x ≡ ended (boxTo v b y) i (pos 0) d → Went w x i
+      → Release w (side_at (not side) b) (pos 0) o v → x ≡ ended (box_to v b y) i (pos 0) d → Went w x i
   served side b mine y finds o d (Release.first j h e) r =
-      Went.serves side b j o d y mine h finds (r ∙ ap (λ (q : World). ended (boxTo q b y) i (pos 0) d) e)
+      Went.serves side b j o d y mine h finds (r ∙ ap (λ (q : World). ended (box_to q b y) i (pos 0) d) e)
   served side b mine y finds o d (Release.nobody h e) r =
-      Went.alone (boxTo w b y) (pos 0) d refl refl is-ready (λ l n. refl) (r ∙ ap (λ (q : World). ended (boxTo q b y) i (pos 0) d) e)
+      Went.alone (box_to w b y) (pos 0) d refl refl is-ready (λ l n. refl) (r ∙ ap (λ (q : World). ended (box_to q b y) i (pos 0) d) e)
 
   waits : {x : World} (side : Bool) (b : ℕ) → CallsOn side b c → (w.thread i).message ≡ pos 0 → Lacks side (w.box b) (slots_of w b)
-      → Waits w i 3 (sideAt side b) c x → Went w x i
+      → Waits w i 3 (side_at side b) c x → Went w x i
   waits side b mine m l (Waits.now a e) = plainly _ 0 e
   waits side b mine m l (Waits.later a e) = Went.sleeps side b mine m l e
 
@@ -118,16 +118,16 @@ module _ (w : World) (i : ℕ) (is-ready : (w.thread i).state ≡ 0) where
   fetches q k m (Fetch.no-message a l h) = waits true c.object (k, refl) m l h
 
   -- its own record changes before its call ends
-  changed : {x : World} (u : Thread) (m : ℤ) (d : ℕ) → u.state ≡ 0 → x ≡ ended (threadTo w i u) i m d → Went w x i
+  changed : {x : World} (u : Thread) (m : ℤ) (d : ℕ) → u.state ≡ 0 → x ≡ ended (thread_to w i u) i m d → Went w x i
   changed u m d z e =
-      Went.alone (threadTo w i u) m d refl refl (ap (λ (r : Thread). r.state) (put_same w.thread i u) ∙ z) (λ l n. put_other w.thread i l u n) e
+      Went.alone (thread_to w i u) m d refl refl (ap (λ (r : Thread). r.state) (put_same w.thread i u) ∙ z) (λ l n. put_other w.thread i l u n) e
 
   -- WHAT A TURN LEAVES
   pub went : {x : World} → (c.kind ≡ 17 → (w.box c.object).positions.count ≤ slots_of w c.object) → Continued w i x → Went w x i
-  went q (Continued.flags k m e) = changed (pendingTo (w.thread i) _) (pos 0) _ is-ready e
+  went q (Continued.flags k m e) = changed (pending_to (w.thread i) _) (pos 0) _ is-ready e
   went q (Continued.posts k m h) = posts k m h
   went q (Continued.fetches k m h) = fetches (q k) k m h
-  went q (Continued.takes k m e) = Went.alone (poolTo w c.object _) (pos 0) _ refl refl is-ready (λ l n. refl) e
+  went q (Continued.takes k m e) = Went.alone (pool_to w c.object _) (pos 0) _ refl refl is-ready (λ l n. refl) e
   went q (Continued.answers h e) = plainly _ 0 e
 
 -- ---- who was woken
@@ -185,16 +185,16 @@ module _ (n : ℕ) (w : World) (i : ℕ) (within : i < n) (g : Mails w) (f : Fir
       )
 
   -- thread j is served
-  module _ (side : Bool) (b j o d : ℕ) (y : Mailbox) (mine : CallsOn side b (w.thread i).call) (h : Highest w (sideAt (not side) b) j)
+  module _ (side : Bool) (b j o d : ℕ) (y : Mailbox) (mine : CallsOn side b (w.thread i).call) (h : Highest w (side_at (not side) b) j)
       (finds : Finds (not side) y (slots_of w b)) where
     abbrev u : World
-    u = boxTo (madeReady w j (pos 0) o) b y
+    u = box_to (made_ready w j (pos 0) o) b y
 
     abbrev v : World
     v = ended u i (pos 0) d
 
     abbrev r : Thread
-    r = readyWith (w.thread j) (pos 0) o w.step
+    r = ready_with (w.thread j) (pos 0) o w.step
 
     apart : i ≢ j
     apart e = queued-asleep h.waits.0 (subst (λ (l : ℕ). (w.thread l).state ≡ 0) e f.is-ready)
@@ -242,13 +242,13 @@ module _ (n : ℕ) (w : World) (i : ℕ) (within : i < n) (g : Mails w) (f : Fir
   fresh side b mine m lack (Sure.over j l z q) = f.first j l z
 
   sleeps-fair : (side : Bool) (b : ℕ) → CallsOn side b (w.thread i).call → (w.thread i).message ≡ pos 0 → Lacks side (w.box b) (slots_of w b) → (x : World)
-      → x ≡ fallAsleep w i 3 (sideAt side b) (w.thread i).call → Fair n x × ((x.thread i).state ≢ 0 → w.woken i ≡ false)
+      → x ≡ fall_asleep w i 3 (side_at side b) (w.thread i).call → Fair n x × ((x.thread i).state ≢ 0 → w.woken i ≡ false)
   sleeps-fair side b mine m lack x e =
-      let v : World = fallAsleep w i 3 (sideAt side b) (w.thread i).call in
+      let v : World = fall_asleep w i 3 (side_at side b) (w.thread i).call in
       subst (λ (y : World). Fair n y × ((y.thread i).state ≢ 0 → w.woken i ≡ false)) (sym e) (
         λ k l a.
             same_or k i (λ q. contrary (subst (λ (j : ℕ). w.woken j ≡ true) q a) unwoken)
-            (λ q. stays v (λ l d z. put_other w.thread i l (asleep (w.thread i) 3 (sideAt side b) (w.thread i).call) d) k q (fair k l a)),
+            (λ q. stays v (λ l d z. put_other w.thread i l (asleep (w.thread i) 3 (side_at side b) (w.thread i).call) d) k q (fair k l a)),
         λ a. unwoken,
       )
     where

@@ -10,12 +10,12 @@ use Rattle.kernel.proofs.CountersLaws.{below_more, top-not-below}
 use Rattle.library.specs.declared.calls.Step.{Step}
 use Rattle.library.specs.declared.tables.Tables.{Tables}
 use Rattle.steps.specs.Stepping.{stepped}
-use Rattle.promises.specs.Paper.World.{World, found, madeReady, Highest}
+use Rattle.promises.specs.Paper.World.{World, found, made_ready, Highest}
 use Rattle.promises.specs.Paper.Host.{Host}
 use Rattle.promises.specs.Paper.Rows.{Signal, BinarySignal, Act}
-use Rattle.promises.specs.Paper.Together.{number, isQueued, SemaphoreFits}
-use Rattle.promises.specs.Paper.Waking.{rowOf, inMask, Served, CalledOut, WokenBy, SleeperAfter, OwnWait, WakerAfter}
-use Rattle.promises.specs.Paper.Run.{signalsAt, joins_at, higher, TurnOf}
+use Rattle.promises.specs.Paper.Together.{number, is_queued, SemaphoreFits}
+use Rattle.promises.specs.Paper.Waking.{row_of, in_mask, Served, CalledOut, WokenBy, SleeperAfter, OwnWait, WakerAfter}
+use Rattle.promises.specs.Paper.Run.{signals_at, joins_at, higher, TurnOf}
 use Rattle.promises.specs.Together.Tests.{either-means}
 use Rattle.promises.specs.Runs.Keeping.{put_same, queued-asleep}
 use Rattle.promises.specs.Runs.Accepted.{together, semaphore-there, pool-there, x₀, act}
@@ -59,16 +59,16 @@ module _ (t : Tables) (c : Clock) (s : Step) (host : Host t c s) (e : (stepped t
 
   -- ---- a signal wakes the first
 
-  module _ (p i : ℕ) (within : i < n) (queued : (rowOf t i).state ≡ 3) (place : (rowOf t i).place ≡ p) where
-    waits : isQueued (found t) p i ≡ true
+  module _ (p i : ℕ) (within : i < n) (queued : (row_of t i).state ≡ 3) (place : (row_of t i).place ≡ p) where
+    waits : is_queued (found t) p i ≡ true
     waits = rw (queued, place, eq-eqb p p refl)
 
     -- the first of the waiters at p, which is i or is above it, and is woken
     pub record FirstWoken : Type 0 where
       pub first : ℕ
       pub above : first ≤ i
-      pub waited : isQueued (found t) p first ≡ true
-      pub woken : inMask first (stepped t c s).outcome.woken ≡ true
+      pub waited : is_queued (found t) p first ≡ true
+      pub woken : in_mask first (stepped t c s).outcome.woken ≡ true
 
     found_first : (j : ℕ) → Highest (found t) p j → (x₀ t c s host e).woken j ≡ true → FirstWoken
     found_first j h w =
@@ -79,7 +79,7 @@ module _ (t : Tables) (c : Clock) (s : Step) (host : Host t c s) (e : (stepped t
           woken = woken-seen t c s host e j w;
         }
 
-    woken-in : (v x : World) (j : ℕ) (m : ℤ) (o : ℕ) (w : World) → v ≡ madeReady w j m o → x.woken ≡ v.woken → x.woken j ≡ true
+    woken-in : (v x : World) (j : ℕ) (m : ℤ) (o : ℕ) (w : World) → v ≡ made_ready w j m o → x.woken ≡ v.woken → x.woken j ≡ true
     woken-in v x j m o w a b = ap (λ (f : ℕ → Bool). f j) b ∙ ap (λ (y : World). y.woken j) a ∙ put_same w.woken j true
 
     of-signal : (v : World) {b : Bool} → lt_z ((found t).counter p) (pos 0) ≡ true → Signal (found t) p v b → (x₀ t c s host e).woken ≡ v.woken → FirstWoken
@@ -99,12 +99,12 @@ module _ (t : Tables) (c : Clock) (s : Step) (host : Host t c s) (e : (stepped t
       added : 16 + s.object ≡ p → s.object < t.sizes.pools → SignalRow 22
 
     low : s.object ≡ p → s.object < t.sizes.semaphores → lt_z ((found t).counter p) (pos 0) ≡ true
-    low o l = owes ((together t c s host e).semaphores p (rw o at l)) (number-some (isQueued (found t) p) n i within waits)
+    low o l = owes ((together t c s host e).semaphores p (rw o at l)) (number-some (is_queued (found t) p) n i within waits)
 
     low-pool : 16 + s.object ≡ p → s.object < t.sizes.pools → lt_z ((found t).counter p) (pos 0) ≡ true
     low-pool o l =
-        owes (subst (λ (r : ℕ). SemaphoreFits ((found t).counter r) (number (isQueued (found t) r) n)) o ((together t c s host e).pool-counters s.object l))
-        (number-some (isQueued (found t) p) n i within waits)
+        owes (subst (λ (r : ℕ). SemaphoreFits ((found t).counter r) (number (is_queued (found t) r) n)) o ((together t c s host e).pool-counters s.object l))
+        (number-some (is_queued (found t) p) n i within waits)
 
     by_row : {k : ℕ} {x : World} → SignalRow k → Act t c.time s x k → x₀ t c s host e ≡ x → FirstWoken
     by_row (SignalRow.plain o l) (Act.signal v b h q) z =
@@ -124,7 +124,7 @@ module _ (t : Tables) (c : Clock) (s : Step) (host : Host t c s) (e : (stepped t
     at_row {k} z r = by_row r (subst (λ (m : ℕ). Act t c.time s (x₀ t c s host e) m) z (act t c s host e)) refl
 
     -- "the highest-priority waiter is made ready with 0"
-    pub signal-wakes : signalsAt p t s ≡ true → FirstWoken
+    pub signal-wakes : signals_at p t s ≡ true → FirstWoken
     signal-wakes g =
         elim (either-means (eqb s.kind 3 && eqb s.object p) _ g) [
           | inl a ↦
@@ -154,10 +154,10 @@ module _ (t : Tables) (c : Clock) (s : Step) (host : Host t c s) (e : (stepped t
 
   module _ (p : ℕ) (near : p < 20) where
     -- thread j queued at p
-    queued-at : (w : Tables) (j : ℕ) → isQueued (found w) p j ≡ true → ((rowOf w j).state ≡ 3) × ((rowOf w j).place ≡ p)
+    queued-at : (w : Tables) (j : ℕ) → is_queued (found w) p j ≡ true → ((row_of w j).state ≡ 3) × ((row_of w j).place ≡ p)
     queued-at w j g =
-        let b = both-means (eqb (rowOf w j).state 3) (eqb (rowOf w j).place p) g in
-        (eqb-true (rowOf w j).state 3 b.0, eqb-true (rowOf w j).place p b.1)
+        let b = both-means (eqb (row_of w j).state 3) (eqb (row_of w j).place p) g in
+        (eqb-true (row_of w j).state 3 b.0, eqb-true (row_of w j).place p b.1)
 
     -- the wait of the step's own call, as `joins_at` has it
     joins : (i : ℕ) → s.caller < i → {q : ℕ} → OwnWait s 3 q → q ≡ p → joins_at p i s ≡ true
@@ -169,54 +169,54 @@ module _ (t : Tables) (c : Clock) (s : Step) (host : Host t c s) (e : (stepped t
 
     module _ (i : ℕ) (within : i < n) (none : joins_at p i s ≡ false) where
       -- who waits at p above i after the step waited there before it
-      stayed : (j : ℕ) → j < i → isQueued (found u) p j ≡ true → isQueued (found t) p j ≡ true
+      stayed : (j : ℕ) → j < i → is_queued (found u) p j ≡ true → is_queued (found t) p j ≡ true
       stayed j l g =
           let q = queued-at u j g in
-          same_or (rowOf t j).state 0 (λ z. absurd (ready-before q (waker-after t c s host e j (omega arith) z)))
+          same_or (row_of t j).state 0 (λ z. absurd (ready-before q (waker-after t c s host e j (omega arith) z)))
           (λ d. slept q (sleeper-after t c s host e j (omega arith) d))
         where
-          ready-before : ((rowOf u j).state ≡ 3) × ((rowOf u j).place ≡ p) → {b : Bool} → WakerAfter t s j (rowOf u j) b → ⊥
+          ready-before : ((row_of u j).state ≡ 3) × ((row_of u j).place ≡ p) → {b : Bool} → WakerAfter t s j (row_of u j) b → ⊥
           ready-before q (WakerAfter.unwoken z w) = queued-asleep q.0 z
           ready-before q (WakerAfter.own-sleep a st pl o h) =
               contrary (joins i (omega (arith, a, l)) (h q.0 (omega (arith, near, q.1))) q.1) none
           ready-before q (WakerAfter.tried-again a m h) = h q.0 (omega (arith, near, q.1))
 
-          slept : ((rowOf u j).state ≡ 3) × ((rowOf u j).place ≡ p) → {a b : Bool} → SleeperAfter t s j (rowOf u j) a b
-              → isQueued (found t) p j ≡ true
+          slept : ((row_of u j).state ≡ 3) × ((row_of u j).place ≡ p) → {a b : Bool} → SleeperAfter t s j (row_of u j) a b
+              → is_queued (found t) p j ≡ true
           slept q (SleeperAfter.on u x w f) =
-              let st : (rowOf t j).state ≡ 3 = sym (ap (λ (r : Thread). r.state) x) ∙ q.0 in
-              let pl : (rowOf t j).place ≡ p = sym (ap (λ (r : Thread). r.place) x) ∙ q.1 in
+              let st : (row_of t j).state ≡ 3 = sym (ap (λ (r : Thread). r.state) x) ∙ q.0 in
+              let pl : (row_of t j).place ≡ p = sym (ap (λ (r : Thread). r.place) x) ∙ q.1 in
               rw (st, pl, eq-eqb p p refl)
           slept q (SleeperAfter.ready m o b x w f) = absurd (queued-asleep q.0 (ap (λ (r : Thread). r.state) x))
           slept q (SleeperAfter.done m y o v f b g x w z) = absurd (queued-asleep q.0 (ap (λ (r : Thread). r.state) x))
 
       -- with a signal there is one fewer
-      module _ (queued : (rowOf t i).state ≡ 3) (place : (rowOf t i).place ≡ p) (unwoken : inMask i (stepped t c s).outcome.woken ≡ false) where
-        gone : (w : FirstWoken p i within queued place) → isQueued (found u) p w.first ≡ false
+      module _ (queued : (row_of t i).state ≡ 3) (place : (row_of t i).place ≡ p) (unwoken : in_mask i (stepped t c s).outcome.woken ≡ false) where
+        gone : (w : FirstWoken p i within queued place) → is_queued (found u) p w.first ≡ false
         gone w =
             let j = w.first in
             let q = queued-at t j w.waited in
             by (sleeper-after t c s host e j (omega (arith, w.above)) (λ z. absurd (omega (arith, z, q.0)))) w.woken
           where
-            by : {j : ℕ} {a b : Bool} → SleeperAfter t s j (rowOf u j) a b → a ≡ true → isQueued (found u) p j ≡ false
+            by : {j : ℕ} {a b : Bool} → SleeperAfter t s j (row_of u j) a b → a ≡ true → is_queued (found u) p j ≡ false
             by (SleeperAfter.on u x v f) w = contrary w v
             by (SleeperAfter.ready m o b x v f) w = rw (ap (λ (r : Thread). r.state) x)
             by (SleeperAfter.done m y o d f b g x v z) w = rw (ap (λ (r : Thread). r.state) x)
 
-        pub turns-on : higher u p i + cond (signalsAt p t s) 1 0 ≤ higher t p i
+        pub turns-on : higher u p i + cond (signals_at p t s) 1 0 ≤ higher t p i
         turns-on =
-            split (signalsAt p t s)
+            split (signals_at p t s)
             (λ g.
             let w = signal-wakes p i within queued place g in
             let d : w.first ≢ i = λ z. contrary (rw z at w.woken) unwoken in
-            rw g (number-less (isQueued (found t) p) (isQueued (found u) p) i w.first stayed (omega (arith, w.above, d)) w.waited (gone w)))
-            (λ g. rw g (omega (arith, number-le (isQueued (found t) p) (isQueued (found u) p) i stayed)))
+            rw g (number-less (is_queued (found t) p) (is_queued (found u) p) i w.first stayed (omega (arith, w.above, d)) w.waited (gone w)))
+            (λ g. rw g (omega (arith, number-le (is_queued (found t) p) (is_queued (found u) p) i stayed)))
 
         -- it waits on
-        pub waits-on : ((rowOf u i).state ≡ 3) × ((rowOf u i).place ≡ p)
+        pub waits-on : ((row_of u i).state ≡ 3) × ((row_of u i).place ≡ p)
         waits-on = by (sleeper-after t c s host e i within (λ z. absurd (omega (arith, z, queued)))) unwoken
           where
-            by : {a b : Bool} → SleeperAfter t s i (rowOf u i) a b → a ≡ false → ((rowOf u i).state ≡ 3) × ((rowOf u i).place ≡ p)
+            by : {a b : Bool} → SleeperAfter t s i (row_of u i) a b → a ≡ false → ((row_of u i).state ≡ 3) × ((row_of u i).place ≡ p)
             by (SleeperAfter.on u x v f) w = (ap (λ (r : Thread). r.state) x ∙ queued, ap (λ (r : Thread). r.place) x ∙ place)
             by (SleeperAfter.ready m o b x v f) w = contrary v w
             by (SleeperAfter.done m y o d f b g x v z) w = contrary v w

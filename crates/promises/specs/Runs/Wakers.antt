@@ -5,9 +5,9 @@ use Rattle.kernel.specs.declared.records.Call.{Call}
 use Rattle.kernel.specs.declared.records.Thread.{Thread}
 use Rattle.library.specs.declared.calls.Step.{Step}
 use Rattle.library.specs.declared.tables.Tables.{Tables}
-use Rattle.promises.specs.Paper.World.{World, noCall, found, readyWith, callEnded, asleep}
-use Rattle.promises.specs.Paper.Rows.{pendingTo}
-use Rattle.promises.specs.Paper.Waking.{rowOf, IsMailing, OwnWait, WakerAfter, SideOf}
+use Rattle.promises.specs.Paper.World.{World, no_call, found, ready_with, call_ended, asleep}
+use Rattle.promises.specs.Paper.Rows.{pending_to}
+use Rattle.promises.specs.Paper.Waking.{row_of, IsMailing, OwnWait, WakerAfter, SideOf}
 use Rattle.promises.specs.Runs.Keeping.{queued-asleep, Keeps}
 use Rattle.promises.specs.Runs.OneRow.{mail-other, Stands, Steady, row_keeps}
 use Rattle.promises.specs.Runs.Passing.{Passed, found_passed, ticks-passed, events-passed}
@@ -17,13 +17,13 @@ side-far : {c : Call} {q : ℕ} → SideOf c q → q < 20 → ⊥
 side-far (SideOf.writers e) h = omega arith
 side-far (SideOf.readers e) h = omega arith
 
-module _ (t : Tables) (s : Step) (i : ℕ) (someone : i ≢ 255) (was-ready : (rowOf t i).state ≡ 0) (no-ticks : (rowOf t i).remaining ≡ 0) where
+module _ (t : Tables) (s : Step) (i : ℕ) (someone : i ≢ 255) (was-ready : (row_of t i).state ≡ 0) (no-ticks : (row_of t i).remaining ≡ 0) where
   abbrev b : Thread
-  b = rowOf t i
+  b = row_of t i
 
   -- how it stands: ready still, not woken, and its call is what it was or has ended; or asleep in this step, and perhaps woken again
   pub data Calm (r : Thread) (woken : Bool) : Type 0 where
-    ready : r.state ≡ 0 → woken ≡ false → r.remaining ≡ 0 → ((r.call ≡ b.call) × (r.message ≡ b.message)) ⊎ (r.call ≡ noCall)
+    ready : r.state ≡ 0 → woken ≡ false → r.remaining ≡ 0 → ((r.call ≡ b.call) × (r.message ≡ b.message)) ⊎ (r.call ≡ no_call)
         → Calm r woken
     own : s.caller ≡ i → (st pl : ℕ) → OwnWait s st pl → (r.state ≡ 3 → r.place < 20 → OwnWait s 3 r.place) → Calm r woken
     tried : IsMailing b.call.kind → b.message ≡ pos 0 → (r.state ≡ 3 → r.place < 20 → ⊥) → Calm r woken
@@ -41,13 +41,13 @@ module _ (t : Tables) (s : Step) (i : ℕ) (someone : i ≢ 255) (was-ready : (r
 
   module _ {r : Thread} {w : Bool} where
     -- its call ends: it stays where it is
-    ended-calm : (m : ℤ) (d g : ℕ) → Calm r w → Calm (callEnded (pendingTo r g) m d) w
+    ended-calm : (m : ℤ) (d g : ℕ) → Calm r w → Calm (call_ended (pending_to r g) m d) w
     ended-calm m d g (Calm.ready z u k c) = Calm.ready z u k (inr refl)
     ended-calm m d g (Calm.own c st pl o h) = Calm.own c st pl o h
     ended-calm m d g (Calm.tried x e h) = Calm.tried x e h
 
     -- it is woken, if it fell asleep before
-    woken-calm : (m : ℤ) (o v : ℕ) → r.state ≢ 0 → Calm r w → Calm (readyWith r m o v) true
+    woken-calm : (m : ℤ) (o v : ℕ) → r.state ≢ 0 → Calm r w → Calm (ready_with r m o v) true
     woken-calm m x v n (Calm.ready z u k c) = absurd (n z)
     woken-calm m x v n (Calm.own c st pl o h) = Calm.own c st pl o (λ e. absurd (queued-asleep e refl))
     woken-calm m x v n (Calm.tried g k h) = Calm.tried g k (λ e. absurd (queued-asleep e refl))

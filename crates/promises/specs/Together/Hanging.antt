@@ -9,29 +9,29 @@ use Rattle.kernel.specs.declared.records.Thread.{Thread}
 use Rattle.kernel.specs.declared.records.Kernel.{Kernel}
 use Rattle.kernel.specs.declared.units.Rate.{Rate}
 use Rattle.kernel.specs.Numbers.{nobody}
-use Rattle.kernel.specs.Places.{poolPlace, queuePlace, writersPlace, readersPlace}
-use Rattle.kernel.specs.Records.{blank, freshRecords, begun}
-use Rattle.kernel.specs.Tables.{usedRows, threadAt, counterAt}
-use Rattle.kernel.specs.Units.{frequencyOf, frequencyFits}
+use Rattle.kernel.specs.Places.{pool_place, queue_place, writers_place, readers_place}
+use Rattle.kernel.specs.Records.{blank, fresh_records, begun}
+use Rattle.kernel.specs.Tables.{used_rows, thread_at, counter_at}
+use Rattle.kernel.specs.Units.{frequency_of, frequency_fits}
 use Rattle.kernel.specs.Walk.{count_of}
-use Rattle.kernel.specs.Waiters.{isReady, queued_at, firstReady, runningFree}
-use Rattle.kernel.specs.Words.{freshWords}
+use Rattle.kernel.specs.Waiters.{is_ready, queued_at, first_ready, running_free}
+use Rattle.kernel.specs.Words.{fresh_words}
 use Rattle.kernel.proofs.Cases.{split, both_true, both-means}
 use Rattle.kernel.proofs.WalkLaws.{count_none, all-at, all_of}
 use Rattle.kernel.proofs.WordsLaws.{word-all, word-agree, word_none}
 use Rattle.library.specs.declared.sizes.Sizes.{Sizes}
 use Rattle.library.specs.declared.tables.Plant.{Plant}
-use Rattle.library.specs.Sizes.{slotsAt, sizesFit}
-use Rattle.library.specs.Tables.{blankMailbox, blankPool, opened}
-use Rattle.library.specs.Fresh.{freshTables, freshClock, made}
+use Rattle.library.specs.Sizes.{slots_at, sizes_fit}
+use Rattle.library.specs.Tables.{blank_mailbox, blank_pool, opened}
+use Rattle.library.specs.Fresh.{fresh_tables, fresh_clock, made}
 use Rattle.library.proofs.RingLaws.{Fitting}
-use Rattle.rules.specs.RowRules.{rowFits, rowsFit}
-use Rattle.rules.specs.PlaceRules.{queuedCount, countersFit}
-use Rattle.rules.specs.ReferenceRules.{referencesFit}
-use Rattle.rules.specs.MailboxRules.{mailboxesFit}
-use Rattle.rules.specs.PoolRules.{occurrences, promisedBy, promisedCount, poolsFit}
-use Rattle.rules.specs.WordRules.{readyWord, waitingWord, wordsFit}
-use Rattle.rules.specs.Hanging.{hangsTogether}
+use Rattle.rules.specs.RowRules.{row_fits, rows_fit}
+use Rattle.rules.specs.PlaceRules.{queued_count, counters_fit}
+use Rattle.rules.specs.ReferenceRules.{references_fit}
+use Rattle.rules.specs.MailboxRules.{mailboxes_fit}
+use Rattle.rules.specs.PoolRules.{occurrences, promised_by, promised_count, pools_fit}
+use Rattle.rules.specs.WordRules.{ready_word, waiting_word, words_fit}
+use Rattle.rules.specs.Hanging.{hangs_together}
 use Rattle.promises.specs.Together.Tests.{used_all}
 use Rattle.promises.specs.Together.Good.{
   GoodSizes,
@@ -52,35 +52,35 @@ use Rattle.promises.specs.Together.BoxTests.{mailboxes-good, good-mailboxes, poo
 -- ---- the test and the statements
 
 module _ (k : Kernel) (z : Sizes) (s : GoodSizes z) where
-  rows-good : rowsFit k z ≡ true → (i : ℕ) → i < z.threads → GoodThread z (threadAt k i)
-  unfolding rowsFit
+  rows-good : rows_fit k z ≡ true → (i : ℕ) → i < z.threads → GoodThread z (thread_at k i)
+  unfolding rows_fit
   rows-good e i h =
-      row-good z (threadAt k i)
-      (all-at (λ i. rowFits (threadAt k i) z) z.threads i (rw (used_all 16 z.threads s.threads.1) at e) h)
+      row-good z (thread_at k i)
+      (all-at (λ i. row_fits (thread_at k i) z) z.threads i (rw (used_all 16 z.threads s.threads.1) at e) h)
 
-  good-rows : ((i : ℕ) → i < z.threads → GoodThread z (threadAt k i)) → rowsFit k z ≡ true
-  unfolding rowsFit
+  good-rows : ((i : ℕ) → i < z.threads → GoodThread z (thread_at k i)) → rows_fit k z ≡ true
+  unfolding rows_fit
   good-rows g =
       rw (used_all 16 z.threads s.threads.1)
-      (all_of (λ i. rowFits (threadAt k i) z) z.threads (λ i h. good-row z (threadAt k i) (g i h)))
+      (all_of (λ i. row_fits (thread_at k i) z) z.threads (λ i h. good-row z (thread_at k i) (g i h)))
 
 -- "1 to 1,000,000"
-frequency-good : (f : ℕ) → frequencyFits f ≡ true → (1 ≤ f) × (f ≤ 1000000)
+frequency-good : (f : ℕ) → frequency_fits f ≡ true → (1 ≤ f) × (f ≤ 1000000)
 frequency-good f e = let x = both-means (leb 1 f) (leb f 1000000) e in (leb-true 1 f x.0, leb-true f 1000000 x.1)
 
 module _ (p : Plant) (c : Clock) where
   -- tables that pass the test hang together
-  pub test-hangs : hangsTogether p c ≡ true → RulesHold p c
-  unfolding hangsTogether
+  pub test-hangs : hangs_together p c ≡ true → RulesHold p c
+  unfolding hangs_together
   test-hangs e =
-      let a = both-means (sizesFit p.sizes) _ e in
-      let b = both-means (frequencyFits c.frequency) _ a.1 in
-      let d = both-means (rowsFit p.kernel p.sizes) _ b.1 in
-      let f = both-means (countersFit p.kernel p.sizes) _ d.1 in
-      let g = both-means (referencesFit p.kernel p.sizes) _ f.1 in
-      let h = both-means (mailboxesFit p) _ g.1 in
-      let i = both-means (poolsFit p) _ h.1 in
-      let j = both-means (runningFree p.kernel) (wordsFit p.kernel p.sizes) i.1 in
+      let a = both-means (sizes_fit p.sizes) _ e in
+      let b = both-means (frequency_fits c.frequency) _ a.1 in
+      let d = both-means (rows_fit p.kernel p.sizes) _ b.1 in
+      let f = both-means (counters_fit p.kernel p.sizes) _ d.1 in
+      let g = both-means (references_fit p.kernel p.sizes) _ f.1 in
+      let h = both-means (mailboxes_fit p) _ g.1 in
+      let i = both-means (pools_fit p) _ h.1 in
+      let j = both-means (running_free p.kernel) (words_fit p.kernel p.sizes) i.1 in
       let s = sizes-good p.sizes a.0 in
       record {
         good = record {
@@ -93,12 +93,12 @@ module _ (p : Plant) (c : Clock) where
           words = words-good p.kernel p.sizes j.1;
         };
         frequency = frequency-good c.frequency b.0;
-        running = eqb-true (threadAt p.kernel (firstReady p.kernel)).call.kind 0 j.0;
+        running = eqb-true (thread_at p.kernel (first_ready p.kernel)).call.kind 0 j.0;
       }
 
   -- tables that hang together pass the test
-  pub hangs-test : RulesHold p c → hangsTogether p c ≡ true
-  unfolding hangsTogether
+  pub hangs-test : RulesHold p c → hangs_together p c ≡ true
+  unfolding hangs_together
   hangs-test g =
       let s = g.good.sizes in
       both_true (good-sizes p.sizes s)
@@ -108,11 +108,11 @@ module _ (p : Plant) (c : Clock) where
       (both_true (good-references p.kernel p.sizes s g.good.references)
       (both_true (good-mailboxes p s g.good.mailboxes)
       (both_true (good-pools p s g.good.pools)
-      (both_true (eq-eqb (threadAt p.kernel (firstReady p.kernel)).call.kind 0 g.running)
+      (both_true (eq-eqb (thread_at p.kernel (first_ready p.kernel)).call.kind 0 g.running)
       (good-words p.kernel p.sizes g.good.words))))))))
 
   -- the Bool test and the record of statements say the same
-  pub hangs-exactly : (hangsTogether p c ≡ true) ↔ RulesHold p c
+  pub hangs-exactly : (hangs_together p c ≡ true) ↔ RulesHold p c
   hangs-exactly = (test-hangs, hangs-test)
 
 -- ---- fresh tables
@@ -148,24 +148,24 @@ blank-good z =
 
 module _ (m : ℕ) where
   abbrev fresh : Kernel
-  fresh = begun (freshRecords (freshWords m))
+  fresh = begun (fresh_records (fresh_words m))
 
   -- nobody is queued anywhere
-  none-queued : (n p : ℕ) → queuedCount fresh n p ≡ 0
-  unfolding queuedCount
-  none-queued n p = count_none (λ i. queued_at p (threadAt fresh i)) (usedRows n) (λ i h. rw (all-blank 16 blank i))
+  none-queued : (n p : ℕ) → queued_count fresh n p ≡ 0
+  unfolding queued_count
+  none-queued n p = count_none (λ i. queued_at p (thread_at fresh i)) (used_rows n) (λ i h. rw (all-blank 16 blank i))
 
   -- nothing is promised
-  none-promised : (n q : ℕ) → promisedCount fresh n q ≡ 0
-  unfolding promisedCount
-  none-promised n q = count_none (λ i. promisedBy q (threadAt fresh i)) (usedRows n) (λ i h. rw (all-blank 16 blank i))
+  none-promised : (n q : ℕ) → promised_count fresh n q ≡ 0
+  unfolding promised_count
+  none-promised n q = count_none (λ i. promised_by q (thread_at fresh i)) (used_rows n) (λ i h. rw (all-blank 16 blank i))
 
   module _ (n p : ℕ) where
-    fresh-semaphore : SemaphoreCounter (counterAt fresh p) (queuedCount fresh n p)
+    fresh-semaphore : SemaphoreCounter (counter_at fresh p) (queued_count fresh n p)
     fresh-semaphore =
         record { waiters = λ l. absurd (omega (arith, none-queued n p)); none = λ h. rw (all-blank 36 (pos 0) p) }
 
-    fresh-queue : QueueCounter (counterAt fresh p) (queuedCount fresh n p)
+    fresh-queue : QueueCounter (counter_at fresh p) (queued_count fresh n p)
     fresh-queue =
         record { waiters = λ l. absurd (omega (arith, none-queued n p)); none = λ h. all-blank 36 (pos 0) p }
 
@@ -182,23 +182,23 @@ module _ (m : ℕ) where
 
   -- every bit of n threads' word is set, and nobody waits
   fresh-good-words : (z : Sizes) → z.threads ≡ m → GoodWords fresh z
-  unfolding readyWord waitingWord
+  unfolding ready_word waiting_word
   fresh-good-words z e =
       record {
         ready =
-            rw e (sym (word-all (usedRows m)) ∙ sym (word-agree (λ i. isReady (threadAt fresh i)) (λ i. true) (usedRows m)
+            rw e (sym (word-all (used_rows m)) ∙ sym (word-agree (λ i. is_ready (thread_at fresh i)) (λ i. true) (used_rows m)
             (λ i h. rw (all-blank 16 blank i))));
         waiting = λ p h u.
             all-blank 36 0 p
-            ∙ sym (word_none (λ i. queued_at p (threadAt fresh i)) (usedRows z.threads) (λ i l. rw (all-blank 16 blank i)));
+            ∙ sym (word_none (λ i. queued_at p (thread_at fresh i)) (used_rows z.threads) (λ i l. rw (all-blank 16 blank i)));
       }
 
 -- "mailboxes empty"
-fresh-mailbox : (slots : ℕ) → 1 ≤ slots → Fitting blankMailbox.positions slots
+fresh-mailbox : (slots : ℕ) → 1 ≤ slots → Fitting blank_mailbox.positions slots
 fresh-mailbox slots h = record { count = omega arith; read = h; write = h; follows = sym (zero-mod slots) }
 
 -- "pool objects absent"
-fresh-pool : GoodPool blankPool (pos 0) 0
+fresh-pool : GoodPool blank_pool (pos 0) 0
 unfolding occurrences count_of
 fresh-pool =
     record {
@@ -212,43 +212,43 @@ fresh-pool =
 
 module _ (z : Sizes) (s : GoodSizes z) where
   -- fresh tables are good
-  pub fresh-good : Good (opened (freshTables z))
+  pub fresh-good : Good (opened (fresh_tables z))
   fresh-good =
       record {
         sizes = s;
         counters = record {
           semaphores = λ i h. fresh-semaphore z.threads z.threads i;
-          pools = λ i h. fresh-semaphore z.threads z.threads (poolPlace i);
-          queues = λ i h. fresh-queue z.threads z.threads (queuePlace i);
-          writers = λ i h. fresh-queue z.threads z.threads (writersPlace i);
-          readers = λ i h. fresh-queue z.threads z.threads (readersPlace i);
+          pools = λ i h. fresh-semaphore z.threads z.threads (pool_place i);
+          queues = λ i h. fresh-queue z.threads z.threads (queue_place i);
+          writers = λ i h. fresh-queue z.threads z.threads (writers_place i);
+          readers = λ i h. fresh-queue z.threads z.threads (readers_place i);
         };
         references = fresh-references z.threads z s;
-        mailboxes = λ m h. rw (all-blank 4 blankMailbox m) (fresh-mailbox (slotsAt z m) (s.slots m h).0);
+        mailboxes = λ m h. rw (all-blank 4 blank_mailbox m) (fresh-mailbox (slots_at z m) (s.slots m h).0);
         pools = λ q h.
-            rw (all-blank 4 blankPool q, all-blank 36 (pos 0) (poolPlace q), none-promised z.threads z.threads q) fresh-pool;
+            rw (all-blank 4 blank_pool q, all-blank 36 (pos 0) (pool_place q), none-promised z.threads z.threads q) fresh-pool;
         threads = λ i h. rw (all-blank 16 blank i) (blank-good z);
         words = fresh-good-words z.threads z refl;
       }
 
 -- "Fresh tables pass": of every legal size, at every legal frequency
-pub fresh-hangs : (z : Sizes) (f : ℕ) → sizesFit z ≡ true → frequencyFits f ≡ true
-    → hangsTogether (opened (freshTables z)) (freshClock f) ≡ true
+pub fresh-hangs : (z : Sizes) (f : ℕ) → sizes_fit z ≡ true → frequency_fits f ≡ true
+    → hangs_together (opened (fresh_tables z)) (fresh_clock f) ≡ true
 fresh-hangs z f e h =
-    hangs-test (opened (freshTables z)) (freshClock f)
+    hangs-test (opened (fresh_tables z)) (fresh_clock f)
     (record {
       good = fresh-good z (sizes-good z e);
       frequency = frequency-good f h;
-      running = ap (λ (t : Thread). t.call.kind) (all-blank 16 blank (firstReady (fresh z.threads)));
+      running = ap (λ (t : Thread). t.call.kind) (all-blank 16 blank (first_ready (fresh z.threads)));
     })
 
 -- what `made` makes, it makes so that it passes
-pub made-hangs : (z : Sizes) (r : Rate) → (made z r).code ≡ 0 → hangsTogether (opened (made z r).tables) (made z r).clock ≡ true
+pub made-hangs : (z : Sizes) (r : Rate) → (made z r).code ≡ 0 → hangs_together (opened (made z r).tables) (made z r).clock ≡ true
 unfolding made
 made-hangs z r h =
-    split (sizesFit z)
+    split (sizes_fit z)
     (λ e.
-    split (frequencyFits (frequencyOf r))
-    (λ f. rw (e, f) (fresh-hangs z (frequencyOf r) e f))
+    split (frequency_fits (frequency_of r))
+    (λ f. rw (e, f) (fresh-hangs z (frequency_of r) e f))
     (λ f. absurd (omega (arith, rw (e, f) at h))))
     (λ e. absurd (omega (arith, rw e at h)))

@@ -5,7 +5,7 @@ use Rattle.std.proofs.Math.IntN.{+ℤ-neg_ℤ_cancel, -ℤ-+ℤ_cancel}
 use Rattle.std.proofs.lemmas.Bool.{not-true}
 use Rattle.kernel.proofs.Cases.{in-or-out, contrary, both-means}
 use Rattle.library.specs.Signs.{same}
-use Rattle.rules.specs.Limits.{usedOf}
+use Rattle.rules.specs.Limits.{used_of}
 
 -- of two tests one passes
 pub either-means : (a b : Bool) → a || b ≡ true → (a ≡ true) ⊎ (b ≡ true)
@@ -28,7 +28,7 @@ pub not-of : {a : Bool} → a ≡ false → not a ≡ true
 not-of e = rw e
 
 -- all n rows are in use where there are as many
-pub used_all : (rows n : ℕ) → n ≤ rows → usedOf rows n ≡ n
+pub used_all : (rows n : ℕ) → n ≤ rows → used_of rows n ≡ n
 used_all rows n h = in-or-out n rows (λ l. rw (lt-ltb n rows l)) (λ l. rw (le-ltb n rows l) (omega arith))
 
 -- neither of two numbers is below the other: they are equal

@@ -6,7 +6,7 @@ use Rattle.kernel.specs.declared.clock.Clock.{Clock}
 use Rattle.library.specs.declared.calls.Step.{Step}
 use Rattle.library.specs.declared.tables.Tables.{Tables}
 use Rattle.steps.specs.Stepping.{stepped}
-use Rattle.host.specs.Broken.{brokenNumber}
+use Rattle.host.specs.Broken.{broken_number}
 use Rattle.host.specs.Layout.{layout}
 use Rattle.promises.specs.Paper.World.{found}
 use Rattle.promises.specs.Paper.Host.{HostTables, Host}
@@ -18,20 +18,20 @@ use Rattle.promises.specs.Top.Demands.{demand-1}
 
 -- the number that nil_broken gives is the first broken rule and its first row, and no other number is
 pub broken-first : (t : Tables) (c : Clock) → HostTables t
-    → BrokenCall t c (brokenNumber t c) × ((n : ℕ) → BrokenCall t c n → n ≡ brokenNumber t c)
+    → BrokenCall t c (broken_number t c) × ((n : ℕ) → BrokenCall t c n → n ≡ broken_number t c)
 broken-first t c host =
     let is = broken-call-is t c host in
-    (is, λ n x. broken-call-one {n = n} {m = brokenNumber t c} x is)
+    (is, λ n x. broken-call-one {n = n} {m = broken_number t c} x is)
 
 -- it is 0 exactly where the tables hang together
-pub broken-none : (t : Tables) (c : Clock) → HostTables t → (brokenNumber t c ≡ 0) ↔ HangTogether (found t) t.kernel.words c
+pub broken-none : (t : Tables) (c : Clock) → HostTables t → (broken_number t c ≡ 0) ↔ HangTogether (found t) t.kernel.words c
 broken-none t c host = (
   λ e. (none-together t c host).0 (subst (BrokenCall t c) e (broken-call-is t c host)),
   λ h. sym ((broken-first t c host).1 0 ((none-together t c host).1 h)),
 )
 
 -- so a rule is told exactly where a step, whichever it is, is refused with 1
-pub broken-refused : (t : Tables) (c : Clock) (s : Step) → Host t c s → ((stepped t c s).outcome.code ≡ 1) ↔ (brokenNumber t c ≢ 0)
+pub broken-refused : (t : Tables) (c : Clock) (s : Step) → Host t c s → ((stepped t c s).outcome.code ≡ 1) ↔ (broken_number t c ≢ 0)
 broken-refused t c s host = (there, back)
   where
     one : ((stepped t c s).outcome.code ≡ 1) ↔ (Broken t c s 1 × ((m : ℕ) → m < 1 → Broken t c s m → ⊥))
@@ -40,13 +40,13 @@ broken-refused t c s host = (there, back)
     tables : Broken t c s 1 → HangTogether (found t) t.kernel.words c → ⊥
     tables (Broken.tables n) = n
 
-    there : (stepped t c s).outcome.code ≡ 1 → brokenNumber t c ≢ 0
+    there : (stepped t c s).outcome.code ≡ 1 → broken_number t c ≢ 0
     there e none = tables (one.0 e).0 ((broken-none t c host.tables).0 none)
 
     zeroth : Broken t c s 0 → ⊥
     zeroth = elim [ ]
 
-    back : brokenNumber t c ≢ 0 → (stepped t c s).outcome.code ≡ 1
+    back : broken_number t c ≢ 0 → (stepped t c s).outcome.code ≡ 1
     back some =
         one.1 (
           Broken.tables (λ h. some ((broken-none t c host.tables).1 h)),

@@ -13,19 +13,19 @@ use Rattle.library.specs.declared.tables.Tables.{Tables}
 use Rattle.library.specs.Fresh.{made}
 use Rattle.steps.specs.declared.stepping.Stepped.{Stepped}
 use Rattle.steps.specs.Stepping.{stepped}
-use Rattle.host.specs.Screen.{readyCount, readyFirst, waitersAt}
+use Rattle.host.specs.Screen.{ready_count, ready_first, waiters_at}
 use Rattle.promises.specs.Paper.World.{found}
 use Rattle.promises.specs.Paper.Together.{TicksFit, WordsAgree, HangTogether}
 use Rattle.promises.specs.Paper.Host.{Host, HostSteps, Going, HostStep}
 use Rattle.promises.specs.Paper.Refusals.{Broken, RefusedWith, Answered}
 use Rattle.promises.specs.Paper.Step.{StepOf}
-use Rattle.promises.specs.Paper.Waking.{rowOf, inMask}
+use Rattle.promises.specs.Paper.Waking.{row_of, in_mask}
 use Rattle.promises.specs.Paper.Boundary.{ScreenOf}
-use Rattle.promises.specs.Paper.Run.{ticksIn, signalsIn, joinsIn, higher, WokenIn, WakingOf, TurnAt, begunWith}
-use Rattle.promises.specs.Paper.Flags.{answeredIn, Account}
+use Rattle.promises.specs.Paper.Run.{ticks_in, signals_in, joins_in, higher, WokenIn, WakingOf, TurnAt, begun_with}
+use Rattle.promises.specs.Paper.Flags.{answered_in, Account}
 use Rattle.promises.specs.Paper.EachThread.{EachThread, Throughout}
 use Rattle.promises.specs.Paper.Fresh.{Legal}
-use Rattle.promises.specs.Code.Steps.{ran, moments, freshRan}
+use Rattle.promises.specs.Code.Steps.{ran, moments, fresh_ran}
 use Rattle.promises.specs.Kept.Steps.{made-hang}
 use Rattle.promises.specs.Runs.Moments.{going_on, sleeps-end, turn-comes, each_step, begun}
 use Rattle.promises.specs.Runs.Accounts.{flag-account, signalled-kept}
@@ -118,8 +118,8 @@ ticks-left (TicksFit.some n m k u) l = u
 module _ (t : Tables) (c : Clock) (g : Going t c) (ss : List Step) (hs : HostSteps ss) where
   -- a. whoever is asleep between two steps, in a call with a timeout of at most 4294967294, is in the woken mask of a later result by as many
   -- accepted ticks, by a waking that document 01 gives it, whose message its record then has
-  pub sleep-ends : (i : ℕ) → i < t.sizes.threads → (rowOf t i).state ≢ 0 → (rowOf t i).call.timeout ≤ 4294967294
-      → (rowOf t i).call.timeout ≤ ticksIn (moments t c ss) → WokenIn i (WakingOf i) (moments t c ss)
+  pub sleep-ends : (i : ℕ) → i < t.sizes.threads → (row_of t i).state ≢ 0 → (row_of t i).call.timeout ≤ 4294967294
+      → (row_of t i).call.timeout ≤ ticks_in (moments t c ss) → WokenIn i (WakingOf i) (moments t c ss)
   sleep-ends i l n m r =
       sleeps-end ss hs t c g i l n (λ z. absurd (omega (arith, m, z))) (omega (arith, r, ticks-left (g.together.threads i l).ticks m))
 
@@ -128,14 +128,14 @@ module _ (t : Tables) (c : Clock) (g : Going t c) (ss : List Step) (hs : HostSte
   one-waking = each_step ss hs t c g
 
   -- c. a waiter at a semaphore with w higher ones is in the woken mask by the (w+1)-th accepted signal, if no higher one begins to wait there
-  pub turn-of-semaphore : (i p : ℕ) → i < t.sizes.threads → p < t.sizes.semaphores → (rowOf t i).state ≡ 3 → (rowOf t i).place ≡ p
-      → joinsIn p i (moments t c ss) ≡ false → higher t p i < signalsIn p (moments t c ss) → WokenIn i (TurnAt p i) (moments t c ss)
+  pub turn-of-semaphore : (i p : ℕ) → i < t.sizes.threads → p < t.sizes.semaphores → (row_of t i).state ≡ 3 → (row_of t i).place ≡ p
+      → joins_in p i (moments t c ss) ≡ false → higher t p i < signals_in p (moments t c ss) → WokenIn i (TurnAt p i) (moments t c ss)
   turn-of-semaphore i p l there st pl none r =
       turn-comes p (omega (arith, there, g.together.sizes.semaphores)) ss hs t c g i l st pl none r
 
   -- "(a pool's too)"
-  pub turn-of-pool : (i q : ℕ) → i < t.sizes.threads → q < t.sizes.pools → (rowOf t i).state ≡ 3 → (rowOf t i).place ≡ 16 + q
-      → joinsIn (16 + q) i (moments t c ss) ≡ false → higher t (16 + q) i < signalsIn (16 + q) (moments t c ss)
+  pub turn-of-pool : (i q : ℕ) → i < t.sizes.threads → q < t.sizes.pools → (row_of t i).state ≡ 3 → (row_of t i).place ≡ 16 + q
+      → joins_in (16 + q) i (moments t c ss) ≡ false → higher t (16 + q) i < signals_in (16 + q) (moments t c ss)
       → WokenIn i (TurnAt (16 + q) i) (moments t c ss)
   turn-of-pool i q l there st pl none r =
       turn-comes (16 + q) (omega (arith, there, g.together.sizes.pools)) ss hs t c g i l st pl none r
@@ -149,8 +149,8 @@ module _ (t : Tables) (c : Clock) (g : Going t c) (s : Step) (h : HostStep s) (a
   abbrev pub d : Clock
   d = (stepped t c s).clock
 
-  pub begun-ends : (i : ℕ) → i < t.sizes.threads → (rowOf t i).state ≡ 0 → (rowOf u i).state ≢ 0 → begunWith t c s i ≤ 4294967294
-      → begunWith t c s i ≤ ticksIn (moments u d ss) → WokenIn i (WakingOf i) (moments u d ss)
+  pub begun-ends : (i : ℕ) → i < t.sizes.threads → (row_of t i).state ≡ 0 → (row_of u i).state ≢ 0 → begun_with t c s i ≤ 4294967294
+      → begun_with t c s i ≤ ticks_in (moments u d ss) → WokenIn i (WakingOf i) (moments u d ss)
   begun-ends i l z n m r =
       let x = begun t c g s h accepted i l z n in
       sleep-ends u d (going_on t c g s h) ss hs i x.0 n (rw x.1 m) (rw x.1 r)
@@ -186,7 +186,7 @@ module _ (t : Tables) (c : Clock) (g : Going t c) (ss : List Step) (hs : HostSte
 
   -- "The number of ready threads is the number of ones; the first ready thread is the number of trailing zeros of the word, and an empty word
   -- means idle": what a host's screen is told
-  pub screen-right : ScreenOf after (readyCount after) (readyFirst after) (waitersAt after)
+  pub screen-right : ScreenOf after (ready_count after) (ready_first after) (waiters_at after)
   screen-right = screen-is after then.together.sizes.threads.1 words_right
 
 -- ---- DOCUMENT 02, 2/13: EVENT FLAGS, from any tables that hang together, over any steps, refused ones included. What each accepted step
@@ -196,13 +196,13 @@ module _ (t : Tables) (c : Clock) (g : Going t c) where
   -- flag n is pending for thread i exactly if it has come, in these steps or before them, and was not answered since; and only what has
   -- come is answered, once
   pub flags-accounted : (ss : List Step) → HostSteps ss → (i n : ℕ) → i < t.sizes.threads
-      → Account i n (inMask n (rowOf (ran t c ss).tables i).pending) (inMask n (rowOf t i).pending) (moments t c ss)
+      → Account i n (in_mask n (row_of (ran t c ss).tables i).pending) (in_mask n (row_of t i).pending) (moments t c ss)
   flags-accounted ss hs i n l = flag-account ss hs t c g i n l
 
   -- "no flag signalled is lost: each is pending or was answered", in that step or later
   pub no-flag-lost : (s : Step) (ss : List Step) → HostSteps (s ∷ ss) → (i n : ℕ) → i < t.sizes.threads
-      → (stepped t c s).outcome.code ≡ 0 → s.kind ≡ 13 → s.object ≡ i → inMask n s.a ≡ true
-      → (inMask n (rowOf (ran t c (s ∷ ss)).tables i).pending ≡ true) ⊎ (answeredIn i n (moments t c (s ∷ ss)) ≡ true)
+      → (stepped t c s).outcome.code ≡ 0 → s.kind ≡ 13 → s.object ≡ i → in_mask n s.a ≡ true
+      → (in_mask n (row_of (ran t c (s ∷ ss)).tables i).pending ≡ true) ⊎ (answered_in i n (moments t c (s ∷ ss)) ≡ true)
   no-flag-lost s ss hs i n l e k o f =
       signalled-kept (flag-account (s ∷ ss) hs t c g i n l)
       (rw (eq-eqb (stepped t c s).outcome.code 0 e, eq-eqb s.kind 13 k, eq-eqb s.object i o) f)
@@ -210,10 +210,10 @@ module _ (t : Tables) (c : Clock) (g : Going t c) where
 -- ---- DEMAND 3, from fresh tables of the sizes y, after any steps xs, over any steps ss
 module _ (y : Sizes) (r : Rate) (legal : Legal y r) (xs : List Step) (hx : HostSteps xs) where
   abbrev pub t₁ : Tables
-  t₁ = (freshRan y r xs).tables
+  t₁ = (fresh_ran y r xs).tables
 
   abbrev pub c₁ : Clock
-  c₁ = (freshRan y r xs).clock
+  c₁ = (fresh_ran y r xs).clock
 
   going : Going t₁ c₁
   going = run-going xs hx (made y r).tables (made y r).clock (fresh-going y r legal)
@@ -227,14 +227,14 @@ module _ (y : Sizes) (r : Rate) (legal : Legal y r) (xs : List Step) (hx : HostS
 
   module _ (ss : List Step) (hs : HostSteps ss) (i : ℕ) (within : i < t₁.sizes.threads) where
     -- "a sleep with timeout t ends by its t-th later accepted tick"
-    pub demand-3a : (rowOf t₁ i).state ≢ 0 → (rowOf t₁ i).call.timeout ≤ 4294967294 → (rowOf t₁ i).call.timeout ≤ ticksIn (moments t₁ c₁ ss)
+    pub demand-3a : (row_of t₁ i).state ≢ 0 → (row_of t₁ i).call.timeout ≤ 4294967294 → (row_of t₁ i).call.timeout ≤ ticks_in (moments t₁ c₁ ss)
         → WokenIn i (WakingOf i) (moments t₁ c₁ ss)
     demand-3a = sleep-ends t₁ c₁ going ss hs i within
 
     -- the same from the step in which it begins, which leaves s the tables u and the clock d
-    pub demand-3a-begun : (s : Step) → HostStep s → (stepped t₁ c₁ s).outcome.code ≡ 0 → (rowOf t₁ i).state ≡ 0
-        → (rowOf (stepped t₁ c₁ s).tables i).state ≢ 0 → begunWith t₁ c₁ s i ≤ 4294967294
-        → begunWith t₁ c₁ s i ≤ ticksIn (moments (stepped t₁ c₁ s).tables (stepped t₁ c₁ s).clock ss)
+    pub demand-3a-begun : (s : Step) → HostStep s → (stepped t₁ c₁ s).outcome.code ≡ 0 → (row_of t₁ i).state ≡ 0
+        → (row_of (stepped t₁ c₁ s).tables i).state ≢ 0 → begun_with t₁ c₁ s i ≤ 4294967294
+        → begun_with t₁ c₁ s i ≤ ticks_in (moments (stepped t₁ c₁ s).tables (stepped t₁ c₁ s).clock ss)
         → WokenIn i (WakingOf i) (moments (stepped t₁ c₁ s).tables (stepped t₁ c₁ s).clock ss)
     demand-3a-begun s h e = begun-ends t₁ c₁ going s h e ss hs i within
 
@@ -244,15 +244,15 @@ module _ (y : Sizes) (r : Rate) (legal : Legal y r) (xs : List Step) (hx : HostS
 
     -- of document 02: no flag that was signalled to it is lost
     pub flags-always : (n : ℕ)
-        → Account i n (inMask n (rowOf (ran t₁ c₁ ss).tables i).pending) (inMask n (rowOf t₁ i).pending) (moments t₁ c₁ ss)
+        → Account i n (in_mask n (row_of (ran t₁ c₁ ss).tables i).pending) (in_mask n (row_of t₁ i).pending) (moments t₁ c₁ ss)
     flags-always n = flags-accounted t₁ c₁ going ss hs i n within
 
     -- "a semaphore waiter with w higher ones is released by the (w+1)-th later signal"
-    pub demand-3c : (p : ℕ) → p < t₁.sizes.semaphores → (rowOf t₁ i).state ≡ 3 → (rowOf t₁ i).place ≡ p
-        → joinsIn p i (moments t₁ c₁ ss) ≡ false → higher t₁ p i < signalsIn p (moments t₁ c₁ ss) → WokenIn i (TurnAt p i) (moments t₁ c₁ ss)
+    pub demand-3c : (p : ℕ) → p < t₁.sizes.semaphores → (row_of t₁ i).state ≡ 3 → (row_of t₁ i).place ≡ p
+        → joins_in p i (moments t₁ c₁ ss) ≡ false → higher t₁ p i < signals_in p (moments t₁ c₁ ss) → WokenIn i (TurnAt p i) (moments t₁ c₁ ss)
     demand-3c p = turn-of-semaphore t₁ c₁ going ss hs i p within
 
-    pub demand-3c-pools : (q : ℕ) → q < t₁.sizes.pools → (rowOf t₁ i).state ≡ 3 → (rowOf t₁ i).place ≡ 16 + q
-        → joinsIn (16 + q) i (moments t₁ c₁ ss) ≡ false → higher t₁ (16 + q) i < signalsIn (16 + q) (moments t₁ c₁ ss)
+    pub demand-3c-pools : (q : ℕ) → q < t₁.sizes.pools → (row_of t₁ i).state ≡ 3 → (row_of t₁ i).place ≡ 16 + q
+        → joins_in (16 + q) i (moments t₁ c₁ ss) ≡ false → higher t₁ (16 + q) i < signals_in (16 + q) (moments t₁ c₁ ss)
         → WokenIn i (TurnAt (16 + q) i) (moments t₁ c₁ ss)
     demand-3c-pools q = turn-of-pool t₁ c₁ going ss hs i q within

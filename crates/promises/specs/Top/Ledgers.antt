@@ -8,15 +8,15 @@ use Rattle.library.specs.declared.calls.Step.{Step}
 use Rattle.library.specs.declared.sizes.Sizes.{Sizes}
 use Rattle.library.specs.declared.tables.Tables.{Tables}
 use Rattle.library.specs.Fresh.{made}
-use Rattle.accounts.specs.Account.{freshAccount}
+use Rattle.accounts.specs.Account.{fresh_account}
 use Rattle.promises.specs.Paper.World.{found}
 use Rattle.promises.specs.Paper.Fresh.{FreshTables, Legal}
 use Rattle.promises.specs.Paper.Host.{HostSteps, Going}
 use Rattle.promises.specs.Paper.Together.{number, is_zero}
 use Rattle.promises.specs.Paper.Run.{Moment}
-use Rattle.promises.specs.Paper.History.{Event, answerBy, finishes, shownBy, Turns, isAmong, in_turn, History, shownIn, total, posted, fetched, added, each, lostAt}
-use Rattle.promises.specs.Paper.Ledger.{Ledger, noPostings, opened, ledger, times, HandsOver, Paired, Standing, standing, standingIn, isOut, markIn, freeIn, Accounted, AccountOf}
-use Rattle.promises.specs.Code.Steps.{ran, moments, tallied, freshMoments, freshRan}
+use Rattle.promises.specs.Paper.History.{Event, answer_by, finishes, shown_by, Turns, is_among, in_turn, History, shown_in, total, posted, fetched, added, each, lost_at}
+use Rattle.promises.specs.Paper.Ledger.{Ledger, no_postings, opened, ledger, times, HandsOver, Paired, Standing, standing, standing_in, is_out, mark_in, free_in, Accounted, AccountOf}
+use Rattle.promises.specs.Code.Steps.{ran, moments, tallied, fresh_moments, fresh_ran}
 use Rattle.promises.specs.Meant.Fresh.{made-legal}
 use Rattle.promises.specs.Meant.History.{turns-only, history-only}
 use Rattle.promises.specs.Runs.Ledgers.{accounted, accounted-fresh}
@@ -25,15 +25,15 @@ use Rattle.promises.specs.Top.Demands.{fresh-going, run-going}
 
 -- from any tables that hang together: "messages present count as posted, objects free and out as added, those out as handed over"
 pub nothing-lost : (t : Tables) (c : Clock) → Going t c → (ss : List Step) → HostSteps ss
-    → Accounted t.sizes (opened t) (standingIn t) (moments t c ss) (ran t c ss).tables
+    → Accounted t.sizes (opened t) (standing_in t) (moments t c ss) (ran t c ss).tables
 nothing-lost t c g ss hs = accounted ss hs t c g (run-going ss hs t c g)
 
 -- and what is printed of it is the account of its history
 pub account-printed : (t : Tables) (c : Clock) → Going t c → (ss : List Step) → HostSteps ss → (es : List Event) → History 1 (moments t c ss) es
-    → AccountOf (tallied 1 freshAccount (moments t c ss)) t.sizes (standingIn t) (moments t c ss) es
+    → AccountOf (tallied 1 fresh_account (moments t c ss)) t.sizes (standing_in t) (moments t c ss) es
 account-printed t c g ss hs es h =
     let a = nothing-lost t c g ss hs in
-    printed ss hs t c g (standingIn t) (λ q o. before-run (markIn (found t) q o)) es h (rw (history-only h a.history) a.object-right)
+    printed ss hs t c g (standing_in t) (λ q o. before-run (mark_in (found t) q o)) es h (rw (history-only h a.history) a.object-right)
 
 -- ---- what follows of a run
 
@@ -45,28 +45,28 @@ events-one a b = history-only a.history b.history
 -- where it begins with a fetch that finishes in its own turn, what is fetched is the first message that was in the mailbox: whatever is posted while
 -- the step settles comes later
 pub own-fetch : {n : ℕ} {m : Moment} {ms : List Moment} {es : List Event} {l : Ledger} → History n (m ∷ ms) es → Paired m.step.object l es
-    → m.step.kind ≡ 17 → finishes m m.step.caller ≡ true → is_zero (answerBy m m.step.caller).message ≡ true
-    → (is : List ℕ) → Turns m (m.step.caller ∷ is) → isAmong m.step.caller is ≡ false
-    → (p : Event) × (ps : List Event) × (l.present ≡ p ∷ ps) × ((answerBy m m.step.caller).datum ≡ p.value)
+    → m.step.kind ≡ 17 → finishes m m.step.caller ≡ true → is_zero (answer_by m m.step.caller).message ≡ true
+    → (is : List ℕ) → Turns m (m.step.caller ∷ is) → is_among m.step.caller is ≡ false
+    → (p : Event) × (ps : List Event) × (l.present ≡ p ∷ ps) × ((answer_by m m.step.caller).datum ≡ p.value)
 own-fetch {n} {m} {l = l} (History.more js fs turns s o h) paired kind done zero is own last =
-    by (paired.one [] e (in_turn (shownBy n m) is ++ fs) (ap (λ (ks : List ℕ). in_turn (shownBy n m) ks ++ fs) (turns-only turns own) ∙ begins) a-fetch)
+    by (paired.one [] e (in_turn (shown_by n m) is ++ fs) (ap (λ (ks : List ℕ). in_turn (shown_by n m) ks ++ fs) (turns-only turns own) ∙ begins) a-fetch)
   where
     i : ℕ
     i = m.step.caller
 
     e : Event
-    e = record { step = n; who = i; kind = 17; object = m.step.object; value = (answerBy m i).datum }
+    e = record { step = n; who = i; kind = 17; object = m.step.object; value = (answer_by m i).datum }
 
     a-fetch : fetched m.step.object e ≡ true
     a-fetch = eq-eqb m.step.object m.step.object refl
 
-    shows : shownBy n m i ≡ e ∷ []
+    shows : shown_by n m i ≡ e ∷ []
     shows = rw (done, eq-eqb i i refl, kind, zero)
 
-    begins : in_turn (shownBy n m) (i ∷ is) ++ fs ≡ e ∷ (in_turn (shownBy n m) is ++ fs)
+    begins : in_turn (shown_by n m) (i ∷ is) ++ fs ≡ e ∷ (in_turn (shown_by n m) is ++ fs)
     begins = rw (last, shows)
 
-    by : (p : Event) × HandsOver m.step.object l [] e p → (p : Event) × (ps : List Event) × (l.present ≡ p ∷ ps) × ((answerBy m i).datum ≡ p.value)
+    by : (p : Event) × HandsOver m.step.object l [] e p → (p : Event) × (ps : List Event) × (l.present ≡ p ∷ ps) × ((answer_by m i).datum ≡ p.value)
     by (p, x) = (p, x.behind, x.first, x.message)
 
 module _ {z : Sizes} {l : ℕ → Ledger} {st : ℕ → ℕ → Standing} {ms : List Moment} {u : Tables} (a : Accounted z l st ms u) (b : ℕ) (there : b < z.mailboxes) where
@@ -83,23 +83,23 @@ module _ {z : Sizes} {l : ℕ → Ledger} {st : ℕ → ℕ → Standing} {ms : 
 
 module _ (y : Sizes) (r : Rate) (legal : Legal y r) (ss : List Step) (hs : HostSteps ss) where
   abbrev pub run : List Moment
-  run = freshMoments y r ss
+  run = fresh_moments y r ss
 
   abbrev pub end : Tables
-  end = (freshRan y r ss).tables
+  end = (fresh_ran y r ss).tables
 
   fresh : FreshTables y (made y r).tables
   fresh = (made-legal y r legal).tables
 
-  pub nothing-lost-fresh : Accounted y (λ b. noPostings) (λ q o. Standing.absent) run end
+  pub nothing-lost-fresh : Accounted y (λ b. no_postings) (λ q o. Standing.absent) run end
   nothing-lost-fresh =
       accounted-fresh y (made y r).tables fresh (nothing-lost (made y r).tables (made y r).clock (fresh-going y r legal) ss hs)
 
   -- "for each mailbox, messages whose post finished with 0, less those whose fetch finished with 0, less those present at each reset, equal
   -- those in the mailbox now"
   pub messages-sum : (b : ℕ) → b < y.mailboxes
-      → total (each (posted b)) (shownIn 1 run)
-      ≡ ((found end).box b).positions.count + total (each (fetched b)) (shownIn 1 run) + total (lostAt b) (shownIn 1 run)
+      → total (each (posted b)) (shown_in 1 run)
+      ≡ ((found end).box b).positions.count + total (each (fetched b)) (shown_in 1 run) + total (lost_at b) (shown_in 1 run)
   messages-sum b there = omega (arith, nothing-lost-fresh.box-sum b there)
 
   -- the history of the run
@@ -109,12 +109,12 @@ module _ (y : Sizes) (r : Rate) (legal : Legal y r) (ss : List Step) (hs : HostS
 
     -- "For each pool, objects ever added equal those free plus those out"
     pub objects-sum : (q : ℕ) → q < y.pools
-        → total (each (added q)) (shownIn 1 run) ≡ freeIn (found end) q + number (λ o. isOut (standing q o Standing.absent es)) 32
-    objects-sum q there = sym (zero-add (total (each (added q)) (shownIn 1 run))) ∙ rw same (nothing-lost-fresh.pool-sum q there)
+        → total (each (added q)) (shown_in 1 run) ≡ free_in (found end) q + number (λ o. is_out (standing q o Standing.absent es)) 32
+    objects-sum q there = sym (zero-add (total (each (added q)) (shown_in 1 run))) ∙ rw same (nothing-lost-fresh.pool-sum q there)
 
     -- and what `./account` prints is the account of this history
-    pub account-printed-fresh : AccountOf (tallied 1 freshAccount run) y (λ q o. Standing.absent) run es
+    pub account-printed-fresh : AccountOf (tallied 1 fresh_account run) y (λ q o. Standing.absent) run es
     account-printed-fresh =
-        subst (λ (z : Sizes). AccountOf (tallied 1 freshAccount run) z (λ q o. Standing.absent) run es) fresh.sizes
+        subst (λ (z : Sizes). AccountOf (tallied 1 fresh_account run) z (λ q o. Standing.absent) run es) fresh.sizes
         (printed ss hs (made y r).tables (made y r).clock (fresh-going y r legal) (λ q o. Standing.absent) (λ q o. never-added) es history
         (λ q o there. rw same (nothing-lost-fresh.object-right q o (rw fresh.sizes at there))))

@@ -18,12 +18,12 @@ use Rattle.steps.specs.declared.stepping.Stepped.{Stepped}
 use Rattle.promises.specs.Paper.World.{World, found, signed, Highest}
 use Rattle.promises.specs.Paper.Rows.{slots_of}
 use Rattle.promises.specs.Paper.Together.{InUse, WordOf, WordsAgree}
-use Rattle.promises.specs.Paper.Waking.{rowOf, inMask, IsPost, Served, CalledOut, LastTick, WokenBy, heard, AnswerOf, SideOf, SleeperAfter, ReadyAfter, WakerAfter, ReleasesAll, ReleasesFirst, Due}
-use Rattle.promises.specs.Paper.Flags.{awaitsFlags, FlagsAfter}
+use Rattle.promises.specs.Paper.Waking.{row_of, in_mask, IsPost, Served, CalledOut, LastTick, WokenBy, heard, AnswerOf, SideOf, SleeperAfter, ReadyAfter, WakerAfter, ReleasesAll, ReleasesFirst, Due}
+use Rattle.promises.specs.Paper.Flags.{awaits_flags, FlagsAfter}
 use Rattle.promises.specs.Paper.Run.{Moment, TurnOf}
-use Rattle.promises.specs.Paper.Pipes.{pipeOf, Transfer, TransferOf}
-use Rattle.promises.specs.Paper.History.{Event, isOwn, OwnFirst}
-use Rattle.promises.specs.Paper.Ledger.{inBox, noPostings, ledger, BoxTold, Standing, standing}
+use Rattle.promises.specs.Paper.Pipes.{pipe_of, Transfer, TransferOf}
+use Rattle.promises.specs.Paper.History.{Event, is_own, OwnFirst}
+use Rattle.promises.specs.Paper.Ledger.{in_box, no_postings, ledger, BoxTold, Standing, standing}
 use Rattle.promises.specs.Paper.Signals.{AtTop, SignalTold}
 use Rattle.promises.specs.Paper.Causes.{Wakes}
 use Rattle.promises.specs.Paper.EachThread.{EachThread}
@@ -44,22 +44,22 @@ late-flags (AnswerOf.posted k z) = absurd (below z)
 late-flags (AnswerOf.fetched k z y) = absurd (below z)
 
 -- a call that timed out in one step and is continued in a later one answers -1 and no datum, whatever came in between
-pub late-answer : {t : Tables} {s : Step} {i : ℕ} {b : Thread} {w : Bool} → ReadyAfter t s i b w true → (rowOf t i).message ≡ negsuc 0
-    → (b.answer.message ≡ negsuc 0) × (b.answer.datum ≡ 0) × (b.pending ≡ heard s i (rowOf t i))
+pub late-answer : {t : Tables} {s : Step} {i : ℕ} {b : Thread} {w : Bool} → ReadyAfter t s i b w true → (row_of t i).message ≡ negsuc 0
+    → (b.answer.message ≡ negsuc 0) × (b.answer.datum ≡ 0) × (b.pending ≡ heard s i (row_of t i))
 late-answer (ReadyAfter.on e p q) m = absurd (true≢false q)
 late-answer {t} {s} {i} {b} (ReadyAfter.done x d f h e p q) m =
-    let g = late-flags (subst (λ (y : ℤ). AnswerOf (rowOf t i) (heard s i (rowOf t i)) y x d f) m h) in
+    let g = late-flags (subst (λ (y : ℤ). AnswerOf (row_of t i) (heard s i (row_of t i)) y x d f) m h) in
     (ap (λ (u : Thread). u.answer.message) e ∙ g.0, ap (λ (u : Thread). u.answer.datum) e ∙ g.1, ap (λ (u : Thread). u.pending) e ∙ g.2)
 late-answer (ReadyAfter.again pl side z e p q) m = absurd (below (sym m ∙ z))
 late-answer (ReadyAfter.ready-again pl c side z by e p q) m = absurd (below (sym m ∙ z))
 late-answer (ReadyAfter.done-again pl c x d side z by h e p q) m = absurd (below (sym m ∙ z))
 
 -- a flag that was answered is not left pending
-pub none_left : {t : Tables} {s : Step} {i : ℕ} {b : Thread} {f : Bool} → FlagsAfter t s i b f → (awaitsFlags t s i && f) ≡ true
-    → b.answer.message ≡ pos 0 → (n : ℕ) → inMask n b.answer.datum ≡ true → inMask n b.pending ≡ false
+pub none_left : {t : Tables} {s : Step} {i : ℕ} {b : Thread} {f : Bool} → FlagsAfter t s i b f → (awaits_flags t s i && f) ≡ true
+    → b.answer.message ≡ pos 0 → (n : ℕ) → in_mask n b.answer.datum ≡ true → in_mask n b.pending ≡ false
 none_left {t} {s} {i} (FlagsAfter.taken mask g q r p) e z n x =
-    let f = heard s i (rowOf t i) in
-    ap (inMask n) p ∙ less-test f mask n ∙ rest (inMask n f) (inMask n mask) (sym (and-test f mask n) ∙ sym (ap (λ (a : Answer). inMask n a.datum) r) ∙ x)
+    let f = heard s i (row_of t i) in
+    ap (in_mask n) p ∙ less-test f mask n ∙ rest (in_mask n f) (in_mask n mask) (sym (and-test f mask n) ∙ sym (ap (λ (a : Answer). in_mask n a.datum) r) ∙ x)
   where
     rest : (x y : Bool) → (x && y) ≡ true → (x && not y) ≡ false
     rest true true e = refl
@@ -170,14 +170,14 @@ waking-caused (Wakes.slept n (WokenBy.call u b)) = called-cause b
 waking-caused (Wakes.fell z f b) = called-cause (CalledOut.served b)
 
 -- whoever has its last tick in the step is woken by it, whatever calls go on then: with -1, by the cause tick
-pub last-tick-told : {t : Tables} {s : Step} {i : ℕ} {b : Thread} {w f : Bool} → LastTick s (rowOf t i) → SleeperAfter t s i b w f
+pub last-tick-told : {t : Tables} {s : Step} {i : ℕ} {b : Thread} {w f : Bool} → LastTick s (row_of t i) → SleeperAfter t s i b w f
     → (w ≡ true) × (b.message ≡ negsuc 0) × (b.cause ≡ 8)
 last-tick-told v (SleeperAfter.on u e p q) = absurd (u v)
 last-tick-told v (SleeperAfter.ready m c by e p q) = (p, rw e (last-by v by).0, rw e (last-by v by).1)
 last-tick-told v (SleeperAfter.done m x c d f by g e p q) = (p, rw e (last-by v by).0, rw e (last-by v by).1)
 
 -- a tick wakes nobody who was ready: no sleep, waking and end is made up on the way
-pub no-fake-waking : {t : Tables} {s : Step} {i : ℕ} {b : Thread} {w : Bool} → s.caller ≡ 255 → i < 16 → (rowOf t i).call.kind ≡ 0
+pub no-fake-waking : {t : Tables} {s : Step} {i : ℕ} {b : Thread} {w : Bool} → s.caller ≡ 255 → i < 16 → (row_of t i).call.kind ≡ 0
     → WakerAfter t s i b w → (w ≡ false) × (b.state ≡ 0)
 no-fake-waking c l k (WakerAfter.unwoken z u) = (u, z)
 no-fake-waking c l k (WakerAfter.own-sleep x st pl o h) = absurd (omega (arith, c, x, l))
@@ -219,7 +219,7 @@ refused-transfer (TransferOf.in-reset p z a r) d = absurd (d (ap (λ (m : Moved)
 refused-transfer (TransferOf.moves p z k s y u v o) d = absurd (d u)
 
 -- in reset state none moves a byte, and none answers a number
-pub transfer-in-reset : {t : Pipes} {i n : ℕ} {x : Transfer} {m : Moved} {e : List ℕ} → TransferOf t i n x m e → m.code ≡ 0 → (pipeOf t i).reset ≢ 0
+pub transfer-in-reset : {t : Pipes} {i n : ℕ} {x : Transfer} {m : Moved} {e : List ℕ} → TransferOf t i n x m e → m.code ≡ 0 → (pipe_of t i).reset ≢ 0
     → (m.pipes ≡ t) × (m.moved ≡ negsuc 1) × (e ≡ x.into)
 transfer-in-reset (TransferOf.refused c p a r) z d = absurd (numbered p (sym (ap (λ (m : Moved). m.code) a) ∙ z))
 transfer-in-reset (TransferOf.in-reset p w a r) z d = (ap (λ (m : Moved). m.pipes) a, ap (λ (m : Moved). m.moved) a, r)
@@ -244,30 +244,30 @@ abbrev happens : ℕ → ℕ → ℕ → ℕ → Event
 happens step who kind value = record { step = step; who = who; kind = kind; object = 0; value = value }
 
 -- no interrupt's call, and no reset, free or add, comes after another call of its step
-pub never-second : {e f : Event} {es : List Event} → OwnFirst (e ∷ f ∷ es) → isOwn f ≡ false
-never-second {f = f} (OwnFirst.first e h) = split (isOwn f) (λ p. absurd (omega (arith, ap length (rw p at h)))) (λ p. p)
+pub never-second : {e f : Event} {es : List Event} → OwnFirst (e ∷ f ∷ es) → is_own f ≡ false
+never-second {f = f} (OwnFirst.first e h) = split (is_own f) (λ p. absurd (omega (arith, ap length (rw p at h)))) (λ p. p)
 
 -- nothing is fetched where nothing was posted
-pub nothing-invented : {n i x : ℕ} {w : World} → let e = happens n i 17 x in BoxTold 0 noPostings (e ∷ []) (ledger 0 noPostings (e ∷ [])) w → ⊥
+pub nothing-invented : {n i x : ℕ} {w : World} → let e = happens n i 17 x in BoxTold 0 no_postings (e ∷ []) (ledger 0 no_postings (e ∷ [])) w → ⊥
 nothing-invented b = omega (arith, ap length b.handed)
 
 -- no message is fetched before the one that was posted first
 pub first-first : {n m k i j r x y z : ℕ} {w : World} → let es = happens n i 15 x ∷ happens m j 15 y ∷ happens k r 17 z ∷ [] in
-    BoxTold 0 noPostings es (ledger 0 noPostings es) w → z ≡ x
+    BoxTold 0 no_postings es (ledger 0 no_postings es) w → z ≡ x
 first-first b = sym (head-eq_of_cons-eq b.handed)
 
 -- but the one that was posted ahead is
 pub ahead-first : {n m k i j r x y z : ℕ} {w : World} → let es = happens n i 15 x ∷ happens m j 16 y ∷ happens k r 17 z ∷ [] in
-    BoxTold 0 noPostings es (ledger 0 noPostings es) w → z ≡ y
+    BoxTold 0 no_postings es (ledger 0 no_postings es) w → z ≡ y
 ahead-first b = sym (head-eq_of_cons-eq b.handed)
 
 -- a message that was fetched, or lost at a reset, is in the mailbox no more
 pub fetched-gone : {n m i j x y : ℕ} {w : World} → let es = happens n i 15 x ∷ happens m j 17 y ∷ [] in
-    BoxTold 0 noPostings es (ledger 0 noPostings es) w → inBox w 0 ≡ []
+    BoxTold 0 no_postings es (ledger 0 no_postings es) w → in_box w 0 ≡ []
 fetched-gone b = sym b.present
 
 pub reset-empties : {n m i j x y : ℕ} {w : World} → let es = happens n i 15 x ∷ happens m j 18 y ∷ [] in
-    BoxTold 0 noPostings es (ledger 0 noPostings es) w → (inBox w 0 ≡ []) × (y ≡ 1)
+    BoxTold 0 no_postings es (ledger 0 no_postings es) w → (in_box w 0 ≡ []) × (y ≡ 1)
 reset-empties b = (sym b.present, omega (arith, b.lost))
 
 -- an object that is out is handed over to nobody else, and one that is free is not freed
@@ -315,21 +315,21 @@ top-counters {s = s} a =
 
 -- a signal, a binary one too, that passes over the first of the waiters
 pub first-signalled : {m : Moment} {i : ℕ} → EachThread m → (m.step.kind ≡ 3) ⊎ (m.step.kind ≡ 5) → Highest (found m.before) m.step.object i
-    → inMask i m.result.woken ≡ true
+    → in_mask i m.result.woken ≡ true
 first-signalled {m} {i} x k h = x.due i h.thread (Due.first m.step.object (ReleasesFirst.signal k) h)
 
 -- a post into a mailbox with room that leaves its first reader asleep
 pub first-reader : {m : Moment} {i : ℕ} → EachThread m → IsPost m.step.kind → ((found m.before).box m.step.object).reset ≡ 0
     → ((found m.before).box m.step.object).positions.count < slots_of (found m.before) m.step.object
-    → Highest (found m.before) (32 + m.step.object) i → inMask i m.result.woken ≡ true
+    → Highest (found m.before) (32 + m.step.object) i → in_mask i m.result.woken ≡ true
 first-reader {m} {i} x k z l h = x.due i h.thread (Due.first (32 + m.step.object) (ReleasesFirst.post k z l) h)
 
 -- a release that wakes another than the first
-pub no-other-released : {m : Moment} {i j : ℕ} → EachThread m → m.step.kind ≡ 7 → i < m.before.sizes.threads → (rowOf m.before i).state ≡ 3
-    → (rowOf m.before i).place ≡ 20 + m.step.object → m.step.object < 8 → j < i → (rowOf m.before j).state ≡ 3
-    → (rowOf m.before j).place ≡ 20 + m.step.object → inMask i m.result.woken ≡ false
+pub no-other-released : {m : Moment} {i j : ℕ} → EachThread m → m.step.kind ≡ 7 → i < m.before.sizes.threads → (row_of m.before i).state ≡ 3
+    → (row_of m.before i).place ≡ 20 + m.step.object → m.step.object < 8 → j < i → (row_of m.before j).state ≡ 3
+    → (row_of m.before j).place ≡ 20 + m.step.object → in_mask i m.result.woken ≡ false
 no-other-released {m} {i} {j} x k l a b o n c d =
-    split (inMask i m.result.woken)
+    split (in_mask i m.result.woken)
     (λ w. absurd (by (x.only-due i l (λ z. omega (arith, z, a)) (λ z. omega (arith, b, o)) w)))
     (λ w. w)
   where
@@ -351,12 +351,12 @@ no-other-released {m} {i} {j} x k l a b o n c d =
     by (Due.first p (ReleasesFirst.fetch q z r) h) = omega (arith, k, q)
 
 -- a mailbox call that was tried again and sleeps with less than its full timeout, or elsewhere than at its own side
-pub tried-full : {t : Tables} {s : Step} {i : ℕ} {b : Thread} {w f : Bool} → (rowOf t i).state ≡ 0 → ReadyAfter t s i b w f → b.state ≢ 0
-    → SideOf (rowOf t i).call b.place × (b.call ≡ (rowOf t i).call)
-    × (b.remaining ≡ cond (eqb (rowOf t i).call.timeout 4294967295) 0 (rowOf t i).call.timeout)
+pub tried-full : {t : Tables} {s : Step} {i : ℕ} {b : Thread} {w f : Bool} → (row_of t i).state ≡ 0 → ReadyAfter t s i b w f → b.state ≢ 0
+    → SideOf (row_of t i).call b.place × (b.call ≡ (row_of t i).call)
+    × (b.remaining ≡ cond (eqb (row_of t i).call.timeout 4294967295) 0 (row_of t i).call.timeout)
 tried-full z (ReadyAfter.on e p q) n = absurd (n (ap (λ (u : Thread). u.state) e ∙ z))
 tried-full z (ReadyAfter.done x d g h e p q) n = absurd (n (ap (λ (u : Thread). u.state) e))
 tried-full {t} {s} {i} z (ReadyAfter.again pl side m e p q) n =
-    (subst (λ (u : Thread). SideOf (rowOf t i).call u.place) (sym e) side, ap (λ (u : Thread). u.call) e, ap (λ (u : Thread). u.remaining) e)
+    (subst (λ (u : Thread). SideOf (row_of t i).call u.place) (sym e) side, ap (λ (u : Thread). u.call) e, ap (λ (u : Thread). u.remaining) e)
 tried-full z (ReadyAfter.ready-again pl c side m by e p q) n = absurd (n (ap (λ (u : Thread). u.state) e))
 tried-full z (ReadyAfter.done-again pl c x d side m by h e p q) n = absurd (n (ap (λ (u : Thread). u.state) e))

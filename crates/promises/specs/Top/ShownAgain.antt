@@ -3,40 +3,40 @@
 use Rattle.std.proofs.Common.{arith}
 use Rattle.std.specs.Prelude.{◌≡◌, refl, List, [], ◌∷◌, ◌++◌}
 use Rattle.kernel.specs.declared.units.Rate.TheVariants.{Standard}
-use Rattle.kernel.specs.Walk.{firstFrom, all_from, count_of}
+use Rattle.kernel.specs.Walk.{first_from, all_from, count_of}
 use Rattle.kernel.specs.Words.{word_of, first_of}
-use Rattle.kernel.specs.Moves.{takenOff, putOn, woken, slept, finished, blocked}
-use Rattle.kernel.specs.Waiters.{firstReady, firstWaiter}
-use Rattle.kernel.specs.Queue.{enqueued, releasedFirst, releasedAll}
-use Rattle.kernel.specs.Semaphore.{taken, waited, signalled, resetTo}
-use Rattle.kernel.specs.Reference.{suspendedOn, resumed}
-use Rattle.kernel.specs.Delay.{sleptFor, sleptUntil}
-use Rattle.kernel.specs.Event.{tookFlags, eventSignalled, eventWaited}
+use Rattle.kernel.specs.Moves.{taken_off, put_on, woken, slept, finished, blocked}
+use Rattle.kernel.specs.Waiters.{first_ready, first_waiter}
+use Rattle.kernel.specs.Queue.{enqueued, released_first, released_all}
+use Rattle.kernel.specs.Semaphore.{taken, waited, signalled, reset_to}
+use Rattle.kernel.specs.Reference.{suspended_on, resumed}
+use Rattle.kernel.specs.Delay.{slept_for, slept_until}
+use Rattle.kernel.specs.Event.{took_flags, event_signalled, event_waited}
 use Rattle.kernel.specs.Ticking.{ticked}
-use Rattle.library.specs.Binary.{binarySignalled}
-use Rattle.library.specs.Ring.{positionsFit, posted as ringPosted, postedAhead, fetched as ringFetched, emptied}
-use Rattle.library.specs.Mailbox.{postDone, postTried, fetchDone, fetchTried, bothReleased, mailboxReset, mailboxResumed}
-use Rattle.library.specs.Pool.{popped, pushed, handedOver, allocTried, put_back}
-use Rattle.library.specs.Acting.{signalActed, callMade, effected, actedOnKernel, boxEffected, actedOnBox, acted}
+use Rattle.library.specs.Binary.{binary_signalled}
+use Rattle.library.specs.Ring.{positions_fit, posted as ring_posted, posted_ahead, fetched as ring_fetched, emptied}
+use Rattle.library.specs.Mailbox.{post_done, post_tried, fetch_done, fetch_tried, both_released, mailbox_reset, mailbox_resumed}
+use Rattle.library.specs.Pool.{popped, pushed, handed_over, alloc_tried, put_back}
+use Rattle.library.specs.Acting.{signal_acted, call_made, effected, acted_on_kernel, box_effected, acted_on_box, acted}
 use Rattle.library.specs.Fresh.{made}
-use Rattle.library.specs.Settling.{wentOn, settled}
-use Rattle.library.specs.Sizes.{sizesFit}
-use Rattle.rules.specs.RowRules.{callFits, waitFits, ticksFit, flagsFit, rowFits, rowsFit}
-use Rattle.rules.specs.PlaceRules.{queuedCount, countersFit}
-use Rattle.rules.specs.WordRules.{readyWord, waitingWord, readyFits, waitingFits, wordsFit}
-use Rattle.rules.specs.ReferenceRules.{holderFits, referencesFit}
-use Rattle.rules.specs.MailboxRules.{mailboxesFit}
-use Rattle.rules.specs.PoolRules.{promisedCount, occurrences, entriesFit, objectsFit, poolFits, poolsFit}
-use Rattle.rules.specs.Hanging.{hangsTogether}
-use Rattle.steps.specs.Refusal.{refusalOf}
-use Rattle.steps.specs.Stepping.{mask_of, outcomeOf, doneWith, refusedWith, stepped}
+use Rattle.library.specs.Settling.{went_on, settled}
+use Rattle.library.specs.Sizes.{sizes_fit}
+use Rattle.rules.specs.RowRules.{call_fits, wait_fits, ticks_fit, flags_fit, row_fits, rows_fit}
+use Rattle.rules.specs.PlaceRules.{queued_count, counters_fit}
+use Rattle.rules.specs.WordRules.{ready_word, waiting_word, ready_fits, waiting_fits, words_fit}
+use Rattle.rules.specs.ReferenceRules.{holder_fits, references_fit}
+use Rattle.rules.specs.MailboxRules.{mailboxes_fit}
+use Rattle.rules.specs.PoolRules.{promised_count, occurrences, entries_fit, objects_fit, pool_fits, pools_fit}
+use Rattle.rules.specs.Hanging.{hangs_together}
+use Rattle.steps.specs.Refusal.{refusal_of}
+use Rattle.steps.specs.Stepping.{mask_of, outcome_of, done_with, refused_with, stepped}
 use Rattle.library.specs.declared.calls.Step.{Step}
 use Rattle.library.specs.declared.sizes.Sizes.{Sizes}
 use Rattle.promises.specs.Paper.Host.{HostSteps}
-use Rattle.promises.specs.Paper.Waking.{rowOf}
-use Rattle.promises.specs.Paper.Run.{WokenIn, WakingOf, begunWith}
+use Rattle.promises.specs.Paper.Waking.{row_of}
+use Rattle.promises.specs.Paper.Run.{WokenIn, WakingOf, begun_with}
 use Rattle.promises.specs.Paper.Fresh.{Legal}
-use Rattle.promises.specs.Code.Steps.{moments, freshRan}
+use Rattle.promises.specs.Code.Steps.{moments, fresh_ran}
 use Rattle.promises.specs.Meant.Fresh.{code-legal}
 use Rattle.promises.specs.Top.ShownSteps.{by, more, typed}
 use Rattle.promises.specs.Top.Demands.{demand-3a-begun}
@@ -45,14 +45,14 @@ abbrev narrow : Sizes
 narrow = record { threads = 2; semaphores = 0; queues = 0; references = 0; mailboxes = 1; pools = 0; slots = 1 ∷ 0 ∷ 0 ∷ 0 ∷ [] }
 
 pub made-narrow : Legal narrow Standard
-unfolding all_from sizesFit made
+unfolding all_from sizes_fit made
 made-narrow = code-legal narrow Standard refl
 
 -- thread 0 sleeps for a tick, and thread 1 waits for a message, for at most two; thread 0 posts one, which wakes thread 1, and fetches it itself
-abbrev takenAway : List Step
-takenAway = by 0 11 0 1 ∷ by 1 17 0 2 ∷ by 255 1 0 0 ∷ by 0 15 5 0 ∷ by 0 17 0 0 ∷ []
+abbrev taken_away : List Step
+taken_away = by 0 11 0 1 ∷ by 1 17 0 2 ∷ by 255 1 0 0 ∷ by 0 15 5 0 ∷ by 0 17 0 0 ∷ []
 
-pub taken-typed : HostSteps takenAway
+pub taken-typed : HostSteps taken_away
 taken-typed =
     more 0 11 0 1 _ (omega arith)
     (more 1 17 0 2 _ (omega arith) (more 255 1 0 0 _ (omega arith) (more 0 15 5 0 _ (omega arith) (more 0 17 0 0 _ (omega arith) HostSteps.none))))
@@ -66,21 +66,21 @@ ticks = by 255 1 0 0 ∷ by 255 1 0 0 ∷ []
 
 -- the state of thread 1 before and after that step, the timeout that it begins with, its remaining ticks then, and its wake message at the end
 pub again-shown :
-    (rowOf (freshRan narrow Standard takenAway).tables 1).state
-    ∷ (rowOf (freshRan narrow Standard (takenAway ++ (leaves ∷ []))).tables 1).state
-    ∷ begunWith (freshRan narrow Standard takenAway).tables (freshRan narrow Standard takenAway).clock leaves 1
-    ∷ (rowOf (freshRan narrow Standard (takenAway ++ (leaves ∷ []))).tables 1).remaining
+    (row_of (fresh_ran narrow Standard taken_away).tables 1).state
+    ∷ (row_of (fresh_ran narrow Standard (taken_away ++ (leaves ∷ []))).tables 1).state
+    ∷ begun_with (fresh_ran narrow Standard taken_away).tables (fresh_ran narrow Standard taken_away).clock leaves 1
+    ∷ (row_of (fresh_ran narrow Standard (taken_away ++ (leaves ∷ []))).tables 1).remaining
     ∷ []
     ≡ 0 ∷ 3 ∷ 2 ∷ 2 ∷ []
-unfolding firstFrom all_from count_of word_of first_of firstReady firstWaiter takenOff putOn woken slept finished blocked enqueued releasedFirst releasedAll taken waited signalled resetTo suspendedOn resumed sleptFor sleptUntil tookFlags eventSignalled eventWaited ticked binarySignalled ringPosted postedAhead ringFetched emptied postDone postTried fetchDone fetchTried bothReleased mailboxReset mailboxResumed popped pushed handedOver allocTried put_back sizesFit made signalActed callMade effected actedOnKernel boxEffected actedOnBox acted wentOn settled callFits waitFits ticksFit flagsFit rowFits rowsFit queuedCount countersFit readyWord waitingWord readyFits waitingFits wordsFit holderFits referencesFit positionsFit mailboxesFit promisedCount occurrences entriesFit objectsFit poolFits poolsFit hangsTogether refusalOf mask_of outcomeOf doneWith refusedWith stepped
+unfolding first_from all_from count_of word_of first_of first_ready first_waiter taken_off put_on woken slept finished blocked enqueued released_first released_all taken waited signalled reset_to suspended_on resumed slept_for slept_until took_flags event_signalled event_waited ticked binary_signalled ring_posted posted_ahead ring_fetched emptied post_done post_tried fetch_done fetch_tried both_released mailbox_reset mailbox_resumed popped pushed handed_over alloc_tried put_back sizes_fit made signal_acted call_made effected acted_on_kernel box_effected acted_on_box acted went_on settled call_fits wait_fits ticks_fit flags_fit row_fits rows_fit queued_count counters_fit ready_word waiting_word ready_fits waiting_fits words_fit holder_fits references_fit positions_fit mailboxes_fit promised_count occurrences entries_fit objects_fit pool_fits pools_fit hangs_together refusal_of mask_of outcome_of done_with refused_with stepped
 again-shown = refl
 
 -- the promise speaks of it
 pub begun-again-shown :
     WokenIn 1 (WakingOf 1)
-    (moments (stepped (freshRan narrow Standard takenAway).tables (freshRan narrow Standard takenAway).clock leaves).tables
-    (stepped (freshRan narrow Standard takenAway).tables (freshRan narrow Standard takenAway).clock leaves).clock ticks)
-unfolding firstFrom all_from count_of word_of first_of firstReady firstWaiter takenOff putOn woken slept finished blocked enqueued releasedFirst releasedAll taken waited signalled resetTo suspendedOn resumed sleptFor sleptUntil tookFlags eventSignalled eventWaited ticked binarySignalled ringPosted postedAhead ringFetched emptied postDone postTried fetchDone fetchTried bothReleased mailboxReset mailboxResumed popped pushed handedOver allocTried put_back sizesFit made signalActed callMade effected actedOnKernel boxEffected actedOnBox acted wentOn settled callFits waitFits ticksFit flagsFit rowFits rowsFit queuedCount countersFit readyWord waitingWord readyFits waitingFits wordsFit holderFits referencesFit positionsFit mailboxesFit promisedCount occurrences entriesFit objectsFit poolFits poolsFit hangsTogether refusalOf mask_of outcomeOf doneWith refusedWith stepped
+    (moments (stepped (fresh_ran narrow Standard taken_away).tables (fresh_ran narrow Standard taken_away).clock leaves).tables
+    (stepped (fresh_ran narrow Standard taken_away).tables (fresh_ran narrow Standard taken_away).clock leaves).clock ticks)
+unfolding first_from all_from count_of word_of first_of first_ready first_waiter taken_off put_on woken slept finished blocked enqueued released_first released_all taken waited signalled reset_to suspended_on resumed slept_for slept_until took_flags event_signalled event_waited ticked binary_signalled ring_posted posted_ahead ring_fetched emptied post_done post_tried fetch_done fetch_tried both_released mailbox_reset mailbox_resumed popped pushed handed_over alloc_tried put_back sizes_fit made signal_acted call_made effected acted_on_kernel box_effected acted_on_box acted went_on settled call_fits wait_fits ticks_fit flags_fit row_fits rows_fit queued_count counters_fit ready_word waiting_word ready_fits waiting_fits words_fit holder_fits references_fit positions_fit mailboxes_fit promised_count occurrences entries_fit objects_fit pool_fits pools_fit hangs_together refusal_of mask_of outcome_of done_with refused_with stepped
 begun-again-shown =
-    demand-3a-begun narrow Standard made-narrow takenAway taken-typed ticks (more 255 1 0 0 _ (omega arith) (more 255 1 0 0 _ (omega arith) HostSteps.none))
+    demand-3a-begun narrow Standard made-narrow taken_away taken-typed ticks (more 255 1 0 0 _ (omega arith) (more 255 1 0 0 _ (omega arith) HostSteps.none))
     1 (omega arith) leaves (typed 0 11 0 100 (omega arith)) refl refl (λ z. omega (arith, z)) (omega arith) (omega arith)

@@ -3,41 +3,41 @@
 use Rattle.std.specs.Prelude.{ℕ, ◌≡◌, refl, List, [], ◌∷◌}
 use Rattle.std.proofs.Common.{arith}
 use Rattle.kernel.specs.declared.units.Rate.TheVariants.{Standard}
-use Rattle.kernel.specs.Walk.{firstFrom, all_from, count_of}
+use Rattle.kernel.specs.Walk.{first_from, all_from, count_of}
 use Rattle.kernel.specs.Words.{word_of, first_of}
-use Rattle.kernel.specs.Moves.{takenOff, putOn, woken, slept, finished, blocked}
-use Rattle.kernel.specs.Waiters.{firstReady, firstWaiter}
-use Rattle.kernel.specs.Queue.{enqueued, releasedFirst, releasedAll}
-use Rattle.kernel.specs.Semaphore.{taken, waited, signalled, resetTo}
-use Rattle.kernel.specs.Reference.{suspendedOn, resumed}
-use Rattle.kernel.specs.Delay.{sleptFor, sleptUntil}
-use Rattle.kernel.specs.Event.{tookFlags, eventSignalled, eventWaited}
+use Rattle.kernel.specs.Moves.{taken_off, put_on, woken, slept, finished, blocked}
+use Rattle.kernel.specs.Waiters.{first_ready, first_waiter}
+use Rattle.kernel.specs.Queue.{enqueued, released_first, released_all}
+use Rattle.kernel.specs.Semaphore.{taken, waited, signalled, reset_to}
+use Rattle.kernel.specs.Reference.{suspended_on, resumed}
+use Rattle.kernel.specs.Delay.{slept_for, slept_until}
+use Rattle.kernel.specs.Event.{took_flags, event_signalled, event_waited}
 use Rattle.kernel.specs.Ticking.{ticked}
-use Rattle.library.specs.Binary.{binarySignalled}
-use Rattle.library.specs.Ring.{positionsFit, posted as ringPosted, postedAhead, fetched as ringFetched, emptied}
-use Rattle.library.specs.Mailbox.{postDone, postTried, fetchDone, fetchTried, bothReleased, mailboxReset, mailboxResumed}
-use Rattle.library.specs.Pool.{popped, pushed, handedOver, allocTried, put_back}
-use Rattle.library.specs.Acting.{signalActed, callMade, effected, actedOnKernel, boxEffected, actedOnBox, acted}
+use Rattle.library.specs.Binary.{binary_signalled}
+use Rattle.library.specs.Ring.{positions_fit, posted as ring_posted, posted_ahead, fetched as ring_fetched, emptied}
+use Rattle.library.specs.Mailbox.{post_done, post_tried, fetch_done, fetch_tried, both_released, mailbox_reset, mailbox_resumed}
+use Rattle.library.specs.Pool.{popped, pushed, handed_over, alloc_tried, put_back}
+use Rattle.library.specs.Acting.{signal_acted, call_made, effected, acted_on_kernel, box_effected, acted_on_box, acted}
 use Rattle.library.specs.Fresh.{made}
-use Rattle.library.specs.Settling.{wentOn, settled}
-use Rattle.library.specs.Sizes.{sizesFit}
-use Rattle.rules.specs.RowRules.{callFits, waitFits, ticksFit, flagsFit, rowFits, rowsFit}
-use Rattle.rules.specs.PlaceRules.{queuedCount, countersFit}
-use Rattle.rules.specs.WordRules.{readyWord, waitingWord, readyFits, waitingFits, wordsFit}
-use Rattle.rules.specs.ReferenceRules.{holderFits, referencesFit}
-use Rattle.rules.specs.MailboxRules.{mailboxesFit}
-use Rattle.rules.specs.PoolRules.{promisedCount, occurrences, entriesFit, objectsFit, poolFits, poolsFit}
-use Rattle.rules.specs.Hanging.{hangsTogether}
-use Rattle.steps.specs.Refusal.{refusalOf}
-use Rattle.steps.specs.Stepping.{mask_of, outcomeOf, doneWith, refusedWith, stepped}
+use Rattle.library.specs.Settling.{went_on, settled}
+use Rattle.library.specs.Sizes.{sizes_fit}
+use Rattle.rules.specs.RowRules.{call_fits, wait_fits, ticks_fit, flags_fit, row_fits, rows_fit}
+use Rattle.rules.specs.PlaceRules.{queued_count, counters_fit}
+use Rattle.rules.specs.WordRules.{ready_word, waiting_word, ready_fits, waiting_fits, words_fit}
+use Rattle.rules.specs.ReferenceRules.{holder_fits, references_fit}
+use Rattle.rules.specs.MailboxRules.{mailboxes_fit}
+use Rattle.rules.specs.PoolRules.{promised_count, occurrences, entries_fit, objects_fit, pool_fits, pools_fit}
+use Rattle.rules.specs.Hanging.{hangs_together}
+use Rattle.steps.specs.Refusal.{refusal_of}
+use Rattle.steps.specs.Stepping.{mask_of, outcome_of, done_with, refused_with, stepped}
 use Rattle.library.specs.declared.calls.Step.{Step}
 use Rattle.library.specs.declared.sizes.Sizes.{Sizes}
 use Rattle.promises.specs.Paper.Host.{HostSteps}
-use Rattle.promises.specs.Paper.Waking.{rowOf}
-use Rattle.promises.specs.Paper.Run.{Moment, isAccepted, howMany}
-use Rattle.promises.specs.Paper.Causes.{whyOf, notYet, LastWaking}
+use Rattle.promises.specs.Paper.Waking.{row_of}
+use Rattle.promises.specs.Paper.Run.{Moment, is_accepted, how_many}
+use Rattle.promises.specs.Paper.Causes.{why_of, not_yet, LastWaking}
 use Rattle.promises.specs.Paper.Fresh.{Legal}
-use Rattle.promises.specs.Code.Steps.{freshMoments, freshRan}
+use Rattle.promises.specs.Code.Steps.{fresh_moments, fresh_ran}
 use Rattle.promises.specs.Meant.Fresh.{code-legal}
 use Rattle.promises.specs.Top.ShownSteps.{by, more}
 use Rattle.promises.specs.Top.Causes.{why-fresh, steps-fresh}
@@ -46,7 +46,7 @@ abbrev valve : Sizes
 valve = record { threads = 2; semaphores = 1; queues = 0; references = 0; mailboxes = 1; pools = 0; slots = 1 ∷ 0 ∷ 0 ∷ 0 ∷ [] }
 
 pub made-valve : Legal valve Standard
-unfolding all_from sizesFit made
+unfolding all_from sizes_fit made
 made-valve = code-legal valve Standard refl
 
 -- thread 0 waits, and an interrupt signals; it waits for a tick, signals where it does not run, which is refused, and the tick comes; it waits, and
@@ -90,14 +90,14 @@ shown (m ∷ ms) =
     (m.result.code
     ∷ m.result.woken
     ∷ m.after.kernel.steps
-    ∷ (rowOf m.after 0).cause
-    ∷ (rowOf m.after 0).step
-    ∷ (rowOf m.after 1).cause
-    ∷ (rowOf m.after 1).step
+    ∷ (row_of m.after 0).cause
+    ∷ (row_of m.after 0).step
+    ∷ (row_of m.after 1).cause
+    ∷ (row_of m.after 1).step
     ∷ [])
     ∷ shown ms
 
-pub shift-shown : shown (freshMoments valve Standard shift)
+pub shift-shown : shown (fresh_moments valve Standard shift)
     ≡ (0 ∷ 0 ∷ 1 ∷ 0 ∷ 0 ∷ 0 ∷ 0 ∷ [])
     ∷ (0 ∷ 1 ∷ 2 ∷ 1 ∷ 2 ∷ 0 ∷ 0 ∷ [])
     ∷ (0 ∷ 0 ∷ 3 ∷ 1 ∷ 2 ∷ 0 ∷ 0 ∷ [])
@@ -112,15 +112,15 @@ pub shift-shown : shown (freshMoments valve Standard shift)
     ∷ (0 ∷ 2 ∷ 11 ∷ 8 ∷ 10 ∷ 6 ∷ 11 ∷ [])
     ∷ (0 ∷ 1 ∷ 12 ∷ 5 ∷ 12 ∷ 6 ∷ 11 ∷ [])
     ∷ []
-unfolding firstFrom all_from count_of word_of first_of firstReady firstWaiter takenOff putOn woken slept finished blocked enqueued releasedFirst releasedAll taken waited signalled resetTo suspendedOn resumed sleptFor sleptUntil tookFlags eventSignalled eventWaited ticked binarySignalled ringPosted postedAhead ringFetched emptied postDone postTried fetchDone fetchTried bothReleased mailboxReset mailboxResumed popped pushed handedOver allocTried put_back sizesFit made signalActed callMade effected actedOnKernel boxEffected actedOnBox acted wentOn settled callFits waitFits ticksFit flagsFit rowFits rowsFit queuedCount countersFit readyWord waitingWord readyFits waitingFits wordsFit holderFits referencesFit positionsFit mailboxesFit promisedCount occurrences entriesFit objectsFit poolFits poolsFit hangsTogether refusalOf mask_of outcomeOf doneWith refusedWith stepped
+unfolding first_from all_from count_of word_of first_of first_ready first_waiter taken_off put_on woken slept finished blocked enqueued released_first released_all taken waited signalled reset_to suspended_on resumed slept_for slept_until took_flags event_signalled event_waited ticked binary_signalled ring_posted posted_ahead ring_fetched emptied post_done post_tried fetch_done fetch_tried both_released mailbox_reset mailbox_resumed popped pushed handed_over alloc_tried put_back sizes_fit made signal_acted call_made effected acted_on_kernel box_effected acted_on_box acted went_on settled call_fits wait_fits ticks_fit flags_fit row_fits rows_fit queued_count counters_fit ready_word waiting_word ready_fits waiting_fits words_fit holder_fits references_fit positions_fit mailboxes_fit promised_count occurrences entries_fit objects_fit pool_fits pools_fit hangs_together refusal_of mask_of outcome_of done_with refused_with stepped
 shift-shown = refl
 
 -- the promise speaks of it
-pub shift-why : LastWaking 0 (whyOf (rowOf (freshRan valve Standard shift).tables 0)) 0 notYet (freshMoments valve Standard shift)
+pub shift-why : LastWaking 0 (why_of (row_of (fresh_ran valve Standard shift).tables 0)) 0 not_yet (fresh_moments valve Standard shift)
 shift-why = why-fresh valve Standard made-valve shift shift-typed 0 (omega arith)
 
 -- and its step number is the number of accepted steps: thirteen, less the refused one
-pub shift-steps : (howMany isAccepted (freshMoments valve Standard shift) ≡ 12)
-    × ((freshRan valve Standard shift).tables.kernel.steps ≡ 12)
-unfolding firstFrom all_from count_of word_of first_of firstReady firstWaiter takenOff putOn woken slept finished blocked enqueued releasedFirst releasedAll taken waited signalled resetTo suspendedOn resumed sleptFor sleptUntil tookFlags eventSignalled eventWaited ticked binarySignalled ringPosted postedAhead ringFetched emptied postDone postTried fetchDone fetchTried bothReleased mailboxReset mailboxResumed popped pushed handedOver allocTried put_back sizesFit made signalActed callMade effected actedOnKernel boxEffected actedOnBox acted wentOn settled callFits waitFits ticksFit flagsFit rowFits rowsFit queuedCount countersFit readyWord waitingWord readyFits waitingFits wordsFit holderFits referencesFit positionsFit mailboxesFit promisedCount occurrences entriesFit objectsFit poolFits poolsFit hangsTogether refusalOf mask_of outcomeOf doneWith refusedWith stepped
+pub shift-steps : (how_many is_accepted (fresh_moments valve Standard shift) ≡ 12)
+    × ((fresh_ran valve Standard shift).tables.kernel.steps ≡ 12)
+unfolding first_from all_from count_of word_of first_of first_ready first_waiter taken_off put_on woken slept finished blocked enqueued released_first released_all taken waited signalled reset_to suspended_on resumed slept_for slept_until took_flags event_signalled event_waited ticked binary_signalled ring_posted posted_ahead ring_fetched emptied post_done post_tried fetch_done fetch_tried both_released mailbox_reset mailbox_resumed popped pushed handed_over alloc_tried put_back sizes_fit made signal_acted call_made effected acted_on_kernel box_effected acted_on_box acted went_on settled call_fits wait_fits ticks_fit flags_fit row_fits rows_fit queued_count counters_fit ready_word waiting_word ready_fits waiting_fits words_fit holder_fits references_fit positions_fit mailboxes_fit promised_count occurrences entries_fit objects_fit pool_fits pools_fit hangs_together refusal_of mask_of outcome_of done_with refused_with stepped
 shift-steps = (refl, steps-fresh valve Standard made-valve shift shift-typed (omega arith))

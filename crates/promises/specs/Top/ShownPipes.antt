@@ -3,19 +3,19 @@
 -- a pipe that is lent another buffer at each call: what is promised of the one holds, whatever is done to the other.
 use Rattle.std.specs.Prelude.{ℕ, ◌≡◌, refl, List, [], ◌∷◌, ◌++◌, ℤ, pos, negsuc, replicate}
 use Rattle.std.proofs.Common.{arith}
-use Rattle.library.specs.Ring.{positionsFit}
+use Rattle.library.specs.Ring.{positions_fit}
 use Rattle.pipes.specs.declared.table.Pipes.{Pipes}
 use Rattle.pipes.specs.Carrying.{carried}
-use Rattle.pipes.specs.Judging.{pipeRefusal}
-use Rattle.pipes.specs.Opening.{pipesFresh, pipeReset, pipeResumed}
-use Rattle.pipes.specs.Transfer.{goesAhead, stopped, goneOn, writeAnswer, bufferWritten, readAnswer, targetRead}
-use Rattle.promises.specs.Paper.Pipes.{noPipe, pipeOf, PipeCall, PipeMoment, bufferAfter, OwnLent, Lending, inPipe, Told}
-use Rattle.promises.specs.Code.Pipes.{freshPipes, pipeMoment, pipeMoments, pipesRan}
+use Rattle.pipes.specs.Judging.{pipe_refusal}
+use Rattle.pipes.specs.Opening.{pipes_fresh, pipe_reset, pipe_resumed}
+use Rattle.pipes.specs.Transfer.{goes_ahead, stopped, gone_on, write_answer, buffer_written, read_answer, target_read}
+use Rattle.promises.specs.Paper.Pipes.{no_pipe, pipe_of, PipeCall, PipeMoment, buffer_after, OwnLent, Lending, in_pipe, Told}
+use Rattle.promises.specs.Code.Pipes.{fresh_pipes, pipe_moment, pipe_moments, pipes_ran}
 use Rattle.promises.specs.Top.Pipes.{since, bytes-always}
 
 -- no table yet, and two pipes are asked for
 abbrev before : Pipes
-before = record { pipes = replicate 4 noPipe; number = 0 }
+before = record { pipes = replicate 4 no_pipe; number = 0 }
 
 -- pipe 1's own buffer
 abbrev own : List ℕ
@@ -50,7 +50,7 @@ seen [] = []
 seen (m ∷ ms) = record { code = m.code; moved = m.moved; target = m.target } ∷ seen ms
 
 -- 3 bytes; 2 of them; 4 of 5, two behind the end and two at the start; refused; 4 of the 5 that are there; reset; -2; resumed; 1 byte
-pub calls_seen : seen (pipeMoments (freshPipes before 2) (calls ++ later))
+pub calls_seen : seen (pipe_moments (fresh_pipes before 2) (calls ++ later))
     ≡ record { code = 0; moved = pos 3; target = [] }
     ∷ record { code = 0; moved = pos 2; target = 11 ∷ 12 ∷ [] }
     ∷ record { code = 0; moved = pos 4; target = [] }
@@ -61,7 +61,7 @@ pub calls_seen : seen (pipeMoments (freshPipes before 2) (calls ++ later))
     ∷ record { code = 0; moved = pos 0; target = [] }
     ∷ record { code = 0; moved = pos 1; target = [] }
     ∷ []
-unfolding positionsFit carried pipeRefusal pipesFresh pipeReset pipeResumed goesAhead stopped goneOn writeAnswer bufferWritten readAnswer targetRead
+unfolding positions_fit carried pipe_refusal pipes_fresh pipe_reset pipe_resumed goes_ahead stopped gone_on write_answer buffer_written read_answer target_read
 calls_seen = refl
 
 -- code 5 is a refusal, and pipe 0 is not pipe 2
@@ -72,8 +72,8 @@ apart : {A : Type 0} → ◌≡◌ {A = ℕ} 0 2 → A
 apart e = absurd (omega arith)
 
 -- each accepted call was lent the buffer that the last one left
-pub lending-shown : Lending 1 own (pipeMoments (freshPipes before 2) calls)
-unfolding positionsFit carried pipeRefusal pipesFresh pipeReset pipeResumed goesAhead stopped goneOn writeAnswer bufferWritten readAnswer targetRead
+pub lending-shown : Lending 1 own (pipe_moments (fresh_pipes before 2) calls)
+unfolding positions_fit carried pipe_refusal pipes_fresh pipe_reset pipe_resumed goes_ahead stopped gone_on write_answer buffer_written read_answer target_read
 lending-shown =
     Lending.more (λ e z. refl)
     (Lending.more (λ e z. refl) (Lending.more (λ e z. refl) (Lending.more (λ e z. refusal z) (Lending.more (λ e z. refl) Lending.none))))
@@ -81,16 +81,16 @@ lending-shown =
 -- what was written, and what was read of it
 pub story-shown : since before 2 (omega arith) 1 own (omega arith) calls lending-shown
     ≡ record { written = 11 ∷ 12 ∷ 13 ∷ 14 ∷ 15 ∷ 16 ∷ 17 ∷ []; read = 11 ∷ 12 ∷ 13 ∷ 14 ∷ 15 ∷ 16 ∷ [] }
-unfolding positionsFit carried pipeRefusal pipesFresh pipeReset pipeResumed goesAhead stopped goneOn writeAnswer bufferWritten readAnswer targetRead
+unfolding positions_fit carried pipe_refusal pipes_fresh pipe_reset pipe_resumed goes_ahead stopped gone_on write_answer buffer_written read_answer target_read
 story-shown = refl
 
 -- the one that is left is in the pipe
-pub left-shown : inPipe (pipeOf (pipesRan (freshPipes before 2) calls) 1).positions (bufferAfter 1 own (pipeMoments (freshPipes before 2) calls)) ≡ 17 ∷ []
-unfolding positionsFit carried pipeRefusal pipesFresh pipeReset pipeResumed goesAhead stopped goneOn writeAnswer bufferWritten readAnswer targetRead
+pub left-shown : in_pipe (pipe_of (pipes_ran (fresh_pipes before 2) calls) 1).positions (buffer_after 1 own (pipe_moments (fresh_pipes before 2) calls)) ≡ 17 ∷ []
+unfolding positions_fit carried pipe_refusal pipes_fresh pipe_reset pipe_resumed goes_ahead stopped gone_on write_answer buffer_written read_answer target_read
 left-shown = refl
 
 pub bytes-shown : Told (since before 2 (omega arith) 1 own (omega arith) calls lending-shown)
-    (pipeOf (pipesRan (freshPipes before 2) calls) 1).positions (bufferAfter 1 own (pipeMoments (freshPipes before 2) calls))
+    (pipe_of (pipes_ran (fresh_pipes before 2) calls) 1).positions (buffer_after 1 own (pipe_moments (fresh_pipes before 2) calls))
 bytes-shown = bytes-always before 2 (omega arith) 1 own (omega arith) calls lending-shown
 
 -- ---- two pipes, of which one is lent another buffer each time
@@ -107,7 +107,7 @@ beside =
     ∷ []
 
 -- all are accepted, and pipe 2 gives a byte that nobody wrote to it
-pub beside-seen : seen (pipeMoments (freshPipes before 3) beside)
+pub beside-seen : seen (pipe_moments (fresh_pipes before 3) beside)
     ≡ record { code = 0; moved = pos 2; target = [] }
     ∷ record { code = 0; moved = pos 3; target = [] }
     ∷ record { code = 0; moved = pos 1; target = 77 ∷ [] }
@@ -115,16 +115,16 @@ pub beside-seen : seen (pipeMoments (freshPipes before 3) beside)
     ∷ record { code = 0; moved = pos 1; target = [] }
     ∷ record { code = 0; moved = pos 2; target = [] }
     ∷ []
-unfolding positionsFit carried pipeRefusal pipesFresh pipeReset pipeResumed goesAhead stopped goneOn writeAnswer bufferWritten readAnswer targetRead
+unfolding positions_fit carried pipe_refusal pipes_fresh pipe_reset pipe_resumed goes_ahead stopped gone_on write_answer buffer_written read_answer target_read
 beside-seen = refl
 
 -- what a call lends to pipe 2 is nothing to pipe 0's buffer c, whatever it is
-pub elsewhere-free : (t : Pipes) (b l c : List ℕ) → OwnLent 0 c (pipeMoment t (PipeCall.write 2 b l))
+pub elsewhere-free : (t : Pipes) (b l c : List ℕ) → OwnLent 0 c (pipe_moment t (PipeCall.write 2 b l))
 elsewhere-free t b l c e z = apart e
 
 -- pipe 0 was lent its own buffer, as the last call on it left it
-pub beside-lent : Lending 0 (0 ∷ 0 ∷ 0 ∷ 0 ∷ []) (pipeMoments (freshPipes before 3) beside)
-unfolding positionsFit carried pipeRefusal pipesFresh pipeReset pipeResumed goesAhead stopped goneOn writeAnswer bufferWritten readAnswer targetRead
+pub beside-lent : Lending 0 (0 ∷ 0 ∷ 0 ∷ 0 ∷ []) (pipe_moments (fresh_pipes before 3) beside)
+unfolding positions_fit carried pipe_refusal pipes_fresh pipe_reset pipe_resumed goes_ahead stopped gone_on write_answer buffer_written read_answer target_read
 beside-lent =
     Lending.more (λ e z. apart e)
     (Lending.more (λ e z. refl)
@@ -132,14 +132,14 @@ beside-lent =
 
 -- so its bytes are told
 pub beside-told : Told (since before 3 (omega arith) 0 (0 ∷ 0 ∷ 0 ∷ 0 ∷ []) (omega arith) beside beside-lent)
-    (pipeOf (pipesRan (freshPipes before 3) beside) 0).positions
-    (bufferAfter 0 (0 ∷ 0 ∷ 0 ∷ 0 ∷ []) (pipeMoments (freshPipes before 3) beside))
+    (pipe_of (pipes_ran (fresh_pipes before 3) beside) 0).positions
+    (buffer_after 0 (0 ∷ 0 ∷ 0 ∷ 0 ∷ []) (pipe_moments (fresh_pipes before 3) beside))
 beside-told = bytes-always before 3 (omega arith) 0 (0 ∷ 0 ∷ 0 ∷ 0 ∷ []) (omega arith) beside beside-lent
 
 -- which are these
 pub beside-story : since before 3 (omega arith) 0 (0 ∷ 0 ∷ 0 ∷ 0 ∷ []) (omega arith) beside beside-lent
     ≡ record { written = 1 ∷ 2 ∷ 3 ∷ 4 ∷ 5 ∷ []; read = 1 ∷ 2 ∷ [] }
-unfolding positionsFit carried pipeRefusal pipesFresh pipeReset pipeResumed goesAhead stopped goneOn writeAnswer bufferWritten readAnswer targetRead
+unfolding positions_fit carried pipe_refusal pipes_fresh pipe_reset pipe_resumed goes_ahead stopped gone_on write_answer buffer_written read_answer target_read
 beside-story = refl
 
 -- each refusal: no such pipe, a table of five, no buffer, one of 257 bytes, a write place that does not follow; and five fresh pipes
@@ -147,15 +147,15 @@ abbrev unfit : Pipes
 unfit = record { pipes = replicate 4 (record { positions = record { read = 0; write = 1; count = 0 }; reset = 0 }); number = 1 }
 
 abbrev five : Pipes
-five = record { pipes = replicate 4 noPipe; number = 5 }
+five = record { pipes = replicate 4 no_pipe; number = 5 }
 
-pub refusals-shown : (pipeReset (freshPipes before 2) 2 5).code
-    ∷ (pipeReset five 0 5).code
-    ∷ (pipeReset (freshPipes before 2) 0 0).code
-    ∷ (pipeReset (freshPipes before 2) 0 257).code
-    ∷ (pipeReset unfit 0 5).code
-    ∷ (pipesFresh before 5).code
+pub refusals-shown : (pipe_reset (fresh_pipes before 2) 2 5).code
+    ∷ (pipe_reset five 0 5).code
+    ∷ (pipe_reset (fresh_pipes before 2) 0 0).code
+    ∷ (pipe_reset (fresh_pipes before 2) 0 257).code
+    ∷ (pipe_reset unfit 0 5).code
+    ∷ (pipes_fresh before 5).code
     ∷ []
     ≡ 5 ∷ 5 ∷ 5 ∷ 5 ∷ 6 ∷ 14 ∷ []
-unfolding positionsFit pipeRefusal pipesFresh pipeReset
+unfolding positions_fit pipe_refusal pipes_fresh pipe_reset
 refusals-shown = refl

@@ -6,15 +6,15 @@ use Rattle.kernel.specs.Walk.{all_from}
 use Rattle.kernel.proofs.Cases.{both-means}
 use Rattle.library.specs.declared.calls.Step.{Step}
 use Rattle.library.specs.declared.sizes.Sizes.{Sizes}
-use Rattle.library.specs.Sizes.{sizesFit}
-use Rattle.trace.specs.Ordered.{getN}
-use Rattle.trace.specs.TraceBytes.{head_of, recordOf}
-use Rattle.trace.specs.Decoding.{endsInside, lengthRefusal, stepRefusal, decodedSizes, decodedStep, openedRead, steppedRead, nextRead}
-use Rattle.trace.specs.Writer.{sizesAnswer, sizesWritten, stepAnswer, stepWritten}
+use Rattle.library.specs.Sizes.{sizes_fit}
+use Rattle.trace.specs.Ordered.{get_n}
+use Rattle.trace.specs.TraceBytes.{head_of, record_of}
+use Rattle.trace.specs.Decoding.{ends_inside, length_refusal, step_refusal, decoded_sizes, decoded_step, opened_read, stepped_read, next_read}
+use Rattle.trace.specs.Writer.{sizes_answer, sizes_written, step_answer, step_written}
 use Rattle.promises.specs.Paper.Reader.{byte}
 use Rattle.promises.specs.Paper.Writer.{AnyStep}
 use Rattle.promises.specs.Paper.Traces.{StepsWritten, TraceWritten, StepsRead, TraceRead, AnySteps}
-use Rattle.promises.specs.Code.Traces.{traceCode}
+use Rattle.promises.specs.Code.Traces.{trace_code}
 use Rattle.promises.specs.Meant.Sizes.{fit-limits}
 use Rattle.promises.specs.Top.Traces.{demand-2-traces}
 
@@ -52,22 +52,22 @@ bytes =
     ++ (0 ∷ 11 ∷ 255 ∷ 77 ∷ 200 ∷ 255 ∷ 0 ∷ 0 ∷ 1 ∷ 5 ∷ 6 ∷ 7 ∷ 8 ∷ [])
 
 -- it can be written, by the demand
-pub writes-shown : (k : List ℕ) × TraceWritten traceCode given steps (replicate 40 7) 36 k
-unfolding all_from sizesFit
+pub writes-shown : (k : List ℕ) × TraceWritten trace_code given steps (replicate 40 7) 36 k
+unfolding all_from sizes_fit
 writes-shown = demand-2-traces.writes given steps (replicate 40 7) (fit-limits given refl) (omega arith) (omega arith)
 
 -- and is, by the functions themselves
-pub written-shown : TraceWritten traceCode given steps (replicate 40 7) 36 (bytes ++ replicate 4 7)
-unfolding all_from sizesFit sizesAnswer sizesWritten head_of stepAnswer stepWritten recordOf
+pub written-shown : TraceWritten trace_code given steps (replicate 40 7) 36 (bytes ++ replicate 4 7)
+unfolding all_from sizes_fit sizes_answer sizes_written head_of step_answer step_written record_of
 written-shown = TraceWritten.written 10 refl (StepsWritten.more refl (StepsWritten.more refl StepsWritten.none))
 
 -- read back, by the demand
-pub read-shown : TraceRead traceCode bytes held steps
+pub read-shown : TraceRead trace_code bytes held steps
 read-shown = demand-2-traces.back given steps (replicate 40 7) (bytes ++ replicate 4 7) 36 steps-any written-shown
 
 -- and by the functions themselves
-pub read-computed : TraceRead traceCode bytes held steps
-unfolding all_from sizesFit getN endsInside lengthRefusal stepRefusal decodedSizes decodedStep openedRead steppedRead nextRead
+pub read-computed : TraceRead trace_code bytes held steps
+unfolding all_from sizes_fit get_n ends_inside length_refusal step_refusal decoded_sizes decoded_step opened_read stepped_read next_read
 read-computed = TraceRead.read refl refl (StepsRead.more refl (StepsRead.more refl (StepsRead.ended refl)))
 
 abbrev all_bytes : List ℕ → Bool
@@ -80,5 +80,5 @@ all-bytes (b ∷ l) e zero = ltb-true b 256 (both-means (ltb b 256) (all_bytes l
 all-bytes (b ∷ l) e (suc i) = all-bytes l (both-means (ltb b 256) (all_bytes l) e).1 i
 
 -- written again, in front of what the buffer held
-pub again-shown : TraceWritten traceCode held steps (replicate 38 9) 36 (bytes ++ replicate 2 9)
+pub again-shown : TraceWritten trace_code held steps (replicate 38 9) 36 (bytes ++ replicate 2 9)
 again-shown = demand-2-traces.again bytes held steps (replicate 38 9) (all-bytes bytes refl) read-computed (omega arith)

@@ -17,10 +17,10 @@ use Rattle.promises.specs.Paper.World.{found}
 use Rattle.promises.specs.Paper.Host.{Host, HostSteps, Going}
 use Rattle.promises.specs.Paper.Refusals.{Broken}
 use Rattle.promises.specs.Paper.Together.{larger, PoolFits}
-use Rattle.promises.specs.Paper.Waking.{rowOf}
+use Rattle.promises.specs.Paper.Waking.{row_of}
 use Rattle.promises.specs.Paper.Signals.{Counts, SignalTold}
 use Rattle.promises.specs.Paper.Fresh.{Legal}
-use Rattle.promises.specs.Code.Steps.{ran, freshRan}
+use Rattle.promises.specs.Code.Steps.{ran, fresh_ran}
 use Rattle.promises.specs.Runs.Waiters.{waited-low}
 use Rattle.promises.specs.Runs.Signals.{signal-is-told}
 use Rattle.promises.specs.Top.Demands.{demand-1, fresh-going, run-going}
@@ -62,8 +62,8 @@ module _ (t : Tables) (c : Clock) (s : Step) (host : Host t c s) where
   signal-told e = signal-is-told t c s host e
 
   -- of those that demand 3c counts: as long as a thread waits there, each plain signal that is accepted counts. None of them is at the top
-  pub waiter-counts : (stepped t c s).outcome.code ≡ 0 → s.kind ≡ 3 → (i : ℕ) → i < t.sizes.threads → (rowOf t i).state ≡ 3
-      → (rowOf t i).place ≡ s.object → Counts t s (stepped t c s)
+  pub waiter-counts : (stepped t c s).outcome.code ≡ 0 → s.kind ≡ 3 → (i : ℕ) → i < t.sizes.threads → (row_of t i).state ≡ 3
+      → (row_of t i).place ≡ s.object → Counts t s (stepped t c s)
   waiter-counts e k i l q p =
       (signal-told e).counts k (below_top ((found t).counter s.object) 0 (omega arith) (waited-low t c s host e s.object i l q p refl k))
 
@@ -82,6 +82,6 @@ module _ (t : Tables) (c : Clock) (g : Going t c) (ss : List Step) (hs : HostSte
   pools-low q l = pool-low ((run-going ss hs t c g).together.pools q l)
 
 pub pools-low-fresh : (y : Sizes) (r : Rate) (legal : Legal y r) (ss : List Step) → HostSteps ss → (q : ℕ)
-    → q < (freshRan y r ss).tables.sizes.pools
-    → lt_z (pos 32) ((found (freshRan y r ss).tables).counter (16 + q)) ≡ false
+    → q < (fresh_ran y r ss).tables.sizes.pools
+    → lt_z (pos 32) ((found (fresh_ran y r ss).tables).counter (16 + q)) ≡ false
 pools-low-fresh y r legal ss hs = pools-low (made y r).tables (made y r).clock (fresh-going y r legal) ss hs

@@ -1,15 +1,15 @@
 -- A refused step enters nothing; an accepted one what the callees ensure.
 use Rattle.std.proofs.Common.{eq-eqb, ne_eqb}
-use Rattle.accounts.specs.Accounting.{accountedStep}
+use Rattle.accounts.specs.Accounting.{accounted_step}
 use Rattle.accounts.proofs.accounting.account_step.Statement.{statement}
 use Rattle.accounts.proofs.accounting.account_step.Tie as tie
 
 returns : tie.Need-returns
-unfolding accountedStep
+unfolding accounted_step
 returns c = rw (ne_eqb _ _ c.if1.true)
 
 returns-2 : tie.Need-returns-2
-unfolding accountedStep
+unfolding accounted_step
 returns-2 c =
     let test = c.before.before.before.before.before in
     rw (eq-eqb _ _ test.if1.false, c.enter-threads.ensures, c.before.enter-interrupt.ensures)

@@ -1,13 +1,13 @@
 -- The invariant: r is what i turns of the meaning give.
 use Rattle.std.proofs.Common.{◌≡◌, ◌-◌, ◌≤◌, refl, add-one, arith}
 use Rattle.kernel.specs.Walk.{each}
-use Rattle.accounts.specs.Accounting.{threadEntered, threadsEntered}
+use Rattle.accounts.specs.Accounting.{thread_entered, threads_entered}
 use Rattle.accounts.proofs.accounting.enter_threads.Statement.{statement}
 use Rattle.accounts.proofs.accounting.enter_threads.Tie as tie
 
 abbrev invariant-loop : tie.invariant-loop
 invariant-loop number mailboxes s finished old new r₀ i₀ r i =
-    (i ≤ 16) × (r ≡ each i (threadEntered number mailboxes old s finished new) r₀)
+    (i ≤ 16) × (r ≡ each i (thread_entered number mailboxes old s finished new) r₀)
 
 abbrev decreases-loop : tie.decreases-loop
 decreases-loop number mailboxes s finished old new r₀ i₀ r i = 16 - i
@@ -27,7 +27,7 @@ loop-again c =
     )
 
 returns : tie.Need-returns invariant-loop decreases-loop
-unfolding threadsEntered
+unfolding threads_entered
 returns c =
     let end : c.before.loop.i ≡ 16 = omega arith in
     rw (c.before.loop.invariant.1, end)

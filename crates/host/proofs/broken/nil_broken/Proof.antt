@@ -37,7 +37,7 @@ use denote.Triple.Walked.{says, Stays, stay_none_ref, walk_of, AllGo, Goes-none_
 use denote.Triple.Clauses.{ensured, lasts}
 use Rattle.kernel.specs.declared.clock.Clock.{Clock}
 use Rattle.library.specs.declared.tables.Tables.{Tables}
-use Rattle.host.specs.Broken.{brokenNumber}
+use Rattle.host.specs.Broken.{broken_number}
 use Rattle.kernel.proofs.Lent.{looks-plain, shuts-plain}
 use Rattle.library.specs.contracts.tables.Tables as T
 use Rattle.library.proofs.tables.Tables.TheLaws as T'
@@ -67,8 +67,8 @@ module _ {M : Type 1} {𝓤 : Ura M} (𝓛 : Logic 𝓤) (at_mem : Memory → SP
   abbrev Number : Contract 𝓤
   Number = triple_of 𝓛 number.signature (number.spec 𝓛 at_mem run)
 
-  said : (h : Tables) (c : Clock) (r : ℕ) → ent 𝓤 (ensured 𝓛 number.ended (number.clauses 𝓛 at_mem run) tt (h, (c, tt)) tt r) (fact 𝓤 (r ≡ brokenNumber h c))
-  said h c r = ex_e 𝓤 _ (λ ws. snd∗ 𝓤 (sem 𝓛 (lasts number.ended tt (h, (c, tt)) ws)) (fact 𝓤 (r ≡ brokenNumber h c)))
+  said : (h : Tables) (c : Clock) (r : ℕ) → ent 𝓤 (ensured 𝓛 number.ended (number.clauses 𝓛 at_mem run) tt (h, (c, tt)) tt r) (fact 𝓤 (r ≡ broken_number h c))
+  said h c r = ex_e 𝓤 _ (λ ws. snd∗ 𝓤 (sem 𝓛 (lasts number.ended tt (h, (c, tt)) ws)) (fact 𝓤 (r ≡ broken_number h c)))
 
 module _ {M : Type 1} {𝓤 : Ura M} (𝓛 : Logic 𝓤) (at_mem : Memory → SProp 𝓤) (run : Routine → Fun 𝓤) (κ₁ κ₂ : Lft) (q₁ q₂ : Share) (x₁ : Bor Tables) (x₂ : Bor Clock) where
   open 𝓛 use {H}
@@ -109,7 +109,7 @@ module _ {M : Type 1} {𝓤 : Ura M} (𝓛 : Logic 𝓤) (at_mem : Memory → SP
   abbrev Post : Val → SProp 𝓤
   Post = (walk_of 𝓛 f.ended stayed (f.clauses 𝓛 at_mem run)).post bound
 
-  exits : (r : ℕ) (v : Val) → r ≡ brokenNumber h c
+  exits : (r : ℕ) (v : Val) → r ≡ broken_number h c
       → ent 𝓤 (⋆ 𝓛 (‵ (flft κ₁ q₁) ∷ ‵ (flft κ₂ q₂) ∷ ‵ (fres x₁.name ((T.the_row).coded.code h)) ∷ ‵ (fshr_bor κ₁ (λ s. part_at T.the_row s h b₁ o₁)) ∷ ‵ (fres x₂.name ((K.the_row).coded.code c)) ∷ ‵ (fshr_bor κ₂ (λ s. part_at K.the_row s c b₂ o₂)) ∷ ‵ (u32.own_val r (v ∷ [])) ∷ [])) (Post v)
   exits r v e =
       qed 𝓛 (‵ (flft κ₁ q₁) ∷ ‵ (flft κ₂ q₂) ∷ ‵ (fres x₁.name ((T.the_row).coded.code h)) ∷ ‵ (fshr_bor κ₁ (λ s. part_at T.the_row s h b₁ o₁)) ∷ ‵ (fres x₂.name ((K.the_row).coded.code c)) ∷ ‵ (fshr_bor κ₂ (λ s. part_at K.the_row s c b₂ o₂)) ∷ ‵ (u32.own_val r (v ∷ [])) ∷ []) ∵
@@ -143,7 +143,7 @@ module _ {M : Type 1} {𝓤 : Ura M} (𝓛 : Logic 𝓤) (at_mem : Memory → SP
         -- the number, by value, is returned
         use0 𝓛 (raw ((Number 𝓛 at_mem run).pre to_number)) (goes_number was₁ was₂) $ calls_at ! fm (Number 𝓛 at_mem run) known to_number (and_then ! (load ! (from ! (stop !)) (look ! 9 refl)) (and_then ! (load ! (from ! (stop !)) (look ! 7 refl)) (no_more !))) (λ v.
         use1 𝓛 (later (some (λ (r : ℕ). (‵ ftrue ⊛ ‵ (u32.own_val r (v ∷ []))) ⊛ raw (ensured 𝓛 number.ended (number.clauses 𝓛 at_mem run) tt (h, (c, tt)) tt r)))) (id⊢ 𝓤 _) $ await ! tt $ pick ! (λ r.
-        split ! $ move ! (1 ∷ []) $ use1 𝓛 (raw (fact 𝓤 (r ≡ brokenNumber h c))) (said 𝓛 at_mem run h c r) $ heard ! (r ≡ brokenNumber h c) (λ e. split ! $ drop ! $
+        split ! $ move ! (1 ∷ []) $ use1 𝓛 (raw (fact 𝓤 (r ≡ broken_number h c))) (said 𝓛 at_mem run h c r) $ heard ! (r ≡ broken_number h c) (λ e. split ! $ drop ! $
         peeks ! u32 (Is u32) (shows 𝓛 u32) r (v ∷ []) (λ is. land ! (from ! (stop !)) (init ! 15 refl ((uint_Lawful 𝓛 w32).typed r _ is).0) $ returns ! (look ! 15 refl) $
         forget ! 7 refl $ forget ! 9 refl $ forget ! 11 refl $ forget ! 13 refl $ forget ! 15 refl $
         move ! (15 ∷ 16 ∷ []) $ free1 ! $ move ! (13 ∷ 14 ∷ []) $ free1 ! $ move ! (11 ∷ 12 ∷ []) $ free1 ! $ move ! (9 ∷ 10 ∷ []) $ free1 ! $ move ! (7 ∷ 8 ∷ []) $ free1 ! $ free0 ! $

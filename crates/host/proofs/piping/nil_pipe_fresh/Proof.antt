@@ -34,7 +34,7 @@ use denote.Triple.Table.{entered, cited}
 use denote.Triple.Walked.{says, Stays, gave_ref, stay_dropped, walk_of, AllGo, Goes-gave_ref, Goes-dropped, Walks, ends_at, walked, walk_Meets}
 use Rattle.pipes.specs.declared.table.Pipes.{Pipes}
 use Rattle.pipes.specs.declared.opening.Opened.{Opened}
-use Rattle.pipes.specs.Opening.{pipesFresh}
+use Rattle.pipes.specs.Opening.{pipes_fresh}
 use Rattle.pipes.specs.contracts.table.Pipes as P
 use Rattle.pipes.proofs.table.Pipes.TheLaws as P'
 use Rattle.pipes.proofs.opening.make_pipes.Symbol as make_def
@@ -54,7 +54,7 @@ abbrev takes : List (Slot 0)
 takes = plain (λ _. P.the_row) ∷ plain (λ _. u32) ∷ []
 
 abbrev makes : Pipes × (ℕ × Unit {0}) → Opened
-makes a = pipesFresh a.0 a.1.0
+makes a = pipes_fresh a.0 a.1.0
 
 module _ {M : Type 1} {𝓤 : Ura M} (𝓛 : Logic 𝓤) where
   abbrev Make : Contract 𝓤
@@ -75,7 +75,7 @@ module _ {M : Type 1} {𝓤 : Ura M} (𝓛 : Logic 𝓤) (at_mem : Memory → SP
   abbrev Post : Val → SProp 𝓤
   Post = (walk_of 𝓛 f.ended stayed (f.clauses 𝓛 at_mem run)).post bound
 
-  exits : (r : Opened) → r ≡ pipesFresh x.now n → r.code < 2 ^ 8 → ent 𝓤 (⋆ 𝓛 (‵ (fres x.ghost_name ((P.the_row).coded.code r.pipes)) ∷ ‵ (flft κ q) ∷ [])) (Post (vint w8 r.code))
+  exits : (r : Opened) → r ≡ pipes_fresh x.now n → r.code < 2 ^ 8 → ent 𝓤 (⋆ 𝓛 (‵ (fres x.ghost_name ((P.the_row).coded.code r.pipes)) ∷ ‵ (flft κ q) ∷ [])) (Post (vint w8 r.code))
   exits r e g =
       qed 𝓛 (‵ (fres x.name ((P.the_row).coded.code r.pipes)) ∷ ‵ (flft κ q) ∷ []) ∵
       suffices ! _ (ends_at 𝓛 f.ended stayed (f.clauses 𝓛 at_mem run) bound (vint w8 r.code) r.code (r.pipes, (tt, tt)) (tt, (tt, tt))) $ says ! (ap (λ (p : Opened). p.code) e, ap (λ (p : Opened). p.pipes) e) $

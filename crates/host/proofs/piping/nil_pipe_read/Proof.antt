@@ -38,7 +38,7 @@ use denote.Triple.Walked.{says, Stays, gave_ref, gave_slice, stay_dropped, walk_
 use Rattle.pipes.specs.declared.table.Pipes.{Pipes}
 use Rattle.pipes.specs.declared.opening.Opened.{Opened}
 use Rattle.pipes.specs.declared.transfer.Moved.{Moved}
-use Rattle.pipes.specs.Transfer.{readAnswer, targetRead}
+use Rattle.pipes.specs.Transfer.{read_answer, target_read}
 use Rattle.pipes.specs.contracts.table.Pipes as P
 use Rattle.host.proofs.Replaced.{reads-table, table_at}
 use Rattle.host.proofs.Carried.{Carries, Said, carries, slice_at, number_at}
@@ -55,10 +55,10 @@ stayed = (gave_ref (0 ∷ []) tt (plain (λ _. P.the_row)), (stay_dropped (plain
 
 -- the transfer's answer, and what it leaves in the slice d, of which s is the other
 abbrev answer : Pipes → ℕ → List ℕ → List ℕ → Moved
-answer t i d s = readAnswer t i (length s) (length d)
+answer t i d s = read_answer t i (length s) (length d)
 
 abbrev left : Pipes → ℕ → List ℕ → List ℕ → List ℕ
-left t i d s = targetRead t i s d
+left t i d s = target_read t i s d
 
 -- the target y and the buffer z
 module _ {M : Type 1} {𝓤 : Ura M} (𝓛 : Logic 𝓤) (at_mem : Memory → SProp 𝓤) (run : Routine → Fun 𝓤) (κ κ₁ κ₂ κ₃ : Lft) (q q₁ q₂ q₃ : Share) (x : Bor Pipes) (i : ℕ) (y z : Bor (List ℕ)) (g : Bor ℤ) where

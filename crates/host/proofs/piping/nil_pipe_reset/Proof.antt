@@ -3,7 +3,7 @@
 use contract.Running.{tables, tables_of}
 use denote.Triple.Spec.{triple_of}
 use denote.Triple.Table.{entered, cited}
-use Rattle.pipes.specs.Opening.{pipeReset}
+use Rattle.pipes.specs.Opening.{pipe_reset}
 use Rattle.pipes.proofs.opening.reset_pipe.Symbol as reset-def
 use Rattle.pipes.proofs.opening.reset_pipe.Symbol.{name as #reset}
 use Rattle.pipes.proofs.opening.reset_pipe.Met as reset-thm
@@ -18,5 +18,5 @@ unfolding code.routine tables_of
 nil-pipe-reset-spec 𝓤 𝓛 𝓜 𝓡 =
     entered 𝓤 𝓛.H (triple_of 𝓛 f.signature (f.spec 𝓛 𝓜.mem 𝓡.run))
     (tables 𝓤 𝓛.H 𝓜 𝓡 code.env).C (tables 𝓤 𝓛.H 𝓜 𝓡 code.env).Λ #nil-pipe-reset code.function (code.unfolded 𝓤 𝓛.H 𝓜 𝓡)
-    (renewed-meets 𝓛 pipeReset #reset (tables_of 𝓤 𝓛.H 𝓜 (tables 𝓤 𝓛.H 𝓜 𝓡 code.env))
-    (cited 𝓤 𝓛.H (Renewed 𝓛 pipeReset) 𝓜 𝓡 code.env #reset reset-def.routine code.calls-pipes::opening::reset-pipe (reset-thm.met 𝓤 𝓛 𝓜 𝓡)))
+    (renewed-meets 𝓛 pipe_reset #reset (tables_of 𝓤 𝓛.H 𝓜 (tables 𝓤 𝓛.H 𝓜 𝓡 code.env))
+    (cited 𝓤 𝓛.H (Renewed 𝓛 pipe_reset) 𝓜 𝓡 code.env #reset reset-def.routine code.calls-pipes::opening::reset-pipe (reset-thm.met 𝓤 𝓛 𝓜 𝓡)))

@@ -3,7 +3,7 @@
 use contract.Running.{tables, tables_of}
 use denote.Triple.Spec.{triple_of}
 use denote.Triple.Table.{entered, cited}
-use Rattle.pipes.specs.Opening.{pipeResumed}
+use Rattle.pipes.specs.Opening.{pipe_resumed}
 use Rattle.pipes.proofs.opening.resume_pipe.Symbol as resume-def
 use Rattle.pipes.proofs.opening.resume_pipe.Symbol.{name as #resume}
 use Rattle.pipes.proofs.opening.resume_pipe.Met as resume-thm
@@ -18,5 +18,5 @@ unfolding code.routine tables_of
 nil-pipe-resume-spec 𝓤 𝓛 𝓜 𝓡 =
     entered 𝓤 𝓛.H (triple_of 𝓛 f.signature (f.spec 𝓛 𝓜.mem 𝓡.run))
     (tables 𝓤 𝓛.H 𝓜 𝓡 code.env).C (tables 𝓤 𝓛.H 𝓜 𝓡 code.env).Λ #nil-pipe-resume code.function (code.unfolded 𝓤 𝓛.H 𝓜 𝓡)
-    (renewed-meets 𝓛 pipeResumed #resume (tables_of 𝓤 𝓛.H 𝓜 (tables 𝓤 𝓛.H 𝓜 𝓡 code.env))
-    (cited 𝓤 𝓛.H (Renewed 𝓛 pipeResumed) 𝓜 𝓡 code.env #resume resume-def.routine code.calls-pipes::opening::resume-pipe (resume-thm.met 𝓤 𝓛 𝓜 𝓡)))
+    (renewed-meets 𝓛 pipe_resumed #resume (tables_of 𝓤 𝓛.H 𝓜 (tables 𝓤 𝓛.H 𝓜 𝓡 code.env))
+    (cited 𝓤 𝓛.H (Renewed 𝓛 pipe_resumed) 𝓜 𝓡 code.env #resume resume-def.routine code.calls-pipes::opening::resume-pipe (resume-thm.met 𝓤 𝓛 𝓜 𝓡)))

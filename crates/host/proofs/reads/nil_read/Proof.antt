@@ -40,7 +40,7 @@ use denote.Triple.Spec.{Meets, triple_of}
 use denote.Triple.Table.{entered, cited}
 use denote.Triple.Walked.{says, Stays, stay_ref, stay_none, stay_none_slice, walk_of, AllGo, Goes-ref, Goes-none, Goes-none_slice, Walks, ends_at, walked, walk_Meets}
 use denote.Triple.Clauses.{ensured, lasts}
-use Rattle.host.specs.Reads.{readAt}
+use Rattle.host.specs.Reads.{read_at}
 use Rattle.host.specs.declared.reads.ReadResult.{ReadResult}
 use Rattle.kernel.proofs.Lent.{at-its, opens_plain, closes-plain}
 use Rattle.host.specs.contracts.reads.ReadResult as R
@@ -62,8 +62,8 @@ module _ {M : Type 1} {𝓤 : Ura M} (𝓛 : Logic 𝓤) (at_mem : Memory → SP
   abbrev Find : Contract 𝓤
   Find = triple_of 𝓛 find.signature (find.spec 𝓛 at_mem run)
 
-  said : (κ : Lft) (s : Bor (List ℕ)) (n : ℕ) (r : ReadResult) → ent 𝓤 (ensured 𝓛 find.ended (find.clauses 𝓛 at_mem run) (κ, tt) (s, (n, tt)) tt r) (fact 𝓤 (r ≡ readAt s.now n))
-  said κ s n r = ex_e 𝓤 _ (λ ws. snd∗ 𝓤 (sem 𝓛 (lasts find.ended (κ, tt) (s, (n, tt)) ws)) (fact 𝓤 (r ≡ readAt s.now n)))
+  said : (κ : Lft) (s : Bor (List ℕ)) (n : ℕ) (r : ReadResult) → ent 𝓤 (ensured 𝓛 find.ended (find.clauses 𝓛 at_mem run) (κ, tt) (s, (n, tt)) tt r) (fact 𝓤 (r ≡ read_at s.now n))
+  said κ s n r = ex_e 𝓤 _ (λ ws. snd∗ 𝓤 (sem 𝓛 (lasts find.ended (κ, tt) (s, (n, tt)) ws)) (fact 𝓤 (r ≡ read_at s.now n)))
 
 module _ {M : Type 1} {𝓤 : Ura M} (𝓛 : Logic 𝓤) (at_mem : Memory → SProp 𝓤) (run : Routine → Fun 𝓤) (κ₁ κ₂ : Lft) (q₁ q₂ : Share) (s : Bor (List ℕ)) (n : ℕ) (x₃ : Bor ReadResult) (fits : n < 2 ^ 64) where
   open 𝓛 use {H, A}
@@ -99,7 +99,7 @@ module _ {M : Type 1} {𝓤 : Ura M} (𝓛 : Logic 𝓤) (at_mem : Memory → SP
   abbrev Post : Val → SProp 𝓤
   Post = (walk_of 𝓛 f.ended stayed (f.clauses 𝓛 at_mem run)).post bound
 
-  exits : (r : ReadResult) → r ≡ readAt s.now n → ent 𝓤 (⋆ 𝓛 (‵ (flft κ₁ q₁) ∷ ‵ (flft κ₂ q₂) ∷ ‵ Own ∷ ‵ (fobs x₃.name ((R.the_row).coded.code r)) ∷ ‵ (fbor κ₂ (Body (mem R.the_row) b₃ o₃ x₃.name)) ∷ [])) (Post vunit)
+  exits : (r : ReadResult) → r ≡ read_at s.now n → ent 𝓤 (⋆ 𝓛 (‵ (flft κ₁ q₁) ∷ ‵ (flft κ₂ q₂) ∷ ‵ Own ∷ ‵ (fobs x₃.name ((R.the_row).coded.code r)) ∷ ‵ (fbor κ₂ (Body (mem R.the_row) b₃ o₃ x₃.name)) ∷ [])) (Post vunit)
   exits r e =
       qed 𝓛 (‵ (flft κ₁ q₁) ∷ ‵ (flft κ₂ q₂) ∷ ‵ Own ∷ ‵ (fobs x₃.name ((R.the_row).coded.code r)) ∷ ‵ (fbor κ₂ (Body (mem R.the_row) b₃ o₃ x₃.name)) ∷ []) ∵
       suffices ! _ (ends_at 𝓛 f.ended stayed (f.clauses 𝓛 at_mem run) bound vunit tt (tt, (tt, (r, tt))) (tt, (tt, (tt, tt)))) $ says ! e $
@@ -127,7 +127,7 @@ module _ {M : Type 1} {𝓤 : Ura M} (𝓛 : Logic 𝓤) (at_mem : Memory → SP
         -- the read, by value
         move ! (13 ∷ 11 ∷ []) $ use2 𝓛 (raw ((Find 𝓛 at_mem run).pre to-find)) goes-find $ calls_at ! fm (Find 𝓛 at_mem run) known to-find (and_then ! (load ! (from ! (stop !)) (look ! 7 refl)) (and_then ! (load ! (from ! (stop !)) (look ! 5 refl)) (no_more !))) (λ u.
         use1 𝓛 (later (some (λ (r : ReadResult). ((‵ (flft κ₁ q₁) ⊛ ‵ ftrue) ⊛ ‵ ((R.the_row).own_val r (u ∷ []))) ⊛ raw (ensured 𝓛 find.ended (find.clauses 𝓛 at_mem run) (κ₁, tt) (s, (n, tt)) tt r)))) (id⊢ 𝓤 _) $ await ! tt $ pick ! (λ r.
-        split ! $ move ! (1 ∷ []) $ use1 𝓛 (raw (fact 𝓤 (r ≡ readAt s.now n))) (said 𝓛 at_mem run κ₁ s n r) $ heard ! (r ≡ readAt s.now n) (λ e. split ! $ move ! (1 ∷ []) $ peeks ! R.the_row (Is R.the_row) (shows 𝓛 R.the_row) r (u ∷ []) (λ is. drop ! $ split ! $
+        split ! $ move ! (1 ∷ []) $ use1 𝓛 (raw (fact 𝓤 (r ≡ read_at s.now n))) (said 𝓛 at_mem run κ₁ s n r) $ heard ! (r ≡ read_at s.now n) (λ e. split ! $ move ! (1 ∷ []) $ peeks ! R.the_row (Is R.the_row) (shows 𝓛 R.the_row) r (u ∷ []) (λ is. drop ! $ split ! $
         land ! (from ! (stop !)) (init ! 2 refl ((LL.lawful R.the_type R'.the_laws 𝓛).typed r _ is).0) $ rewrite ! 2 (λ (u : Val). ‵ (fat full_share R'.mir l4 0 u)) (ap only (LL.tells R.the_type R'.the_laws r _ is)) refl $
         -- the result is stored
         move ! (13 ∷ []) $ fsplit3 ! $ drop ! $ move ! (0 ∷ 1 ∷ 15 ∷ []) $ opens_plain ! tt R.the_type R'.the_laws x₃.now b₃ o₃ (λ was.

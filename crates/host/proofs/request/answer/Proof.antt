@@ -1,10 +1,10 @@
 -- The parts are what the callees ensure.
-use Rattle.host.specs.Request.{stepAnswered}
+use Rattle.host.specs.Request.{step_answered}
 use Rattle.host.proofs.request.answer.Statement.{statement}
 use Rattle.host.proofs.request.answer.Tie as tie
 
 returns : tie.Need-returns
-unfolding stepAnswered
+unfolding step_answered
 returns c =
     let made = c.before.before.before in
     let done = made.before.before.before in

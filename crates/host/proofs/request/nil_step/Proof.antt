@@ -39,11 +39,11 @@ use denote.Triple.Spec.{Meets, triple_of}
 use denote.Triple.Table.{entered, cited}
 use denote.Triple.Walked.{says, Stays, stay_ref, gave_ref, stay_none_ref, walk_of, AllGo, Goes-ref, Goes-gave_ref, Goes-none_ref, Walks, ends_at, walked, walk_Meets}
 use denote.Triple.Clauses.{ensured, lasts}
-use Rattle.kernel.specs.Clock.{tickedClock}
+use Rattle.kernel.specs.Clock.{ticked_clock}
 use Rattle.kernel.specs.declared.clock.Clock.{Clock}
 use Rattle.library.specs.declared.tables.Tables.{Tables}
 use Rattle.steps.specs.Stepping.{stepped}
-use Rattle.host.specs.Request.{step_of, result_of, stepAnswered}
+use Rattle.host.specs.Request.{step_of, result_of, step_answered}
 use Rattle.host.specs.declared.request.Request.{Request}
 use Rattle.host.specs.declared.request.StepResult.{StepResult}
 use Rattle.host.specs.declared.request.Answered.{Answered}
@@ -98,8 +98,8 @@ module _ {M : Type 1} {𝓤 : Ura M} (𝓛 : Logic 𝓤) (at_mem : Memory → SP
   abbrev Tick : Contract 𝓤
   Tick = triple_of 𝓛 tick.signature (tick.spec 𝓛 at_mem run)
 
-  said : (t : Tables) (c : Clock) (q : Request) (r : Answered) → ent 𝓤 (ensured 𝓛 answer.ended (answer.clauses 𝓛 at_mem run) tt (t, (c, (q, tt))) tt r) (fact 𝓤 (r ≡ stepAnswered t c q))
-  said t c q r = ex_e 𝓤 _ (λ ws. snd∗ 𝓤 (sem 𝓛 (lasts answer.ended tt (t, (c, (q, tt))) ws)) (fact 𝓤 (r ≡ stepAnswered t c q)))
+  said : (t : Tables) (c : Clock) (q : Request) (r : Answered) → ent 𝓤 (ensured 𝓛 answer.ended (answer.clauses 𝓛 at_mem run) tt (t, (c, (q, tt))) tt r) (fact 𝓤 (r ≡ step_answered t c q))
+  said t c q r = ex_e 𝓤 _ (λ ws. snd∗ 𝓤 (sem 𝓛 (lasts answer.ended tt (t, (c, (q, tt))) ws)) (fact 𝓤 (r ≡ step_answered t c q)))
 
 module _ {M : Type 1} {𝓤 : Ura M} (𝓛 : Logic 𝓤) (at_mem : Memory → SProp 𝓤) (run : Routine → Fun 𝓤) (κ₁ κ₂ κ₃ κ₄ : Lft) (q₁ q₂ q₃ q₄ : Share) (x₁ : Bor Tables) (x₂ : Bor Clock) (x₃ : Bor Request) (x₄ : Bor StepResult) where
   open 𝓛 use {H, A}
@@ -194,7 +194,7 @@ module _ {M : Type 1} {𝓤 : Ura M} (𝓛 : Logic 𝓤) (at_mem : Memory → SP
           keep ! (0 ∷ 1 ∷ 2 ∷ 3 ∷ 4 ∷ 5 ∷ 6 ∷ 7 ∷ 8 ∷ 9 ∷ 10 ∷ []) $ by ! (exits r t w e₁ e₂ e₃)
 
       -- once the result is stored: by whether the step was accepted, and whether it is a tick
-      decides : (r : Answered) → r ≡ stepAnswered h c q → {vs : List Val} → Is O.the_row r vs
+      decides : (r : Answered) → r ≡ step_answered h c q → {vs : List Val} → Is O.the_row r vs
           → Sq 𝓛 (‵ (flft κ₁ q₁) ∷ ‵ (flft κ₂ q₂) ∷ ‵ (flft κ₃ q₃) ∷ ‵ (flft κ₄ q₄) ∷ ‵ (fobs x₁.name ((T.the_row).coded.code h)) ∷ ‵ (fbor κ₁ (Body (mem T.the_row) b₁ o₁ x₁.name)) ∷ ‵ (fobs x₂.name ((K.the_row).coded.code c)) ∷ ‵ (fbor κ₂ (Body (mem K.the_row) b₂ o₂ x₂.name)) ∷ ‵ (fres x₃.name ((Q.the_row).coded.code q)) ∷ ‵ (fshr_bor κ₃ (λ s. part_at Q.the_row s q b₃ o₃)) ∷ ‵ (fobs x₄.name ((R.the_row).coded.code r.result)) ∷ ‵ (fbor κ₄ (Body (mem R.the_row) b₄ o₄ x₄.name)) ∷ ‵ (froom (ty_ref erased mut (pointee (K.the_row).written)) l12 0) ∷ ‵ (fdies (ty_ref erased mut (pointee (K.the_row).written)) l12) ∷ ‵ (froom ty_unit l11 0) ∷ ‵ (fdies ty_unit l11) ∷ ‵ (froom ty_bool l10 0) ∷ ‵ (fdies ty_bool l10) ∷ ‵ (froom ty_bool l9 0) ∷ ‵ (fdies ty_bool l9) ∷ ‵ (fat full_share O'.mir l8 0 (LL.val O.the_type O'.the_laws r)) ∷ ‵ (fdies O'.mir l8) ∷ ‵ (froom Q'.mir l7 0) ∷ ‵ (fdies Q'.mir l7) ∷ ‵ (froom K'.mir l6 0) ∷ ‵ (fdies K'.mir l6) ∷ ‵ (froom T'.mir l5 0) ∷ ‵ (fdies T'.mir l5) ∷ ‵ (froom (ty_ref (named 3) mut (pointee (R.the_row).written)) l4 0) ∷ ‵ (fdies (ty_ref (named 3) mut (pointee (R.the_row).written)) l4) ∷ ‵ (froom (ty_ref (named 2) imm (pointee (Q.the_row).written)) l3 0) ∷ ‵ (fdies (ty_ref (named 2) imm (pointee (Q.the_row).written)) l3) ∷ ‵ (fat full_share (ty_ref (named 1) mut (pointee (K.the_row).written)) l2 0 (vptr b₂ o₂)) ∷ ‵ (fdies (ty_ref (named 1) mut (pointee (K.the_row).written)) l2) ∷ ‵ (fat full_share (ty_ref (named 0) mut (pointee (T.the_row).written)) l1 0 (vptr b₁ o₁)) ∷ ‵ (fdies (ty_ref (named 0) mut (pointee (T.the_row).written)) l1) ∷ ‵ (froom ty_unit l0 0) ∷ ‵ (fdies ty_unit l0) ∷ []) (runs C Λ (E l0 l1 l2 l3 l4 l5 l6 l7 l8 l9 l10 l11 l12) body.t-6 (at_ret (E l0 l1 l2 l3 l4 l5 l6 l7 l8 l9 l10 l11 l12) Post))
       decides r e is =
           assigns ! (of_opd ! (loads-field ! O.the_type O'.the_laws r 8 20 2 l8 ty_bool (tables-size + 16) (vbool r.accepted) refl refl refl refl)) (from ! (stop !)) (init ! 18 refl (tt, tt)) $ first ! $ branches ! (load ! (from ! (stop !)) (look ! 18 refl))
@@ -205,8 +205,8 @@ module _ {M : Type 1} {𝓤 : Ura M} (𝓛 : Logic 𝓤) (at_mem : Memory → SP
           (λ ticks. assigns ! (addr ! (from ! (hop ! (look ! 32 refl) (stop !)))) (from ! (stop !)) (init ! 12 refl (tt, tt)) $ move ! (6 ∷ 7 ∷ 3 ∷ []) $ use3 𝓛 (raw ((Tick 𝓛 at_mem run).pre to_tick)) goes-tick $
           calls_at_last ! fm (Tick 𝓛 at_mem run) known-tick to_tick (and_then ! (load ! (from ! (stop !)) (look ! 10 refl)) (no_more !)) (λ u.
           use1 𝓛 (later (some (λ (z : Unit {0}). ((‵ (flft κ₂ q₂) ⊛ ‵ ftrue) ⊛ ‵ (Nothing.own z (u ∷ []))) ⊛ raw (ensured 𝓛 tick.ended (tick.clauses 𝓛 at_mem run) (κ₂, tt) (x₂, tt) tt z)))) (id⊢ 𝓤 _) $ await ! tt $ pick ! (λ z.
-          split ! $ move ! (1 ∷ []) $ use1 𝓛 (some (λ (ws : Clock × Unit {0}). ‵ (lasts tick.ended (κ₂, tt) (x₂, tt) ws) ⊛ raw (fact 𝓤 (ws.0 ≡ tickedClock c)))) (id⊢ 𝓤 _) $ pick ! (λ ws.
-          split ! $ move ! (1 ∷ []) $ heard ! (ws.0 ≡ tickedClock c) (λ e'. fsplit ! $ move ! (2 ∷ []) $ split ! $ move ! (1 ∷ []) $ feq_l ! (λ eu. split ! $ move ! (0 ∷ 2 ∷ []) $
+          split ! $ move ! (1 ∷ []) $ use1 𝓛 (some (λ (ws : Clock × Unit {0}). ‵ (lasts tick.ended (κ₂, tt) (x₂, tt) ws) ⊛ raw (fact 𝓤 (ws.0 ≡ ticked_clock c)))) (id⊢ 𝓤 _) $ pick ! (λ ws.
+          split ! $ move ! (1 ∷ []) $ heard ! (ws.0 ≡ ticked_clock c) (λ e'. fsplit ! $ move ! (2 ∷ []) $ split ! $ move ! (1 ∷ []) $ feq_l ! (λ eu. split ! $ move ! (0 ∷ 2 ∷ []) $
           land_last ! (from ! (stop !)) (init ! 15 refl (subst (λ (y : Val). Holds (has_ty ty_unit y) × WT y) (sym (ap only eu)) (tt, tt))) $
           exec ! C Λ (E l0 l1 l2 l3 l4 l5 l6 l7 l8 l9 l10 l11 l12) body.t-8 (at_ret (E l0 l1 l2 l3 l4 l5 l6 l7 l8 l9 l10 l11 l12) Post) $ forget ! 13 refl $ forget ! 15 refl $ forget ! 17 refl $ forget ! 19 refl $ forget ! 21 refl $ forget ! 33 refl $ forget ! 35 refl $ keep ! (6 ∷ 0 ∷ 7 ∷ 8 ∷ 4 ∷ 5 ∷ 1 ∷ 9 ∷ 10 ∷ 11 ∷ 12 ∷ 13 ∷ 14 ∷ 15 ∷ 16 ∷ 17 ∷ 18 ∷ 19 ∷ 20 ∷ 21 ∷ 22 ∷ 23 ∷ 24 ∷ 25 ∷ 26 ∷ 27 ∷ 28 ∷ 29 ∷ 30 ∷ 31 ∷ 32 ∷ 33 ∷ 34 ∷ 35 ∷ 36 ∷ 37 ∷ 38 ∷ []) $
           leaves r r.tables ws.0 (tables-is h c q r e) (ticked-clock h c q r e ws.0 ticks e') (result-is h c q r e)))))))
@@ -234,7 +234,7 @@ module _ {M : Type 1} {𝓤 : Ura M} (𝓛 : Logic 𝓤) (at_mem : Memory → SP
         -- the step is made by value
         use0 𝓛 (raw ((Answer 𝓛 at_mem run).pre to-answer)) (goes-answer was₁ was₂ was₃) $ calls_at ! fm (Answer 𝓛 at_mem run) known-answer to-answer (and_then ! (load ! (from ! (stop !)) (look ! 24 refl)) (and_then ! (load ! (from ! (stop !)) (look ! 22 refl)) (and_then ! (load ! (from ! (stop !)) (look ! 20 refl)) (no_more !)))) (λ v.
         use1 𝓛 (later (some (λ (r : Answered). (‵ ftrue ⊛ ‵ ((O.the_row).own_val r (v ∷ []))) ⊛ raw (ensured 𝓛 answer.ended (answer.clauses 𝓛 at_mem run) tt (h, (c, (q, tt))) tt r)))) (id⊢ 𝓤 _) $ await ! tt $ pick ! (λ r.
-        split ! $ move ! (1 ∷ []) $ use1 𝓛 (raw (fact 𝓤 (r ≡ stepAnswered h c q))) (said 𝓛 at_mem run h c q r) $ heard ! (r ≡ stepAnswered h c q) (λ e. split ! $ drop ! $ peeks ! O.the_row (Is O.the_row) (shows 𝓛 O.the_row) r (v ∷ []) (λ is. drop ! $
+        split ! $ move ! (1 ∷ []) $ use1 𝓛 (raw (fact 𝓤 (r ≡ step_answered h c q))) (said 𝓛 at_mem run h c q r) $ heard ! (r ≡ step_answered h c q) (λ e. split ! $ drop ! $ peeks ! O.the_row (Is O.the_row) (shows 𝓛 O.the_row) r (v ∷ []) (λ is. drop ! $
         land ! (from ! (stop !)) (init ! 17 refl ((LL.lawful O.the_type O'.the_laws 𝓛).typed r _ is).0) $ rewrite ! 17 (λ (u : Val). ‵ (fat full_share O'.mir l8 0 u)) (ap only (LL.tells O.the_type O'.the_laws r _ is)) refl $
         -- the result is stored
         move ! (35 ∷ []) $ fsplit3 ! $ drop ! $ move ! (0 ∷ 1 ∷ 37 ∷ []) $ opens_plain ! tt R.the_type R'.the_laws x₄.now b₄ o₄ (λ was₄.

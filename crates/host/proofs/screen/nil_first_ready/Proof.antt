@@ -6,7 +6,7 @@ use denote.Triple.Spec.{triple_of}
 use denote.Triple.Table.{entered, cited}
 use Rattle.library.specs.contracts.tables.Tables as T
 use Rattle.library.proofs.tables.Tables.TheLaws as T'
-use Rattle.host.specs.Screen.{readyFirst}
+use Rattle.host.specs.Screen.{ready_first}
 use Rattle.host.proofs.Asked.{Valued, asked-meets}
 use Rattle.host.proofs.screen.find_ready.Symbol as find-def
 use Rattle.host.proofs.screen.find_ready.Symbol.{name as #find}
@@ -21,5 +21,5 @@ unfolding code.routine tables_of
 nil-first-ready-spec 𝓤 𝓛 𝓜 𝓡 =
     entered 𝓤 𝓛.H (triple_of 𝓛 f.signature (f.spec 𝓛 𝓜.mem 𝓡.run))
     (tables 𝓤 𝓛.H 𝓜 𝓡 code.env).C (tables 𝓤 𝓛.H 𝓜 𝓡 code.env).Λ #nil-first-ready code.function (code.unfolded 𝓤 𝓛.H 𝓜 𝓡)
-    (asked-meets T.the_type T'.the_laws T'.the_plain T'.the_copy w32 𝓛 readyFirst #find (tables_of 𝓤 𝓛.H 𝓜 (tables 𝓤 𝓛.H 𝓜 𝓡 code.env))
-    (cited 𝓤 𝓛.H (Valued T.the_type w32 𝓛 readyFirst) 𝓜 𝓡 code.env #find find-def.routine code.calls-host::screen::find-ready (find-thm.met 𝓤 𝓛 𝓜 𝓡)))
+    (asked-meets T.the_type T'.the_laws T'.the_plain T'.the_copy w32 𝓛 ready_first #find (tables_of 𝓤 𝓛.H 𝓜 (tables 𝓤 𝓛.H 𝓜 𝓡 code.env))
+    (cited 𝓤 𝓛.H (Valued T.the_type w32 𝓛 ready_first) 𝓜 𝓡 code.env #find find-def.routine code.calls-host::screen::find-ready (find-thm.met 𝓤 𝓛 𝓜 𝓡)))

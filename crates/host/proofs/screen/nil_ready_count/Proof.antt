@@ -6,7 +6,7 @@ use denote.Triple.Spec.{triple_of}
 use denote.Triple.Table.{entered, cited}
 use Rattle.library.specs.contracts.tables.Tables as T
 use Rattle.library.proofs.tables.Tables.TheLaws as T'
-use Rattle.host.specs.Screen.{readyCount}
+use Rattle.host.specs.Screen.{ready_count}
 use Rattle.host.proofs.Asked.{Valued, asked-meets}
 use Rattle.host.proofs.screen.count_ready.Symbol as count-def
 use Rattle.host.proofs.screen.count_ready.Symbol.{name as #count}
@@ -21,5 +21,5 @@ unfolding code.routine tables_of
 nil-ready-count-spec 𝓤 𝓛 𝓜 𝓡 =
     entered 𝓤 𝓛.H (triple_of 𝓛 f.signature (f.spec 𝓛 𝓜.mem 𝓡.run))
     (tables 𝓤 𝓛.H 𝓜 𝓡 code.env).C (tables 𝓤 𝓛.H 𝓜 𝓡 code.env).Λ #nil-ready-count code.function (code.unfolded 𝓤 𝓛.H 𝓜 𝓡)
-    (asked-meets T.the_type T'.the_laws T'.the_plain T'.the_copy w32 𝓛 readyCount #count (tables_of 𝓤 𝓛.H 𝓜 (tables 𝓤 𝓛.H 𝓜 𝓡 code.env))
-    (cited 𝓤 𝓛.H (Valued T.the_type w32 𝓛 readyCount) 𝓜 𝓡 code.env #count count-def.routine code.calls-host::screen::count-ready (count-thm.met 𝓤 𝓛 𝓜 𝓡)))
+    (asked-meets T.the_type T'.the_laws T'.the_plain T'.the_copy w32 𝓛 ready_count #count (tables_of 𝓤 𝓛.H 𝓜 (tables 𝓤 𝓛.H 𝓜 𝓡 code.env))
+    (cited 𝓤 𝓛.H (Valued T.the_type w32 𝓛 ready_count) 𝓜 𝓡 code.env #count count-def.routine code.calls-host::screen::count-ready (count-thm.met 𝓤 𝓛 𝓜 𝓡)))

@@ -35,7 +35,7 @@ use denote.Triple.Table.{entered, cited}
 use denote.Triple.Walked.{says, Stays, stay_dropped, walk_of, AllGo, Goes-dropped, Walks, ends_at, walked, walk_Meets}
 use denote.Triple.Clauses.{ensured, lasts}
 use Rattle.library.specs.declared.tables.Tables.{Tables}
-use Rattle.host.specs.Screen.{waitersAt}
+use Rattle.host.specs.Screen.{waiters_at}
 use Rattle.kernel.proofs.Lent.{looks-plain, shuts-plain}
 use Rattle.library.specs.contracts.tables.Tables as T
 use Rattle.library.proofs.tables.Tables.TheLaws as T'
@@ -61,8 +61,8 @@ module _ {M : Type 1} {𝓤 : Ura M} (𝓛 : Logic 𝓤) (at_mem : Memory → SP
   abbrev Find : Contract 𝓤
   Find = triple_of 𝓛 find.signature (find.spec 𝓛 at_mem run)
 
-  said : (h : Tables) (n r : ℕ) → ent 𝓤 (ensured 𝓛 find.ended (find.clauses 𝓛 at_mem run) tt (h, (n, tt)) tt r) (fact 𝓤 (r ≡ waitersAt h n))
-  said h n r = ex_e 𝓤 _ (λ ws. snd∗ 𝓤 (sem 𝓛 (lasts find.ended tt (h, (n, tt)) ws)) (fact 𝓤 (r ≡ waitersAt h n)))
+  said : (h : Tables) (n r : ℕ) → ent 𝓤 (ensured 𝓛 find.ended (find.clauses 𝓛 at_mem run) tt (h, (n, tt)) tt r) (fact 𝓤 (r ≡ waiters_at h n))
+  said h n r = ex_e 𝓤 _ (λ ws. snd∗ 𝓤 (sem 𝓛 (lasts find.ended tt (h, (n, tt)) ws)) (fact 𝓤 (r ≡ waiters_at h n)))
 
 module _ {M : Type 1} {𝓤 : Ura M} (𝓛 : Logic 𝓤) (at_mem : Memory → SProp 𝓤) (run : Routine → Fun 𝓤) (κ : Lft) (q : Share) (x : Bor Tables) (n : ℕ) (fits : n < 2 ^ 32) where
   open 𝓛 use {H}
@@ -88,7 +88,7 @@ module _ {M : Type 1} {𝓤 : Ura M} (𝓛 : Logic 𝓤) (at_mem : Memory → SP
   abbrev Post : Val → SProp 𝓤
   Post = (walk_of 𝓛 f.ended stayed (f.clauses 𝓛 at_mem run)).post bound
 
-  exits : (r : ℕ) (v : Val) → r ≡ waitersAt h n → ent 𝓤 (⋆ 𝓛 (‵ (flft κ q) ∷ ‵ (u16.own_val r (v ∷ [])) ∷ [])) (Post v)
+  exits : (r : ℕ) (v : Val) → r ≡ waiters_at h n → ent 𝓤 (⋆ 𝓛 (‵ (flft κ q) ∷ ‵ (u16.own_val r (v ∷ [])) ∷ [])) (Post v)
   exits r v e =
       qed 𝓛 (‵ (flft κ q) ∷ ‵ (u16.own_val r (v ∷ [])) ∷ []) ∵
       suffices ! _ (ends_at 𝓛 f.ended stayed (f.clauses 𝓛 at_mem run) bound v r (tt, (tt, tt)) (tt, (tt, tt))) $ says ! e $
@@ -116,7 +116,7 @@ module _ {M : Type 1} {𝓤 : Ura M} (𝓛 : Logic 𝓤) (at_mem : Memory → SP
         -- the word, by value, is returned
         use0 𝓛 (raw ((Find 𝓛 at_mem run).pre passed)) (goes-find was) $ calls_at ! fm (Find 𝓛 at_mem run) known passed (and_then ! (load ! (from ! (stop !)) (look ! 4 refl)) (and_then ! (load ! (from ! (stop !)) (look ! 6 refl)) (no_more !))) (λ v.
         use1 𝓛 (later (some (λ (r : ℕ). (‵ ftrue ⊛ ‵ (u16.own_val r (v ∷ []))) ⊛ raw (ensured 𝓛 find.ended (find.clauses 𝓛 at_mem run) tt (h, (n, tt)) tt r)))) (id⊢ 𝓤 _) $ await ! tt $ pick ! (λ r.
-        split ! $ move ! (1 ∷ []) $ use1 𝓛 (raw (fact 𝓤 (r ≡ waitersAt h n))) (said 𝓛 at_mem run h n r) $ heard ! (r ≡ waitersAt h n) (λ e. split ! $ drop ! $
+        split ! $ move ! (1 ∷ []) $ use1 𝓛 (raw (fact 𝓤 (r ≡ waiters_at h n))) (said 𝓛 at_mem run h n r) $ heard ! (r ≡ waiters_at h n) (λ e. split ! $ drop ! $
         peeks ! u16 (Is u16) (shows 𝓛 u16) r (v ∷ []) (λ is. land ! (from ! (stop !)) (init ! 10 refl ((uint_Lawful 𝓛 w16).typed r _ is).0) $ returns ! (look ! 10 refl) $
         forget ! 4 refl $ forget ! 6 refl $ forget ! 8 refl $ forget ! 10 refl $
         move ! (10 ∷ 11 ∷ []) $ free1 ! $ move ! (8 ∷ 9 ∷ []) $ free1 ! $ move ! (6 ∷ 7 ∷ []) $ free1 ! $ move ! (4 ∷ 5 ∷ []) $ free1 ! $ free0 ! $

@@ -43,7 +43,7 @@ use denote.Triple.Clauses.{ensured, lasts}
 use Rattle.kernel.specs.declared.clock.Clock.{Clock}
 use Rattle.library.specs.declared.sizes.Sizes.{Sizes}
 use Rattle.library.specs.declared.tables.Tables.{Tables}
-use Rattle.host.specs.Setup.{prepared, tablesSet, clockSet}
+use Rattle.host.specs.Setup.{prepared, tables_set, clock_set}
 use Rattle.host.specs.declared.setup.Prepared.{Prepared}
 use Rattle.kernel.proofs.Lent.{opens_plain, closes-plain, looks-plain, shuts-plain}
 use Rattle.host.proofs.Fields.{loads-field, tables-size}
@@ -145,7 +145,7 @@ module _ {M : Type 1} {𝓤 : Ura M} (𝓛 : Logic 𝓤) (at_mem : Memory → SP
   abbrev Post : Val → SProp 𝓤
   Post = (walk_of 𝓛 f.ended stayed (f.clauses 𝓛 at_mem run)).post bound
 
-  exits : (r : Prepared) (t : Tables) (w : Clock) → r.code < 2 ^ 8 → r ≡ prepared z n → t ≡ tablesSet z n h → w ≡ clockSet z n c
+  exits : (r : Prepared) (t : Tables) (w : Clock) → r.code < 2 ^ 8 → r ≡ prepared z n → t ≡ tables_set z n h → w ≡ clock_set z n c
       → ent 𝓤 (⋆ 𝓛 (‵ (flft κ₁ q₁) ∷ ‵ (flft κ₂ q₂) ∷ ‵ (flft κ₃ q₃) ∷ ‵ (fobs x₁.name ((T.the_row).coded.code t)) ∷ ‵ (fbor κ₁ (Body (mem T.the_row) b₁ o₁ x₁.name)) ∷ ‵ (fobs x₂.name ((K.the_row).coded.code w)) ∷ ‵ (fbor κ₂ (Body (mem K.the_row) b₂ o₂ x₂.name)) ∷ ‵ (fres x₃.name ((Z.the_row).coded.code z)) ∷ ‵ (fshr_bor κ₃ (λ s. part_at Z.the_row s z b₃ o₃)) ∷ [])) (Post (vint w8 r.code))
   exits r t w g e e₁ e₂ =
       qed 𝓛 (‵ (flft κ₁ q₁) ∷ ‵ (flft κ₂ q₂) ∷ ‵ (flft κ₃ q₃) ∷ ‵ (fobs x₁.name ((T.the_row).coded.code t)) ∷ ‵ (fbor κ₁ (Body (mem T.the_row) b₁ o₁ x₁.name)) ∷ ‵ (fobs x₂.name ((K.the_row).coded.code w)) ∷ ‵ (fbor κ₂ (Body (mem K.the_row) b₂ o₂ x₂.name)) ∷ ‵ (fres x₃.name ((Z.the_row).coded.code z)) ∷ ‵ (fshr_bor κ₃ (λ s. part_at Z.the_row s z b₃ o₃)) ∷ []) ∵
@@ -168,7 +168,7 @@ module _ {M : Type 1} {𝓤 : Ura M} (𝓛 : Logic 𝓤) (at_mem : Memory → SP
 
     module _ (l0 l1 l2 l3 l4 l5 l6 l7 : ℕ) where
       -- what follows the branches: the code is returned, and the locals are freed
-      leaves : (r : Prepared) (t : Tables) (w : Clock) → r ≡ prepared z n → {vs : List Val} → Is O.the_row r vs → t ≡ tablesSet z n h → w ≡ clockSet z n c
+      leaves : (r : Prepared) (t : Tables) (w : Clock) → r ≡ prepared z n → {vs : List Val} → Is O.the_row r vs → t ≡ tables_set z n h → w ≡ clock_set z n c
           → Sq 𝓛 (‵ (flft κ₁ q₁) ∷ ‵ (flft κ₂ q₂) ∷ ‵ (flft κ₃ q₃) ∷ ‵ (fobs x₁.name ((T.the_row).coded.code t)) ∷ ‵ (fbor κ₁ (Body (mem T.the_row) b₁ o₁ x₁.name)) ∷ ‵ (fobs x₂.name ((K.the_row).coded.code w)) ∷ ‵ (fbor κ₂ (Body (mem K.the_row) b₂ o₂ x₂.name)) ∷ ‵ (fres x₃.name ((Z.the_row).coded.code z)) ∷ ‵ (fshr_bor κ₃ (λ s. part_at Z.the_row s z b₃ o₃)) ∷ ‵ (froom ty_bool l7 0) ∷ ‵ (fdies ty_bool l7) ∷ ‵ (fat full_share O'.mir l6 0 (LL.val O.the_type O'.the_laws r)) ∷ ‵ (fdies O'.mir l6) ∷ ‵ (froom Z'.mir l5 0) ∷ ‵ (fdies Z'.mir l5) ∷ ‵ (froom (ty_int w32) l4 0) ∷ ‵ (fdies (ty_int w32) l4) ∷ ‵ (froom (ty_ref (named 2) imm (pointee (Z.the_row).written)) l3 0) ∷ ‵ (fdies (ty_ref (named 2) imm (pointee (Z.the_row).written)) l3) ∷ ‵ (froom (ty_ref (named 1) mut (pointee (K.the_row).written)) l2 0) ∷ ‵ (fdies (ty_ref (named 1) mut (pointee (K.the_row).written)) l2) ∷ ‵ (froom (ty_ref (named 0) mut (pointee (T.the_row).written)) l1 0) ∷ ‵ (fdies (ty_ref (named 0) mut (pointee (T.the_row).written)) l1) ∷ ‵ (froom (ty_int w8) l0 0) ∷ ‵ (fdies (ty_int w8) l0) ∷ []) (runs C Λ (E l0 l1 l2 l3 l4 l5 l6 l7) body.t-5 (at_ret (E l0 l1 l2 l3 l4 l5 l6 l7) Post))
       leaves r t w e is e₁ e₂ =
           assigns ! (of_opd ! (loads-field ! O.the_type O'.the_laws r 6 11 3 l6 (ty_int w8) (tables-size + 9) (vint w8 r.code) refl refl refl refl)) (from ! (stop !)) (init ! 23 refl (tt, record { fits = code_fits r is })) $ returns ! (look ! 23 refl) $

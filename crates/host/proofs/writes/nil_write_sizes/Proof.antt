@@ -39,8 +39,8 @@ use denote.Triple.Table.{entered, cited}
 use denote.Triple.Walked.{says, Stays, gave_ref, gave_slice, stay_none_ref, walk_of, AllGo, Goes-gave_ref, Goes-gave_slice, Goes-none_ref, Walks, ends_at, walked, walk_Meets}
 use denote.Triple.Clauses.{ensured, lasts}
 use Rattle.library.specs.declared.sizes.Sizes.{Sizes}
-use Rattle.trace.specs.Writer.{writtenCode, sizesAnswer, sizesWritten}
-use Rattle.host.specs.Writes.{placeWritten}
+use Rattle.trace.specs.Writer.{written_code, sizes_answer, sizes_written}
+use Rattle.host.specs.Writes.{place_written}
 use Rattle.kernel.proofs.Lent.{looks-plain, shuts-plain}
 use Rattle.library.specs.contracts.sizes.Sizes as Z
 use Rattle.library.proofs.sizes.Sizes.TheLaws as Z'
@@ -107,7 +107,7 @@ module _ {M : Type 1} {𝓤 : Ura M} (𝓛 : Logic 𝓤) (at_mem : Memory → SP
 
   -- what both contracts say of the code, the last list and the last place
   abbrev Said : ℕ → List ℕ → ℕ → Type 0
-  Said r zs p = (r ≡ writtenCode (sizesAnswer z y.now)) × (zs ≡ sizesWritten z y.now) × (p ≡ placeWritten (sizesAnswer z y.now) g.now)
+  Said r zs p = (r ≡ written_code (sizes_answer z y.now)) × (zs ≡ sizes_written z y.now) × (p ≡ place_written (sizes_answer z y.now) g.now)
 
   exits : (r : ℕ) (w : Val) (zs : List ℕ) (p : ℕ) → Said r zs p → length zs ≡ length y.now
       → ent 𝓤 (⋆ 𝓛 (‵ (flft κ₀ q₀) ∷ ‵ (flft κ₁ q₁) ∷ ‵ (flft κ₂ q₂) ∷ ‵ (finally u8 y.name zs) ∷ ‵ (fres x.name ((Z.the_row).coded.code z)) ∷ ‵ (fshr_bor κ₁ (λ s. part_at Z.the_row s z b₁ o₁)) ∷ ‵ (fres g.name (usize.coded.code p)) ∷ ‵ (u8.own_val r (w ∷ [])) ∷ [])) (Post w)

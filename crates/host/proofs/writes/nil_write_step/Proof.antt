@@ -39,8 +39,8 @@ use denote.Triple.Table.{entered, cited}
 use denote.Triple.Walked.{says, Stays, gave_ref, gave_slice, stay_none, stay_none_ref, walk_of, AllGo, Goes-gave_ref, Goes-gave_slice, Goes-none, Goes-none_ref, Walks, ends_at, walked, walk_Meets}
 use denote.Triple.Clauses.{ensured, lasts}
 use Rattle.host.specs.Request.{step_of}
-use Rattle.trace.specs.Writer.{writtenCode, stepAnswer, stepWritten}
-use Rattle.host.specs.Writes.{placeWritten}
+use Rattle.trace.specs.Writer.{written_code, step_answer, step_written}
+use Rattle.host.specs.Writes.{place_written}
 use Rattle.host.specs.declared.request.Request.{Request}
 use Rattle.kernel.proofs.Lent.{looks-plain, shuts-plain}
 use Rattle.host.specs.contracts.request.Request as Q
@@ -108,7 +108,7 @@ module _ {M : Type 1} {𝓤 : Ura M} (𝓛 : Logic 𝓤) (at_mem : Memory → SP
 
   -- what both contracts say of the code, the last list and the last place
   abbrev Said : ℕ → List ℕ → ℕ → Type 0
-  Said r zs p = (r ≡ writtenCode (stepAnswer n y.now)) × (zs ≡ stepWritten (step_of q) n y.now) × (p ≡ placeWritten (stepAnswer n y.now) g.now)
+  Said r zs p = (r ≡ written_code (step_answer n y.now)) × (zs ≡ step_written (step_of q) n y.now) × (p ≡ place_written (step_answer n y.now) g.now)
 
   exits : (r : ℕ) (w : Val) (zs : List ℕ) (p : ℕ) → Said r zs p → length zs ≡ length y.now
       → ent 𝓤 (⋆ 𝓛 (‵ (flft κ₀ q₀) ∷ ‵ (flft κ₁ q₁) ∷ ‵ (flft κ₂ q₂) ∷ ‵ (finally u8 y.name zs) ∷ ‵ (fres x.name ((Q.the_row).coded.code q)) ∷ ‵ (fshr_bor κ₁ (λ s. part_at Q.the_row s q b₁ o₁)) ∷ ‵ (fres g.name (usize.coded.code p)) ∷ ‵ (u8.own_val r (w ∷ [])) ∷ [])) (Post w)

@@ -3,19 +3,19 @@ use Rattle.std.proofs.Common.{◌≡◌, ℕ, true, false, sym, ◌∙◌}
 use Rattle.kernel.specs.declared.records.Thread.{Thread}
 use Rattle.kernel.specs.declared.records.Kernel.{Kernel}
 use Rattle.kernel.specs.Numbers.{ok}
-use Rattle.kernel.specs.Tables.{threadAt, withThread}
+use Rattle.kernel.specs.Tables.{thread_at, with_thread}
 use Rattle.kernel.specs.Moves.{woken}
-use Rattle.kernel.specs.Event.{flagged, isMet, eventSignalled}
+use Rattle.kernel.specs.Event.{flagged, is_met, event_signalled}
 use Rattle.kernel.proofs.event.signal_events.Statement.{statement}
 use Rattle.kernel.proofs.event.signal_events.Tie as tie
 
-module _ (k : Kernel) (i mask : ℕ) (t : Thread) (f : Kernel) (row : t ≡ flagged (threadAt k i) mask) (stored : f ≡ withThread k i t) where
-  met : (h : Kernel) → isMet t ≡ true → h ≡ woken f i ok → h ≡ eventSignalled k i mask
-  unfolding eventSignalled
+module _ (k : Kernel) (i mask : ℕ) (t : Thread) (f : Kernel) (row : t ≡ flagged (thread_at k i) mask) (stored : f ≡ with_thread k i t) where
+  met : (h : Kernel) → is_met t ≡ true → h ≡ woken f i ok → h ≡ event_signalled k i mask
+  unfolding event_signalled
   met h test wakes = rw (wakes, stored, row, rw row at test)
 
-  unmet : isMet t ≡ false → f ≡ eventSignalled k i mask
-  unfolding eventSignalled
+  unmet : is_met t ≡ false → f ≡ event_signalled k i mask
+  unfolding event_signalled
   unmet test = rw (stored, row, rw row at test)
 
 returns : tie.Need-returns

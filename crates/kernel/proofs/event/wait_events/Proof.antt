@@ -1,17 +1,17 @@
 -- Both arms are the meaning's, by the test.
 use Rattle.std.proofs.Common.{eq-eqb, ne_eqb}
-use Rattle.kernel.specs.Event.{eventWaited}
+use Rattle.kernel.specs.Event.{event_waited}
 use Rattle.kernel.proofs.event.wait_events.Statement.{statement}
 use Rattle.kernel.proofs.event.wait_events.Tie as tie
 
 returns : tie.Need-returns
-unfolding eventWaited
+unfolding event_waited
 returns c =
     let read = c.before.before.before in
     rw (← read.thread-at.ensures, ne_eqb _ _ c.before.if1.true) c.take-flags.ensures
 
 returns-2 : tie.Need-returns-2
-unfolding eventWaited
+unfolding event_waited
 returns-2 c =
     let read = c.before.before.before in
     rw (← read.thread-at.ensures, eq-eqb _ _ c.before.if1.false) c.block.ensures

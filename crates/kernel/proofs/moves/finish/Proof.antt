@@ -2,7 +2,7 @@
 use Rattle.std.proofs.Common.{◌≡◌, ◌≤◌, true, length, rules, eq-eqb, ne_eqb}
 use Rattle.kernel.proofs.Lengths.{length-mapped, write-past}
 use Rattle.kernel.proofs.Signed.{signed}
-use Rattle.kernel.specs.Tables.{threadAt}
+use Rattle.kernel.specs.Tables.{thread_at}
 use Rattle.kernel.specs.Moves.{answered, finished}
 use Rattle.kernel.proofs.moves.finish.Statement.{statement}
 use Rattle.kernel.proofs.moves.finish.Tie as tie
@@ -27,7 +27,7 @@ returns-3 c =
     rw (
       ne_eqb _ _ c.before.if1.false,
       ← write-past a.k.threads 16 a.i threads past
-          (answered (threadAt a.k a.i) (record { message = a.message; datum = a.datum })),
+          (answered (thread_at a.k a.i) (record { message = a.message; datum = a.datum })),
       ← write-past a.k.finished 16 a.i flags past true,
     )
 

@@ -1,17 +1,17 @@
--- In range: what was joined is `putOn`, by the four tests, and the parts are what the callees ensure.
+-- In range: what was joined is `put_on`, by the four tests, and the parts are what the callees ensure.
 use Rattle.std.proofs.Common.{◌≡◌, length, inl, inr, rules, le-ltb, lt-ltb, eq-eqb, ne_eqb}
 use Rattle.kernel.proofs.Lengths.{length-mapped, write-past}
 use Rattle.kernel.proofs.Signed.{signed}
 use Rattle.kernel.specs.Counters.{down}
-use Rattle.kernel.specs.Tables.{counterAt}
-use Rattle.kernel.specs.Moves.{putOn, slept}
+use Rattle.kernel.specs.Tables.{counter_at}
+use Rattle.kernel.specs.Moves.{put_on, slept}
 use Rattle.kernel.proofs.moves.sleep.Statement.{statement}
 use Rattle.kernel.proofs.moves.sleep.Tie as tie
 
 on : (c : tie.Joined2) →
     let a = c.before.before.before.before.args in
-    c.if2.r ≡ putOn a.k a.i a.state a.place
-unfolding putOn
+    c.if2.r ≡ put_on a.k a.i a.state a.place
+unfolding put_on
 on c =
     let a = c.before.before.before.before.args in
     let counters : length a.k.counters ≡ 36 = search (rules, length-mapped) in
@@ -21,7 +21,7 @@ on c =
       | inr (inl w) ↦ rw (
         eq-eqb _ _ w.0.taken,
         w.2,
-        ← write-past a.k.counters 36 a.place counters w.1.left (down (counterAt a.k a.place)),
+        ← write-past a.k.counters 36 a.place counters w.1.left (down (counter_at a.k a.place)),
       )
       | inr (inr (inl w)) ↦ rw (ne_eqb _ _ w.0.left, eq-eqb _ _ w.1.taken) w.3
       | inr (inr (inr (inl w))) ↦ rw (

@@ -1,22 +1,22 @@
--- In range: what was left is `takenOff`, by the four tests, and the parts are what the callees ensure. Past all threads a waking changes nothing.
+-- In range: what was left is `taken_off`, by the four tests, and the parts are what the callees ensure. Past all threads a waking changes nothing.
 use Rattle.std.proofs.Common.{◌≡◌, ◌≤◌, length, sym, inl, inr, arith, rules, eq-eqb, ne_eqb}
 use Rattle.kernel.proofs.Lengths.{length-mapped, write-past}
 use Rattle.kernel.proofs.MovesLaws.{wake-past}
 use Rattle.kernel.proofs.Signed.{signed}
 use Rattle.kernel.specs.Numbers.{nobody}
 use Rattle.kernel.specs.Counters.{up}
-use Rattle.kernel.specs.Tables.{threadAt, counterAt}
-use Rattle.kernel.specs.Moves.{takenOff, woken}
+use Rattle.kernel.specs.Tables.{thread_at, counter_at}
+use Rattle.kernel.specs.Moves.{taken_off, woken}
 use Rattle.kernel.proofs.moves.wake.Statement.{statement}
 use Rattle.kernel.proofs.moves.wake.Tie as tie
 
 off : (c : tie.Joined2) →
     let a = c.before.before.before.before.before.before.args in
-    c.if2.r ≡ takenOff a.k (threadAt a.k a.i).state (threadAt a.k a.i).place
-unfolding takenOff
+    c.if2.r ≡ taken_off a.k (thread_at a.k a.i).state (thread_at a.k a.i).place
+unfolding taken_off
 off c =
     let a = c.before.before.before.before.before.before.args in
-    let place = (threadAt a.k a.i).place in
+    let place = (thread_at a.k a.i).place in
     let counters : length a.k.counters ≡ 36 = search (rules, length-mapped) in
     let references : length a.k.references ≡ 8 =
     let here = c.before.before.before.before.before.before.well-formed.0.1.1.1.1.1.0.1.0.1 in
@@ -26,7 +26,7 @@ off c =
       | inr (inl w) ↦ rw (
         eq-eqb _ _ w.0.taken,
         w.2,
-        ← write-past a.k.counters 36 place counters w.1.left (up (counterAt a.k place)),
+        ← write-past a.k.counters 36 place counters w.1.left (up (counter_at a.k place)),
       )
       | inr (inr (inl w)) ↦ rw (ne_eqb _ _ w.0.left, eq-eqb _ _ w.2.taken) w.4
       | inr (inr (inr (inl w))) ↦ rw (

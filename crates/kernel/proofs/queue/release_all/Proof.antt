@@ -1,14 +1,14 @@
--- The invariant: r is what i turns of the meaning give. A turn that wakes and one that does not are the two arms of `releasedOne`.
+-- The invariant: r is what i turns of the meaning give. A turn that wakes and one that does not are the two arms of `released_one`.
 use Rattle.std.proofs.Common.{◌≡◌, ◌-◌, ◌≤◌, refl, ◌∙◌, ⊎_elim, add-one, arith, w32, to_z}
 use Rattle.kernel.proofs.Signed.{signed}
 use Rattle.kernel.proofs.QueueLaws.{release-all-turns}
-use Rattle.kernel.specs.Queue.{releasedOne}
+use Rattle.kernel.specs.Queue.{released_one}
 use Rattle.kernel.specs.Walk.{each}
 use Rattle.kernel.proofs.queue.release_all.Statement.{statement}
 use Rattle.kernel.proofs.queue.release_all.Tie as tie
 
 abbrev invariant-loop : tie.invariant-loop
-invariant-loop place m word r₀ i₀ r i = (i ≤ 16) × (r ≡ each i (releasedOne word (to_z w32 m)) r₀)
+invariant-loop place m word r₀ i₀ r i = (i ≤ 16) × (r ≡ each i (released_one word (to_z w32 m)) r₀)
 
 abbrev decreases-loop : tie.decreases-loop
 decreases-loop place m word r₀ i₀ r i = 16 - i

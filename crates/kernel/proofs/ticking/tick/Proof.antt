@@ -1,14 +1,14 @@
 -- The invariant: r is what i turns of the meaning give.
 use Rattle.std.proofs.Common.{◌≡◌, ◌-◌, ◌≤◌, refl, ◌∙◌, ⊎_elim, add-one, arith, eq-eqb, ne_eqb}
 use Rattle.kernel.proofs.Loops.{used_le}
-use Rattle.kernel.specs.Tables.{usedRows}
-use Rattle.kernel.specs.Ticking.{tickedOne, ticked}
+use Rattle.kernel.specs.Tables.{used_rows}
+use Rattle.kernel.specs.Ticking.{ticked_one, ticked}
 use Rattle.kernel.specs.Walk.{each}
 use Rattle.kernel.proofs.ticking.tick.Statement.{statement}
 use Rattle.kernel.proofs.ticking.tick.Tie as tie
 
 abbrev invariant-loop : tie.invariant-loop
-invariant-loop n end r₀ i₀ r i = (i ≤ end) × (end ≤ 16) × (r ≡ each i tickedOne r₀)
+invariant-loop n end r₀ i₀ r i = (i ≤ end) × (end ≤ 16) × (r ≡ each i ticked_one r₀)
 
 abbrev decreases-loop : tie.decreases-loop
 decreases-loop n end r₀ i₀ r i = end - i
@@ -32,7 +32,7 @@ returns : tie.Need-returns invariant-loop decreases-loop
 unfolding ticked
 returns c =
     let start = c.before.before.before in
-    let end : c.before.loop.i ≡ usedRows start.args.n = omega (arith, c.before.before.used-rows.ensures) in
+    let end : c.before.loop.i ≡ used_rows start.args.n = omega (arith, c.before.before.used-rows.ensures) in
     rw (c.before.loop.invariant.2, end)
 
 pub tick-spec : {M : Type 1} → statement M

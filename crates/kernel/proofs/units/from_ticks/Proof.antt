@@ -1,7 +1,7 @@
 -- The product of two numbers of 32 bits fits 64; each way out is the meaning's, by its tests.
 use Rattle.std.proofs.Common.{rules, eq-eqb, ne_eqb}
 use Rattle.kernel.proofs.Products.{product-fits, per-second-fits}
-use Rattle.kernel.specs.Units.{ofTicks}
+use Rattle.kernel.specs.Units.{of_ticks}
 use Rattle.kernel.proofs.units.from_ticks.Statement.{statement}
 use Rattle.kernel.proofs.units.from_ticks.Tie as tie
 
@@ -10,7 +10,7 @@ mul-round-up c =
     record { fits = product-fits (search rules) (per-second-fits _ c.before.before.before.before.before.args.u c.per-second.ensures) }
 
 returns : tie.Need-returns
-unfolding ofTicks
+unfolding of_ticks
 returns c =
     let product = c.before in
     let tests = product.before.before.before in
@@ -24,7 +24,7 @@ returns c =
     )
 
 returns-2 : tie.Need-returns-2
-unfolding ofTicks
+unfolding of_ticks
 returns-2 c =
     let tests = c.before.before in
     rw (
@@ -35,7 +35,7 @@ returns-2 c =
     )
 
 returns-3 : tie.Need-returns-3
-unfolding ofTicks
+unfolding of_ticks
 returns-3 c =
     let tests = c.before in
     rw (← tests.before.frequency-of.ensures, ← tests.frequency-fits.ensures, c.if1.false)

@@ -1,7 +1,7 @@
 -- The product of two numbers of 32 bits fits 64; each way out is the meaning's, by its tests.
 use Rattle.std.proofs.Common.{rules, le-ltb, lt-ltb}
 use Rattle.kernel.proofs.Products.{product-fits}
-use Rattle.kernel.specs.Units.{inTicks}
+use Rattle.kernel.specs.Units.{in_ticks}
 use Rattle.kernel.proofs.units.to_ticks.Statement.{statement}
 use Rattle.kernel.proofs.units.to_ticks.Tie as tie
 
@@ -9,7 +9,7 @@ mul-round-up : tie.Need-overflow-mul-round-up
 mul-round-up c = record { fits = product-fits (search rules) (search rules) }
 
 returns : tie.Need-returns
-unfolding inTicks
+unfolding in_ticks
 returns c =
     let product = c.before.before in
     let tests = product.before.before in
@@ -23,7 +23,7 @@ returns c =
     )
 
 returns-2 : tie.Need-returns-2
-unfolding inTicks
+unfolding in_ticks
 returns-2 c =
     let product = c.before.before in
     let tests = product.before.before in
@@ -37,7 +37,7 @@ returns-2 c =
     )
 
 returns-3 : tie.Need-returns-3
-unfolding inTicks
+unfolding in_ticks
 returns-3 c =
     let tests = c.before in
     rw (← tests.before.frequency-of.ensures, ← tests.frequency-fits.ensures, c.if1.false)

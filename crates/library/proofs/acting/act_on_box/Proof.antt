@@ -1,27 +1,27 @@
 -- Each way out is the meaning's, by its tests; the parts are what the callees ensure.
 use borrow.Author.Tests.{ne_eqb}
-use Rattle.library.specs.Acting.{actedOnBox}
+use Rattle.library.specs.Acting.{acted_on_box}
 use Rattle.library.proofs.acting.act_on_box.Statement.{statement}
 use Rattle.library.proofs.acting.act_on_box.Tie as tie
 
 returns : tie.Need-returns
-unfolding actedOnBox
+unfolding acted_on_box
 returns c = rw (c.try-post.ensures, c.before.before.call-of.ensures, c.before.match.keys1)
 
 returns-2 : tie.Need-returns-2
-unfolding actedOnBox
+unfolding acted_on_box
 returns-2 c = rw (c.try-post2.ensures, c.before.before.call-of.ensures, c.before.match.keys2)
 
 returns-3 : tie.Need-returns-3
-unfolding actedOnBox
+unfolding acted_on_box
 returns-3 c = rw (c.try-fetch.ensures, c.before.before.call-of.ensures, c.before.match.keys3)
 
 returns-4 : tie.Need-returns-4
-unfolding actedOnBox
+unfolding acted_on_box
 returns-4 c = rw (c.try-alloc.ensures, c.before.before.call-of.ensures, c.before.match.keys4)
 
 returns-5 : tie.Need-returns-5
-unfolding actedOnBox
+unfolding acted_on_box
 returns-5 c =
     let at-match = c.before.before.before in
     rw (

@@ -1,15 +1,15 @@
 -- Both arms are the meaning's, by the test; the parts are what the callees ensure.
-use Rattle.library.specs.Acting.{actedOnKernel}
+use Rattle.library.specs.Acting.{acted_on_kernel}
 use Rattle.library.proofs.acting.act_on_kernel.Statement.{statement}
 use Rattle.library.proofs.acting.act_on_kernel.Tie as tie
 
 returns : tie.Need-returns
-unfolding actedOnKernel
+unfolding acted_on_kernel
 returns c =
     rw (← c.before.before.answers-itself.ensures, c.before.if1.true) c.make-call.ensures
 
 returns-2 : tie.Need-returns-2
-unfolding actedOnKernel
+unfolding acted_on_kernel
 returns-2 c =
     let at-answers-itself = c.before.before.before in
     rw (

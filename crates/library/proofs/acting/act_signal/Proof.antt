@@ -1,11 +1,11 @@
 -- The parts are what the callees ensure.
 use Rattle.kernel.proofs.Signed.{signed}
-use Rattle.library.specs.Acting.{signalActed}
+use Rattle.library.specs.Acting.{signal_acted}
 use Rattle.library.proofs.acting.act_signal.Statement.{statement}
 use Rattle.library.proofs.acting.act_signal.Tie as tie
 
 returns : tie.Need-returns
-unfolding signalActed
+unfolding signal_acted
 returns c =
     rw (
       c.finish.ensures,

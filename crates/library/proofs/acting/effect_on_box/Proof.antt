@@ -1,20 +1,20 @@
 -- Each way out is the meaning's, by its tests; the parts are what the callees ensure.
 use borrow.Author.Rules.{rules}
 use borrow.Author.Tests.{ne_eqb}
-use Rattle.library.specs.Acting.{boxEffected}
+use Rattle.library.specs.Acting.{box_effected}
 use Rattle.library.proofs.acting.effect_on_box.Statement.{statement}
 use Rattle.library.proofs.acting.effect_on_box.Tie as tie
 
 returns : tie.Need-returns
-unfolding boxEffected
+unfolding box_effected
 returns c = rw (c.reset-mailbox.ensures, c.before.match.keys1)
 
 returns-2 : tie.Need-returns-2
-unfolding boxEffected
+unfolding box_effected
 returns-2 c = rw (c.resume-mailbox.ensures, c.before.match.keys2)
 
 returns-3 : tie.Need-returns-3
-unfolding boxEffected
+unfolding box_effected
 returns-3 c =
     rw (
       ne_eqb _ 18 c.before.before.match.rest.0.1,

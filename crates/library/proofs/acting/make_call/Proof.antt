@@ -1,12 +1,12 @@
 -- Each way out is the meaning's, by its tests; the parts are what the callees ensure.
 use borrow.Author.Rules.{rules}
 use borrow.Author.Tests.{ne_eqb}
-use Rattle.library.specs.Acting.{callMade}
+use Rattle.library.specs.Acting.{call_made}
 use Rattle.library.proofs.acting.make_call.Statement.{statement}
 use Rattle.library.proofs.acting.make_call.Tie as tie
 
 returns : tie.Need-returns
-unfolding callMade
+unfolding call_made
 returns c =
     let at-call-of = c.before.before.before in
     rw (
@@ -17,11 +17,11 @@ returns c =
     )
 
 returns-2 : tie.Need-returns-2
-unfolding callMade
+unfolding call_made
 returns-2 c = rw (c.act-signal.ensures, c.before.semaphore-place2.ensures, c.before.before.match.keys2)
 
 returns-3 : tie.Need-returns-3
-unfolding callMade
+unfolding call_made
 returns-3 c =
     let at-call-of = c.before.before.before in
     rw (
@@ -32,19 +32,19 @@ returns-3 c =
     )
 
 returns-4 : tie.Need-returns-4
-unfolding callMade
+unfolding call_made
 returns-4 c = rw (c.suspend.ensures, c.before.before.call-of.ensures, c.before.match.keys4)
 
 returns-5 : tie.Need-returns-5
-unfolding callMade
+unfolding call_made
 returns-5 c = rw (c.sleep-for.ensures, c.before.match.keys5)
 
 returns-6 : tie.Need-returns-6
-unfolding callMade
+unfolding call_made
 returns-6 c = rw (c.sleep-until.ensures, c.before.match.keys6)
 
 returns-7 : tie.Need-returns-7
-unfolding callMade
+unfolding call_made
 returns-7 c =
     rw (
       c.wait-events.ensures,

@@ -1,10 +1,10 @@
 -- The parts are what the callees ensure, from the last to the first.
-use Rattle.library.specs.Mailbox.{fetchDone}
+use Rattle.library.specs.Mailbox.{fetch_done}
 use Rattle.library.proofs.mailbox.end_fetch.Statement.{statement}
 use Rattle.library.proofs.mailbox.end_fetch.Tie as tie
 
 returns : tie.Need-returns
-unfolding fetchDone
+unfolding fetch_done
 returns c =
     let at-message-at = c.before.before.before in
     let at-release-first = at-message-at.before in

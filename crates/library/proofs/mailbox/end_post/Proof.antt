@@ -1,10 +1,10 @@
 -- The parts are what the callees ensure, from the last to the first.
-use Rattle.library.specs.Mailbox.{postDone}
+use Rattle.library.specs.Mailbox.{post_done}
 use Rattle.library.proofs.mailbox.end_post.Statement.{statement}
 use Rattle.library.proofs.mailbox.end_post.Tie as tie
 
 returns : tie.Need-returns
-unfolding postDone
+unfolding post_done
 returns c =
     let at-release-first = c.before.before.before in
     let at-readers-place = at-release-first.before in

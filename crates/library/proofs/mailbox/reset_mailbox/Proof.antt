@@ -1,10 +1,10 @@
 -- The parts are what the callees ensure, from the last to the first.
-use Rattle.library.specs.Mailbox.{mailboxReset}
+use Rattle.library.specs.Mailbox.{mailbox_reset}
 use Rattle.library.proofs.mailbox.reset_mailbox.Statement.{statement}
 use Rattle.library.proofs.mailbox.reset_mailbox.Tie as tie
 
 returns : tie.Need-returns
-unfolding mailboxReset
+unfolding mailbox_reset
 returns c =
     let at-set-reset = c.before.before.before in
     let at-set-positions = at-set-reset.before in

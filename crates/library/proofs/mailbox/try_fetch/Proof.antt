@@ -1,11 +1,11 @@
 -- Each way out is the meaning's, by its tests; the parts are what the callees ensure.
 use borrow.Author.Tests.{eq-eqb, ne_eqb}
-use Rattle.library.specs.Mailbox.{fetchTried}
+use Rattle.library.specs.Mailbox.{fetch_tried}
 use Rattle.library.proofs.mailbox.try_fetch.Statement.{statement}
 use Rattle.library.proofs.mailbox.try_fetch.Tie as tie
 
 returns : tie.Need-returns
-unfolding fetchTried
+unfolding fetch_tried
 returns c =
     let at-mailbox-at = c.before.before.before.before in
     rw (
@@ -16,7 +16,7 @@ returns c =
     )
 
 returns-2 : tie.Need-returns-2
-unfolding fetchTried
+unfolding fetch_tried
 returns-2 c =
     let at-if2 = c.before.before.before in
     let at-fetch = at-if2.before.before in
@@ -35,7 +35,7 @@ returns-2 c =
     )
 
 returns-3 : tie.Need-returns-3
-unfolding fetchTried
+unfolding fetch_tried
 returns-3 c =
     let at-fetch = c.before.before.before in
     let at-slots-at = at-fetch.before in

@@ -1,11 +1,11 @@
 -- The parts are what the callees ensure, from the last to the first.
 use borrow.Author.Rules.{rules}
-use Rattle.library.specs.Pool.{handedOver}
+use Rattle.library.specs.Pool.{handed_over}
 use Rattle.library.proofs.pool.hand_over.Statement.{statement}
 use Rattle.library.proofs.pool.hand_over.Tie as tie
 
 returns : tie.Need-returns
-unfolding handedOver
+unfolding handed_over
 returns c =
     let at-finish = c.before.before.before in
     let at-top-of = at-finish.before in

@@ -1,11 +1,11 @@
 -- Both arms are the meaning's, by the test on the counter.
 use Rattle.kernel.proofs.Signed.{signed}
-use Rattle.library.specs.Pool.{allocTried}
+use Rattle.library.specs.Pool.{alloc_tried}
 use Rattle.library.proofs.pool.try_alloc.Statement.{statement}
 use Rattle.library.proofs.pool.try_alloc.Tie as tie
 
 returns : tie.Need-returns
-unfolding allocTried
+unfolding alloc_tried
 returns c =
     let test = c.before.before.before in
     let read = test.before in
@@ -20,7 +20,7 @@ returns c =
     )
 
 returns-2 : tie.Need-returns-2
-unfolding allocTried
+unfolding alloc_tried
 returns-2 c =
     let test = c.before.before in
     let read = test.before in

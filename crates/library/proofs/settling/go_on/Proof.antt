@@ -1,11 +1,11 @@
 -- Each way out is the meaning's, by its tests; the call at work is the thread's own.
 use borrow.Author.Tests.{ne_eqb}
-use Rattle.library.specs.Settling.{wentOn}
+use Rattle.library.specs.Settling.{went_on}
 use Rattle.library.proofs.settling.go_on.Statement.{statement}
 use Rattle.library.proofs.settling.go_on.Tie as tie
 
 returns : tie.Need-returns
-unfolding wentOn
+unfolding went_on
 returns c =
     let test = c.before.before in
     let cause = test.before.before.before in
@@ -19,7 +19,7 @@ returns c =
     )
 
 returns-2 : tie.Need-returns-2
-unfolding wentOn
+unfolding went_on
 returns-2 c =
     let test = c.before.before.before in
     let cause = test.before.before.before in
@@ -34,7 +34,7 @@ returns-2 c =
     )
 
 returns-3 : tie.Need-returns-3
-unfolding wentOn
+unfolding went_on
 returns-3 c =
     let test = c.before.before in
     let cause = test.before.before.before in
@@ -48,7 +48,7 @@ returns-3 c =
     )
 
 returns-4 : tie.Need-returns-4
-unfolding wentOn
+unfolding went_on
 returns-4 c =
     let test = c.before.before in
     let cause = test.before.before.before in
@@ -62,7 +62,7 @@ returns-4 c =
     )
 
 returns-5 : tie.Need-returns-5
-unfolding wentOn
+unfolding went_on
 returns-5 c =
     let test = c.before.before in
     let cause = test.before.before.before in

@@ -1,10 +1,10 @@
 -- The parts are what the callees ensure, from the last to the first.
-use Rattle.library.specs.Sizes.{sizesFit}
+use Rattle.library.specs.Sizes.{sizes_fit}
 use Rattle.library.proofs.sizes.sizes_fit.Statement.{statement}
 use Rattle.library.proofs.sizes.sizes_fit.Tie as tie
 
 returns : tie.Need-returns
-unfolding sizesFit
+unfolding sizes_fit
 returns c =
     let at-both7 = c.before.before.before.before.before.before in
     let at-both6 = at-both7.before in

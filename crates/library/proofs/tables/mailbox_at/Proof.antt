@@ -2,19 +2,19 @@
 use mathlib.Core.Path.{◌∙◌}
 use borrow.Author.Rules.{rules}
 use Rattle.kernel.proofs.Lengths.{length-mapped, read_past, read-within}
-use Rattle.library.specs.Tables.{blankMailbox}
+use Rattle.library.specs.Tables.{blank_mailbox}
 use Rattle.library.proofs.tables.mailbox_at.Statement.{statement}
 use Rattle.library.proofs.tables.mailbox_at.Tie as tie
 
 returns : tie.Need-returns
 returns c =
     let a = c.before.before.args in
-    read-within a.t1 4 a.i _ blankMailbox (search (rules, length-mapped)) c.before.if1.true
+    read-within a.t1 4 a.i _ blank_mailbox (search (rules, length-mapped)) c.before.if1.true
 
 returns-2 : tie.Need-returns-2
 returns-2 c =
     let a = c.before.before.args in
-    c.blank-mailbox.ensures ∙ read_past a.t1 4 a.i (search (rules, length-mapped)) c.before.if1.false blankMailbox
+    c.blank-mailbox.ensures ∙ read_past a.t1 4 a.i (search (rules, length-mapped)) c.before.if1.false blank_mailbox
 
 pub mailbox-at-spec : {M : Type 1} → statement M
 mailbox-at-spec = tie.close (tie.spec (λ c. search rules) (λ c. search rules) (λ c κs. tt) returns returns-2)

@@ -5,25 +5,25 @@ use mathlib.Core.Bool.{true}
 use lib.Dec.{leb}
 use borrow.Author.Tests.{not-true, not-false, leb-true}
 use Rattle.kernel.proofs.Cases.{both-means}
-use Rattle.pipes.specs.Judging.{isThere, lengthFits, pipeRefusal}
+use Rattle.pipes.specs.Judging.{is_there, length_fits, pipe_refusal}
 use Rattle.pipes.proofs.judging.judge.Statement.{statement}
 use Rattle.pipes.proofs.judging.judge.Tie as tie
 
 -- the pipe is there, and the length is one of a buffer
-there : (c : tie.Else1) → isThere c.before.before.args.t c.before.before.args.i ≡ true
+there : (c : tie.Else1) → is_there c.before.before.args.t c.before.before.args.i ≡ true
 there c = sym c.before.is-there.ensures ∙ not-false _ c.if1.false
 
-long : (c : tie.Else2) → lengthFits c.before.before.before.before.args.n ≡ true
+long : (c : tie.Else2) → length_fits c.before.before.before.before.args.n ≡ true
 long c = sym c.before.length-fits.ensures ∙ not-false _ c.if2.false
 
 returns : tie.Need-returns
-unfolding pipeRefusal
+unfolding pipe_refusal
 returns c =
     let absent = sym c.before.is-there.ensures ∙ not-true _ c.if1.true in
     rw absent
 
 returns-2 : tie.Need-returns-2
-unfolding pipeRefusal
+unfolding pipe_refusal
 returns-2 c =
     let other = sym c.before.length-fits.ensures ∙ not-true _ c.if2.true in
     rw (there c.before.before, other)
@@ -34,7 +34,7 @@ cast-positions-fit c =
     omega (arith, leb-true n 256 (both-means (leb 1 n) (leb n 256) (long c.before.before)).1)
 
 returns-3 : tie.Need-returns-3
-unfolding pipeRefusal
+unfolding pipe_refusal
 returns-3 c =
     let called = c.before.before in
     let free = called.before.before in
@@ -42,7 +42,7 @@ returns-3 c =
     rw (there free.before.before, long free, ← called.pipe-at.ensures, fit)
 
 returns-4 : tie.Need-returns-4
-unfolding pipeRefusal
+unfolding pipe_refusal
 returns-4 c =
     let called = c.before.before in
     let free = called.before.before in

@@ -1,15 +1,15 @@
 -- A refusal leaves the table; else the record is stored anew.
 use borrow.Author.Tests.{eq-eqb, ne_eqb}
-use Rattle.pipes.specs.Opening.{pipeReset}
+use Rattle.pipes.specs.Opening.{pipe_reset}
 use Rattle.pipes.proofs.opening.reset_pipe.Statement.{statement}
 use Rattle.pipes.proofs.opening.reset_pipe.Tie as tie
 
 returns : tie.Need-returns
-unfolding pipeReset
+unfolding pipe_reset
 returns c = rw (← c.before.judge.ensures, ne_eqb _ _ c.if1.true)
 
 returns-2 : tie.Need-returns-2
-unfolding pipeReset
+unfolding pipe_reset
 returns-2 c =
     let free = c.before.before in
     rw (c.set-pipe.ensures, c.before.blank-pipe.ensures, ← free.before.judge.ensures, eq-eqb _ _ free.if1.false)

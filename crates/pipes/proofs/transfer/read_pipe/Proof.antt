@@ -7,7 +7,7 @@ use mathlib.Core.Bool.{true}
 use lib.ListN.{length}
 use borrow.Author.Rules.{rules}
 use Rattle.library.proofs.RingLaws.{Fitting}
-use Rattle.pipes.specs.Transfer.{goesAhead}
+use Rattle.pipes.specs.Transfer.{goes_ahead}
 use Rattle.pipes.proofs.CarryingLaws.{least}
 use Rattle.pipes.proofs.TransferLaws.{goes_on, at-work, read-stops, read_goes}
 use Rattle.pipes.proofs.transfer.read_pipe.Statement.{statement}
@@ -23,7 +23,7 @@ returns c =
     read-stops a.t a.i a.buffer.now a.target.now _ asked.goes-ahead.ensures c.before.if1.true _ c.stop.ensures
 
 -- the transfer goes ahead
-ahead : (c : tie.Else1) → let a = (start c.before).args in goesAhead a.t a.i (length a.buffer.now) ≡ true
+ahead : (c : tie.Else1) → let a = (start c.before).args in goes_ahead a.t a.i (length a.buffer.now) ≡ true
 ahead c =
     let a = (start c.before).args in
     goes_on a.t a.i (length a.buffer.now) _ c.before.goes-ahead.ensures c.if1.false

@@ -7,10 +7,10 @@ use mathlib.Core.Path.{◌≡◌, sym, ◌∙◌}
 use borrow.Author.Rules.{rules}
 use Rattle.kernel.proofs.Loops.{first-none, used_le}
 use Rattle.kernel.specs.Tables.{row_in}
-use Rattle.kernel.specs.Walk.{firstFrom}
+use Rattle.kernel.specs.Walk.{first_from}
 use Rattle.rules.proofs.HangingLaws.{finds-later, finds-here}
-use Rattle.rules.specs.Limits.{firstBad}
-use Rattle.rules.specs.Finding.{rowKeeps}
+use Rattle.rules.specs.Limits.{first_bad}
+use Rattle.rules.specs.Finding.{row_keeps}
 use Rattle.rules.proofs.finding.first_bad_row.Statement.{statement}
 use Rattle.rules.proofs.finding.first_bad_row.Tie as tie
 
@@ -18,7 +18,7 @@ abbrev invariant-loop : tie.invariant-loop
 invariant-loop z rule threads end i₀ i =
     (i ≤ end)
     × (end ≤ 16)
-    × (firstBad (λ j. rowKeeps z rule (row_in threads j)) end ≡ firstFrom (λ j. not (rowKeeps z rule (row_in threads j))) i (end - i))
+    × (first_bad (λ j. row_keeps z rule (row_in threads j)) end ≡ first_from (λ j. not (row_keeps z rule (row_in threads j))) i (end - i))
 
 abbrev decreases-loop : tie.decreases-loop
 decreases-loop z rule threads end i₀ i = end - i
@@ -30,7 +30,7 @@ returns : tie.Need-returns invariant-loop decreases-loop
 returns c =
     let turn = c.before.before.before in
     let start = turn.before.before.before in
-    let tests : ℕ → Bool = λ j. rowKeeps start.args.z start.args.rule (row_in start.args.t1 j) in
+    let tests : ℕ → Bool = λ j. row_keeps start.args.z start.args.rule (row_in start.args.t1 j) in
     rw (← turn.before.before.used-rows.ensures)
     (sym (turn.before.loop.invariant.2 ∙ finds-here tests _ _ _ turn.loop-test.true c.before.keeps-rule.ensures c.if1.true))
 
@@ -38,7 +38,7 @@ loop-again : tie.Need-loop-preserved invariant-loop decreases-loop
 loop-again c =
     let turn = c.before.before.before in
     let start = turn.before.before.before in
-    let tests : ℕ → Bool = λ j. rowKeeps start.args.z start.args.rule (row_in start.args.t1 j) in (
+    let tests : ℕ → Bool = λ j. row_keeps start.args.z start.args.rule (row_in start.args.t1 j) in (
       omega arith,
       omega arith,
       turn.before.loop.invariant.2 ∙ finds-later tests _ _ _ turn.loop-test.true c.before.keeps-rule.ensures c.if1.false,

@@ -1,14 +1,14 @@
 -- Each part is what a callee ensures.
-use Rattle.rules.specs.Finding.{orRow}
+use Rattle.rules.specs.Finding.{or_row}
 use Rattle.rules.proofs.finding.or_row.Statement.{statement}
 use Rattle.rules.proofs.finding.or_row.Tie as tie
 
 returns : tie.Need-returns
-unfolding orRow
+unfolding or_row
 returns c = rw c.if1.true
 
 returns-2 : tie.Need-returns-2
-unfolding orRow
+unfolding or_row
 returns-2 c =
     let c11 = c.before in
     let c10 = c11.before.before in

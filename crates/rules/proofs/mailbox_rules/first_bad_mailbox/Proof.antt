@@ -8,12 +8,12 @@ use lib.ListN.{length}
 use borrow.Author.Rules.{rules}
 use Rattle.kernel.proofs.Lengths.{length-mapped, read-within}
 use Rattle.kernel.proofs.Loops.{first-none}
-use Rattle.kernel.specs.Walk.{firstFrom}
+use Rattle.kernel.specs.Walk.{first_from}
 use Rattle.rules.proofs.HangingLaws.{finds-later, finds-here, used-of-le}
-use Rattle.library.specs.Ring.{positionsFit}
-use Rattle.rules.specs.MailboxRules.{mailboxFits}
-use Rattle.rules.specs.Limits.{firstBad}
-use Rattle.library.specs.Tables.{blankMailbox}
+use Rattle.library.specs.Ring.{positions_fit}
+use Rattle.rules.specs.MailboxRules.{mailbox_fits}
+use Rattle.rules.specs.Limits.{first_bad}
+use Rattle.library.specs.Tables.{blank_mailbox}
 use Rattle.library.specs.declared.tables.Mailbox.{Mailbox}
 use Rattle.rules.proofs.mailbox_rules.first_bad_mailbox.Statement.{statement}
 use Rattle.rules.proofs.mailbox_rules.first_bad_mailbox.Tie as tie
@@ -23,7 +23,7 @@ invariant-loop z mailboxes end m₀ m =
     (m ≤ end)
     × (end ≤ 4)
     × (length mailboxes ≡ 4)
-    × (firstBad (mailboxFits mailboxes z) end ≡ firstFrom (λ j. not (mailboxFits mailboxes z j)) m (end - m))
+    × (first_bad (mailbox_fits mailboxes z) end ≡ first_from (λ j. not (mailbox_fits mailboxes z j)) m (end - m))
 
 abbrev decreases-loop : tie.decreases-loop
 decreases-loop z mailboxes end m₀ m = end - m
@@ -39,16 +39,16 @@ loop-holds c = (
 -- the callee's test is the meaning's
 tested : (c : tie.After-positions-fit invariant-loop decreases-loop) →
     c.positions-fit.result
-    ≡ mailboxFits c.before.before.before.before.before.before.args.t1 c.before.before.before.before.before.before.args.z
+    ≡ mailbox_fits c.before.before.before.before.before.before.args.t1 c.before.before.before.before.before.before.args.z
     c.before.before.before.before.loop.m
 tested c =
     let turn = c.before.before.before in
     let mailboxes = turn.before.before.before.args.t1 in
     let slots = c.before.slots_at in
     let row =
-    read-within mailboxes 4 turn.before.loop.m _ blankMailbox turn.before.loop.invariant.2 (omega arith) in
+    read-within mailboxes 4 turn.before.loop.m _ blank_mailbox turn.before.loop.invariant.2 (omega arith) in
     rw slots.ensures
-    at (c.positions-fit.ensures ∙ ap (λ (b : Mailbox). positionsFit b.positions slots.result) row)
+    at (c.positions-fit.ensures ∙ ap (λ (b : Mailbox). positions_fit b.positions slots.result) row)
 
 loop-again : tie.Need-loop-preserved invariant-loop decreases-loop
 loop-again c =
@@ -56,14 +56,14 @@ loop-again c =
       omega arith,
       omega arith,
       turn.before.loop.invariant.2,
-      turn.before.loop.invariant.3 ∙ finds-later (mailboxFits turn.before.before.before.args.t1 turn.before.before.before.args.z) _ _ _ turn.loop-test.true (tested c.before) c.if1.false,
+      turn.before.loop.invariant.3 ∙ finds-later (mailbox_fits turn.before.before.before.args.t1 turn.before.before.before.args.z) _ _ _ turn.loop-test.true (tested c.before) c.if1.false,
     )
 
 returns : tie.Need-returns invariant-loop decreases-loop
 returns c =
     let turn = c.before.before.before.before in
     rw (← turn.before.before.used-of.ensures)
-    (sym (turn.before.loop.invariant.3 ∙ finds-here (mailboxFits turn.before.before.before.args.t1 turn.before.before.before.args.z) _ _ _ turn.loop-test.true (tested c.before) c.if1.true))
+    (sym (turn.before.loop.invariant.3 ∙ finds-here (mailbox_fits turn.before.before.before.args.t1 turn.before.before.before.args.z) _ _ _ turn.loop-test.true (tested c.before) c.if1.true))
 
 returns-2 : tie.Need-returns-2 invariant-loop decreases-loop
 returns-2 c =

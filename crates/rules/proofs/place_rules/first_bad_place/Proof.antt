@@ -10,22 +10,22 @@ use mir.Syntax.{w32}
 use mir.Val.{to_z, of_z}
 use borrow.Author.Rules.{rules}
 use Rattle.kernel.proofs.Loops.{first-none}
-use Rattle.kernel.specs.Tables.{counterIn}
-use Rattle.kernel.specs.Walk.{firstFrom}
-use Rattle.kernel.specs.Words.{onesOf}
+use Rattle.kernel.specs.Tables.{counter_in}
+use Rattle.kernel.specs.Walk.{first_from}
+use Rattle.kernel.specs.Words.{ones_of}
 use Rattle.library.specs.declared.sizes.Sizes.{Sizes}
 use Rattle.rules.proofs.HangingLaws.{finds-later, finds-here}
-use Rattle.rules.specs.PlaceRules.{placeFits, badCounter}
+use Rattle.rules.specs.PlaceRules.{place_fits, bad_counter}
 use Rattle.rules.proofs.place_rules.first_bad_place.Statement.{statement}
 use Rattle.rules.proofs.place_rules.first_bad_place.Tie as tie
 
 -- the test of a place
 abbrev fits : List ℤ → List ℕ → Sizes → ℕ → Bool
-fits counters waiting z p = placeFits z p (counterIn counters p) (onesOf (get_or waiting p 0))
+fits counters waiting z p = place_fits z p (counter_in counters p) (ones_of (get_or waiting p 0))
 
 abbrev invariant-loop : tie.invariant-loop
 invariant-loop z counters waiting p₀ p =
-    (p ≤ 36) × (badCounter counters waiting z ≡ firstFrom (λ j. not (fits counters waiting z j)) p (36 - p))
+    (p ≤ 36) × (bad_counter counters waiting z ≡ first_from (λ j. not (fits counters waiting z j)) p (36 - p))
 
 abbrev decreases-loop : tie.decreases-loop
 decreases-loop z counters waiting p₀ p = 36 - p
@@ -41,7 +41,7 @@ tested c =
     let turn = c.before.before in
     let a = turn.before.before.args in
     let p = turn.before.loop.p in
-    let same : to_z w32 (of_z w32 (counterIn a.t1 p)) ≡ counterIn a.t1 p = search rules in
+    let same : to_z w32 (of_z w32 (counter_in a.t1 p)) ≡ counter_in a.t1 p = search rules in
     rw same at c.word-counted.ensures
 
 loop-again : tie.Need-loop-preserved invariant-loop decreases-loop

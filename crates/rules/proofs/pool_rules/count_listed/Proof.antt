@@ -8,7 +8,7 @@ use lib.ListN.{get_or}
 use borrow.Author.Rules.{rules}
 use Rattle.kernel.specs.Walk.{count_of}
 use Rattle.rules.proofs.HangingLaws.{Tallied, counts, tally-none, tally-le, tally-hit, tally-miss, used-of-le}
-use Rattle.rules.specs.Limits.{usedOf}
+use Rattle.rules.specs.Limits.{used_of}
 use Rattle.library.specs.Pool.{listed_at}
 use Rattle.rules.specs.PoolRules.{occurrences}
 use Rattle.rules.proofs.pool_rules.count_listed.Statement.{statement}
@@ -48,7 +48,7 @@ loop-again c =
 returns : tie.Need-returns invariant-loop decreases-loop
 unfolding occurrences
 returns c =
-    let end : c.before.loop.j ≡ usedOf 32 c.before.before.before.args.t1.length =
+    let end : c.before.loop.j ≡ used_of 32 c.before.before.before.args.t1.length =
     omega (arith, c.before.before.used-of.ensures) in
     rw (← end) c.before.loop.invariant.2.entry
 

@@ -9,7 +9,7 @@ use Rattle.kernel.proofs.Loops.{all-next, all-fails, all_done}
 use Rattle.kernel.specs.Walk.{all_from}
 use Rattle.rules.proofs.HangingLaws.{used-of-le}
 use Rattle.library.specs.Pool.{listed_at}
-use Rattle.rules.specs.PoolRules.{entriesFit}
+use Rattle.rules.specs.PoolRules.{entries_fit}
 use Rattle.rules.proofs.pool_rules.entries_fit.Statement.{statement}
 use Rattle.rules.proofs.pool_rules.entries_fit.Tie as tie
 
@@ -34,14 +34,14 @@ loop-again c =
     )
 
 returns : tie.Need-returns invariant-loop decreases-loop
-unfolding entriesFit
+unfolding entries_fit
 returns c =
     let turn = c.before.before in
     rw (← turn.before.before.used-of.ensures)
     (sym (turn.before.loop.invariant.2 ∙ all-fails _ _ _ turn.loop-test.true (le-ltb _ _ c.if1.true)))
 
 returns-2 : tie.Need-returns-2 invariant-loop decreases-loop
-unfolding entriesFit
+unfolding entries_fit
 returns-2 c =
     rw (← c.before.before.used-of.ensures) (sym (c.before.loop.invariant.2 ∙ all_done _ _ _ c.loop-test.false))
 

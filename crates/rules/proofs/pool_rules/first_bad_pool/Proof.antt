@@ -12,28 +12,28 @@ use mir.Val.{to_z, of_z}
 use borrow.Author.Rules.{rules}
 use Rattle.kernel.proofs.Lengths.{length-mapped, read-within}
 use Rattle.kernel.proofs.Loops.{first-none}
-use Rattle.kernel.specs.Places.{poolPlace}
-use Rattle.kernel.specs.Tables.{counterIn}
-use Rattle.kernel.specs.Walk.{firstFrom}
-use Rattle.kernel.specs.Words.{onesOf}
-use Rattle.library.specs.Tables.{blankPool, poolIn}
+use Rattle.kernel.specs.Places.{pool_place}
+use Rattle.kernel.specs.Tables.{counter_in}
+use Rattle.kernel.specs.Walk.{first_from}
+use Rattle.kernel.specs.Words.{ones_of}
+use Rattle.library.specs.Tables.{blank_pool, pool_in}
 use Rattle.library.specs.declared.tables.Pool.{Pool}
 use Rattle.rules.proofs.HangingLaws.{finds-later, finds-here, used-of-le}
-use Rattle.rules.specs.Limits.{firstBad}
-use Rattle.rules.specs.PoolRules.{poolFits}
+use Rattle.rules.specs.Limits.{first_bad}
+use Rattle.rules.specs.PoolRules.{pool_fits}
 use Rattle.rules.proofs.pool_rules.first_bad_pool.Statement.{statement}
 use Rattle.rules.proofs.pool_rules.first_bad_pool.Tie as tie
 
 -- the test of a pool
 abbrev fits : List Pool → List ℤ → List ℕ → ℕ → Bool
-fits pools counters promised q = poolFits (poolIn pools q) (counterIn counters (poolPlace q)) (onesOf (get_or promised q 0))
+fits pools counters promised q = pool_fits (pool_in pools q) (counter_in counters (pool_place q)) (ones_of (get_or promised q 0))
 
 abbrev invariant-loop : tie.invariant-loop
 invariant-loop pools counters promised end q₀ q =
     (q ≤ end)
     × (end ≤ 4)
     × (length pools ≡ 4)
-    × (firstBad (fits pools counters promised) end ≡ firstFrom (λ j. not (fits pools counters promised j)) q (end - q))
+    × (first_bad (fits pools counters promised) end ≡ first_from (λ j. not (fits pools counters promised j)) q (end - q))
 
 abbrev decreases-loop : tie.decreases-loop
 decreases-loop pools counters promised end q₀ q = end - q
@@ -52,11 +52,11 @@ tested c =
     let q = turn.before.loop.q in
     let place = c.before.before.before.pool-place in
     let within : q < 4 = omega arith in
-    let same : to_z w32 (of_z w32 (counterIn a.t2 place.result)) ≡ counterIn a.t2 place.result = search rules in
+    let same : to_z w32 (of_z w32 (counter_in a.t2 place.result)) ≡ counter_in a.t2 place.result = search rules in
     let read = rw (same, c.before.count-in.ensures) at c.pool-fits.ensures in
-    let row = read-within a.t1 4 q _ blankPool turn.before.loop.invariant.2 within in
+    let row = read-within a.t1 4 q _ blank_pool turn.before.loop.invariant.2 within in
     rw place.ensures
-    at (read ∙ ap (λ (x : Pool). poolFits x (counterIn a.t2 place.result) (onesOf (get_or a.t3 q 0))) row)
+    at (read ∙ ap (λ (x : Pool). pool_fits x (counter_in a.t2 place.result) (ones_of (get_or a.t3 q 0))) row)
 
 loop-again : tie.Need-loop-preserved invariant-loop decreases-loop
 loop-again c =

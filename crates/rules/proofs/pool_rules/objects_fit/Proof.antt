@@ -4,12 +4,12 @@ use native.Mathlib.Omega.{arith}
 use mathlib.Core.Path.{◌≡◌, refl, sym, ◌∙◌}
 use Rattle.kernel.proofs.WalkLaws.{all_more}
 use Rattle.kernel.specs.Walk.{all_from}
-use Rattle.rules.specs.PoolRules.{objectAgrees, objectsFit}
+use Rattle.rules.specs.PoolRules.{object_agrees, objects_fit}
 use Rattle.rules.proofs.pool_rules.objects_fit.Statement.{statement}
 use Rattle.rules.proofs.pool_rules.objects_fit.Tie as tie
 
 abbrev invariant-loop : tie.invariant-loop
-invariant-loop x counts fits₀ o₀ fits o = (o ≤ 32) × (fits ≡ all_from (objectAgrees x) 0 o)
+invariant-loop x counts fits₀ o₀ fits o = (o ≤ 32) × (fits ≡ all_from (object_agrees x) 0 o)
 
 abbrev decreases-loop : tie.decreases-loop
 decreases-loop x counts fits₀ o₀ fits o = 32 - o
@@ -21,7 +21,7 @@ loop-holds c = (omega arith, refl)
 -- the callee's test is the meaning's
 tested : (c : tie.After-object-fits invariant-loop decreases-loop) →
     c.object-fits.result
-    ≡ objectAgrees c.before.before.before.before.before.args.t1 c.before.before.before.loop.o
+    ≡ object_agrees c.before.before.before.before.before.args.t1 c.before.before.before.loop.o
 tested c =
     let turn = c.before.before in
     rw (turn.before.before.count-listed.ensures turn.before.loop.o turn.loop-test.true)
@@ -35,7 +35,7 @@ loop-again c =
     )
 
 returns : tie.Need-returns invariant-loop decreases-loop
-unfolding objectsFit
+unfolding objects_fit
 returns c = let end : c.before.loop.o ≡ 32 = omega arith in rw end at c.before.loop.invariant.1
 
 pub objects-fit-spec : {M : Type 1} → statement M

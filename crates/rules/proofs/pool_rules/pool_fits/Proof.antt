@@ -1,12 +1,12 @@
 -- Each rule counts only where those before it hold.
 use borrow.Author.Tests.{le-leb, lt-leb}
 use Rattle.kernel.proofs.Signed.{signed}
-use Rattle.rules.specs.PoolRules.{poolFits}
+use Rattle.rules.specs.PoolRules.{pool_fits}
 use Rattle.rules.proofs.pool_rules.pool_fits.Statement.{statement}
 use Rattle.rules.proofs.pool_rules.pool_fits.Tie as tie
 
 returns : tie.Need-returns
-unfolding poolFits
+unfolding pool_fits
 returns c =
     let length = c.before.before.before.before in
     let start = length.before.before.before in
@@ -20,7 +20,7 @@ returns c =
     )
 
 returns-2 : tie.Need-returns-2
-unfolding poolFits
+unfolding pool_fits
 returns-2 c =
     let length = c.before.before.before in
     let start = length.before.before.before in
@@ -33,7 +33,7 @@ returns-2 c =
     )
 
 returns-3 : tie.Need-returns-3
-unfolding poolFits
+unfolding pool_fits
 returns-3 c =
     let length = c.before in
     let start = length.before.before.before in
@@ -44,7 +44,7 @@ returns-3 c =
     )
 
 returns-4 : tie.Need-returns-4
-unfolding poolFits
+unfolding pool_fits
 returns-4 c = rw (lt-leb _ _ c.if1.false)
 
 pub pool-fits-spec : {M : Type 1} → statement M

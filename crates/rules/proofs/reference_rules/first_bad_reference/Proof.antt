@@ -10,25 +10,25 @@ use borrow.Author.Rules.{rules}
 use Rattle.kernel.proofs.Lengths.{read-within}
 use Rattle.kernel.proofs.Loops.{first-none}
 use Rattle.kernel.specs.Numbers.{nobody}
-use Rattle.kernel.specs.Tables.{holderIn}
-use Rattle.kernel.specs.Walk.{firstFrom}
+use Rattle.kernel.specs.Tables.{holder_in}
+use Rattle.kernel.specs.Walk.{first_from}
 use Rattle.library.specs.declared.sizes.Sizes.{Sizes}
 use Rattle.rules.proofs.HangingLaws.{finds-later, finds-here, used-of-le}
-use Rattle.rules.specs.Limits.{firstBad}
-use Rattle.rules.specs.ReferenceRules.{holderNamed}
+use Rattle.rules.specs.Limits.{first_bad}
+use Rattle.rules.specs.ReferenceRules.{holder_named}
 use Rattle.rules.proofs.reference_rules.first_bad_reference.Statement.{statement}
 use Rattle.rules.proofs.reference_rules.first_bad_reference.Tie as tie
 
 -- the test of a reference
 abbrev fits : List ℕ → List ℕ → Sizes → ℕ → Bool
-fits references suspended z r = holderNamed (holderIn references r) (get_or suspended r 0) z.threads
+fits references suspended z r = holder_named (holder_in references r) (get_or suspended r 0) z.threads
 
 abbrev invariant-loop : tie.invariant-loop
 invariant-loop z references suspended end r₀ r =
     (r ≤ end)
     × (end ≤ 8)
     × (length references ≡ 8)
-    × (firstBad (fits references suspended z) end ≡ firstFrom (λ j. not (fits references suspended z j)) r (end - r))
+    × (first_bad (fits references suspended z) end ≡ first_from (λ j. not (fits references suspended z j)) r (end - r))
 
 abbrev decreases-loop : tie.decreases-loop
 decreases-loop z references suspended end r₀ r = end - r
@@ -46,7 +46,7 @@ tested c =
     let r = turn.before.loop.r in
     let within : r < 8 = omega arith in
     let read = read-within a.t1 8 r 0 nobody turn.before.loop.invariant.2 within in
-    c.holder-fits.ensures ∙ ap (λ (h : ℕ). holderNamed h (get_or a.t2 r 0) a.z.threads) read
+    c.holder-fits.ensures ∙ ap (λ (h : ℕ). holder_named h (get_or a.t2 r 0) a.z.threads) read
 
 loop-again : tie.Need-loop-preserved invariant-loop decreases-loop
 loop-again c =

@@ -1,10 +1,10 @@
 -- Each rule counts only where those before it hold.
-use Rattle.rules.specs.RowRules.{rowFits}
+use Rattle.rules.specs.RowRules.{row_fits}
 use Rattle.rules.proofs.row_rules.row_fits.Statement.{statement}
 use Rattle.rules.proofs.row_rules.row_fits.Tie as tie
 
 returns : tie.Need-returns
-unfolding rowFits
+unfolding row_fits
 returns c =
     let ticks = c.before.before.before in
     let wait = ticks.before.before in
@@ -22,7 +22,7 @@ returns c =
     )
 
 returns-2 : tie.Need-returns-2
-unfolding rowFits
+unfolding row_fits
 returns-2 c =
     let back = c.before.before.before in
     let far = back.before.before.before in
@@ -38,7 +38,7 @@ returns-2 c =
     )
 
 returns-3 : tie.Need-returns-3
-unfolding rowFits
+unfolding row_fits
 returns-3 c =
     let back = c.before.before.before in
     rw (
@@ -51,7 +51,7 @@ returns-3 c =
     )
 
 returns-4 : tie.Need-returns-4
-unfolding rowFits
+unfolding row_fits
 returns-4 c =
     rw (
       ← c.before.before.before.call_fits.ensures,
@@ -61,7 +61,7 @@ returns-4 c =
     )
 
 returns-5 : tie.Need-returns-5
-unfolding rowFits
+unfolding row_fits
 returns-5 c = rw (← c.before.call_fits.ensures, c.if1.false)
 
 pub row-fits-spec : {M : Type 1} → statement M

@@ -1,15 +1,15 @@
 -- The arms are the meaning's, by the tests in their order.
 use borrow.Author.Tests.{eq-eqb, ne_eqb}
-use Rattle.rules.specs.RowRules.{waitFits}
+use Rattle.rules.specs.RowRules.{wait_fits}
 use Rattle.rules.proofs.row_rules.wait_fits.Statement.{statement}
 use Rattle.rules.proofs.row_rules.wait_fits.Tie as tie
 
 returns : tie.Need-returns
-unfolding waitFits
+unfolding wait_fits
 returns c = rw (eq-eqb _ _ c.before.if1.true)
 
 returns-2 : tie.Need-returns-2
-unfolding waitFits
+unfolding wait_fits
 returns-2 c =
     let back = c.before.before.before in
     rw (
@@ -20,7 +20,7 @@ returns-2 c =
     )
 
 returns-3 : tie.Need-returns-3
-unfolding waitFits
+unfolding wait_fits
 returns-3 c =
     rw (
       ne_eqb _ _ c.before.before.before.if1.false,

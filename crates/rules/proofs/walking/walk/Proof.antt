@@ -9,13 +9,13 @@ use Rattle.kernel.proofs.Loops.{used_le}
 use Rattle.kernel.proofs.WalkLaws.{all_more}
 use Rattle.kernel.proofs.WordsLaws.{value_in}
 use Rattle.kernel.specs.Numbers.{queued, suspended}
-use Rattle.kernel.specs.Tables.{row_in, usedRows}
-use Rattle.kernel.specs.Waiters.{isReady, queued_at}
+use Rattle.kernel.specs.Tables.{row_in, used_rows}
+use Rattle.kernel.specs.Waiters.{is_ready, queued_at}
 use Rattle.kernel.specs.Walk.{all_from}
 use Rattle.kernel.specs.Words.{word_of}
-use Rattle.rules.specs.PoolRules.{isPromised, promisedBy}
-use Rattle.rules.specs.ReferenceRules.{suspendedAt}
-use Rattle.rules.specs.RowRules.{rowFits}
+use Rattle.rules.specs.PoolRules.{is_promised, promised_by}
+use Rattle.rules.specs.ReferenceRules.{suspended_at}
+use Rattle.rules.specs.RowRules.{row_fits}
 use Rattle.rules.proofs.HangingLaws.{room, word-hit, word-miss, Tallied, words, tally-none, tally-hit, tally-miss, word_room, keyed}
 use Rattle.rules.proofs.WalkingLaws.{tabled-is}
 use Rattle.rules.proofs.walking.walk.Statement.{statement}
@@ -25,11 +25,11 @@ abbrev invariant-loop : tie.invariant-loop
 invariant-loop z threads end rows₀ ready₀ waiting₀ suspended₀ promised₀ i₀ rows ready waiting suspended promised i =
     (i ≤ end)
     × (end ≤ 16)
-    × (rows ≡ all_from (λ j. rowFits (row_in threads j) z) 0 i)
-    × (ready ≡ word_of (λ j. isReady (row_in threads j)) i)
+    × (rows ≡ all_from (λ j. row_fits (row_in threads j) z) 0 i)
+    × (ready ≡ word_of (λ j. is_ready (row_in threads j)) i)
     × Tallied word_of (λ p j. queued_at p (row_in threads j)) 36 waiting i
-    × Tallied word_of (λ r j. suspendedAt r (row_in threads j)) 8 suspended i
-    × Tallied word_of (λ q j. promisedBy q (row_in threads j)) 4 promised i
+    × Tallied word_of (λ r j. suspended_at r (row_in threads j)) 8 suspended i
+    × Tallied word_of (λ q j. promised_by q (row_in threads j)) 4 promised i
 
 abbrev decreases-loop : tie.decreases-loop
 decreases-loop z threads end rows₀ ready₀ waiting₀ suspended₀ promised₀ i₀ rows ready waiting suspended promised i = end - i
@@ -53,7 +53,7 @@ add-ready c =
     let few : i < 16 = omega arith in
     let threads = turn.before.before.before.args.t1 in
     let one = value_in i _ c.before.before.before.before.bit-value.ensures few in
-    omega (arith, one, turn.before.loop.invariant.3, room (λ j. isReady (row_in threads j)) i few)
+    omega (arith, one, turn.before.loop.invariant.3, room (λ j. is_ready (row_in threads j)) i few)
 
 add-waiting : tie.Need-overflow-add-waiting invariant-loop decreases-loop
 add-waiting c =
@@ -94,21 +94,21 @@ loop-again c =
     let few : i < 16 = omega arith in
     let one : row.before.bit-value.result ≡ 2 ^ i = value_in i _ row.before.bit-value.ensures few in
     let passes = sym test.is-ready.ensures in
-    let fits : ℕ → Bool = λ j. rowFits (row_in a.t1 j) a.z in
+    let fits : ℕ → Bool = λ j. row_fits (row_in a.t1 j) a.z in
     let queue : (p : ℕ) → p < 36 → queued_at p t ≡ eqb j2.before.queue-of.result p =
     keyed (eqb t.state queued) t.place 36 _ j2.before.queue-of.ensures in
-    let reference : (r : ℕ) → r < 8 → suspendedAt r t ≡ eqb j3.before.reference-of.result r =
+    let reference : (r : ℕ) → r < 8 → suspended_at r t ≡ eqb j3.before.reference-of.result r =
     keyed (eqb t.state suspended) t.place 8 _ j3.before.reference-of.ensures in
-    let pool : (q : ℕ) → q < 4 → promisedBy q t ≡ eqb c.before.pool-of.result q =
-    keyed (isPromised t) t.call.object 4 _ c.before.pool-of.ensures in (
+    let pool : (q : ℕ) → q < 4 → promised_by q t ≡ eqb c.before.pool-of.result q =
+    keyed (is_promised t) t.call.object 4 _ c.before.pool-of.ensures in (
       omega arith,
       omega arith,
       test.before.both.ensures
           ∙ (ap (λ (b : Bool). b && row.row-fits.result) inv.2
           ∙ (ap (λ (b : Bool). all_from fits 0 i && b) row.row-fits.ensures ∙ sym (all_more fits i))),
       ⊎_elim
-          (λ w. w.1 ∙ word-hit (λ j. isReady (row_in a.t1 j)) i _ _ inv.3 one (passes ∙ w.0.taken))
-          (λ w. w.1 ∙ word-miss (λ j. isReady (row_in a.t1 j)) i _ inv.3 (passes ∙ w.0.left))
+          (λ w. w.1 ∙ word-hit (λ j. is_ready (row_in a.t1 j)) i _ _ inv.3 one (passes ∙ w.0.taken))
+          (λ w. w.1 ∙ word-miss (λ j. is_ready (row_in a.t1 j)) i _ inv.3 (passes ∙ w.0.left))
           j1.if1.branch,
       ⊎_elim
           (λ w. rw (w.1, one) (tally-hit words _ 36 _ _ _ inv.4 queue w.0.taken))
@@ -127,7 +127,7 @@ loop-again c =
 returns : tie.Need-returns invariant-loop decreases-loop
 returns c =
     let inv = c.before.loop.invariant in
-    let end : c.before.loop.i ≡ usedRows c.before.before.before.args.z.threads =
+    let end : c.before.loop.i ≡ used_rows c.before.before.before.args.z.threads =
     omega (arith, c.before.before.used-rows.ensures) in
     rw (
       ← end,

@@ -1,12 +1,12 @@
 -- Each test is what a callee ensures, and the number that of the first that fails.
 use borrow.Author.Rules.{rules}
-use Rattle.kernel.specs.Waiters.{firstReady}
-use Rattle.steps.specs.Refusal.{refusalOf}
+use Rattle.kernel.specs.Waiters.{first_ready}
+use Rattle.steps.specs.Refusal.{refusal_of}
 use Rattle.steps.proofs.refusal.refuse.Statement.{statement}
 use Rattle.steps.proofs.refusal.refuse.Tie as tie
 
 returns : tie.Need-returns
-unfolding refusalOf firstReady
+unfolding refusal_of first_ready
 returns c =
     let value = c.before.before in
     let limit = value.before.before in

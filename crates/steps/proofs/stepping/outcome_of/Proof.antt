@@ -3,12 +3,12 @@ use mir.Facts.{to_z-of_z}
 use mir.Syntax.{w32}
 use mir.Val.{SFits}
 use borrow.Author.Rules.{rules}
-use Rattle.steps.specs.Stepping.{outcomeOf}
+use Rattle.steps.specs.Stepping.{outcome_of}
 use Rattle.steps.proofs.stepping.outcome_of.Statement.{statement}
 use Rattle.steps.proofs.stepping.outcome_of.Tie as tie
 
 returns : tie.Need-returns
-unfolding outcomeOf
+unfolding outcome_of
 returns c =
     let answer = c.before.before.before.before.before.before in
     let fits : SFits w32 answer.answer-of.result.message = search rules in

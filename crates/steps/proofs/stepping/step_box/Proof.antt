@@ -2,8 +2,8 @@
 use mathlib.Core.Path.{refl}
 use borrow.Author.Rules.{rules}
 use Rattle.library.proofs.SettlingLaws.{settled-quiet}
-use Rattle.library.specs.Acting.{actedOnBox}
-use Rattle.steps.specs.Stepping.{budgetOf, started}
+use Rattle.library.specs.Acting.{acted_on_box}
+use Rattle.steps.specs.Stepping.{budget_of, started}
 use Rattle.steps.proofs.stepping.step_box.Statement.{statement}
 use Rattle.steps.proofs.stepping.step_box.Tie as tie
 
@@ -13,8 +13,8 @@ returns c =
     let acts = test.before.before in
     let acted = rw acts.before.«open».ensures at acts.act-on-box.ensures in
     let a = acts.before.before.before.args in
-    let p = actedOnBox (started a.tables a.s) a.s in
-    let quiet = settled-quiet (budgetOf a.tables.sizes.threads) p p _ refl (rw acted at test.before.running-free.ensures) test.if1.true in
+    let p = acted_on_box (started a.tables a.s) a.s in
+    let quiet = settled-quiet (budget_of a.tables.sizes.threads) p p _ refl (rw acted at test.before.running-free.ensures) test.if1.true in
     rw (c.End-step.ensures, acted, ← quiet)
 
 returns-2 : tie.Need-returns-2

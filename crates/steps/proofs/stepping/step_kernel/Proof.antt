@@ -2,14 +2,14 @@
 use mathlib.Core.Path.{refl}
 use borrow.Author.Rules.{rules}
 use Rattle.library.proofs.SettlingLaws.{settled-quiet}
-use Rattle.library.specs.Acting.{actedOnKernel}
-use Rattle.library.specs.Tables.{withKernel}
-use Rattle.steps.specs.Stepping.{budgetOf, doneWith, started}
+use Rattle.library.specs.Acting.{acted_on_kernel}
+use Rattle.library.specs.Tables.{with_kernel}
+use Rattle.steps.specs.Stepping.{budget_of, done_with, started}
 use Rattle.steps.proofs.stepping.step_kernel.Statement.{statement}
 use Rattle.steps.proofs.stepping.step_kernel.Tie as tie
 
 returns : tie.Need-returns
-unfolding doneWith
+unfolding done_with
 returns c =
     let test = c.before.before.before in
     let acts = test.before.before in
@@ -17,8 +17,8 @@ returns c =
     let a = acts.before.before.before.before.args in
     let n = a.tables.sizes.threads in
     let q = started a.tables a.s in
-    let p = withKernel q (actedOnKernel q.kernel n a.clock.time a.s) in
-    let quiet = settled-quiet (budgetOf n) p p _ refl (rw acted at test.before.running-free.ensures) test.if1.true in
+    let p = with_kernel q (acted_on_kernel q.kernel n a.clock.time a.s) in
+    let quiet = settled-quiet (budget_of n) p p _ refl (rw acted at test.before.running-free.ensures) test.if1.true in
     rw (c.end.ensures, c.before.clock-after.ensures, c.before.before.outcome-of.ensures, acted, ← quiet)
 
 returns-2 : tie.Need-returns-2

@@ -1,13 +1,13 @@
 -- Each turn counts one object more.
 use Rattle.std.proofs.Common.{◌≡◌, ◌+◌, ◌-◌, ◌≤◌, eqb, arith}
 use Rattle.kernel.specs.Walk.{count_of}
-use Rattle.library.specs.Pool.{markAt}
+use Rattle.library.specs.Pool.{mark_at}
 use Rattle.text.proofs.RowLaws.{count_none, count-more, count-all, bit-small}
 use Rattle.text.proofs.sums.count_marks.Statement.{statement}
 use Rattle.text.proofs.sums.count_marks.Tie as tie
 
 abbrev invariant-loop : tie.invariant-loop
-invariant-loop p mark n₀ i₀ n i = (i ≤ 32) × ((n ≤ i) × (n ≡ count_of (λ o. eqb (markAt p o) mark) i))
+invariant-loop p mark n₀ i₀ n i = (i ≤ 32) × ((n ≤ i) × (n ≡ count_of (λ o. eqb (mark_at p o) mark) i))
 
 abbrev decreases-loop : tie.decreases-loop
 decreases-loop p mark n₀ i₀ n i = 32 - i

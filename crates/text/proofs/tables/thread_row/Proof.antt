@@ -1,11 +1,11 @@
 -- Its parts are what the callees ensure.
 use Rattle.std.proofs.Common.{◌≡◌, w32, to_z, of_z, rules}
-use Rattle.text.specs.Tables.{threadRow}
+use Rattle.text.specs.Tables.{thread_row}
 use Rattle.text.proofs.tables.thread_row.Statement.{statement}
 use Rattle.text.proofs.tables.thread_row.Tie as tie
 
 returns : tie.Need-returns
-unfolding threadRow
+unfolding thread_row
 returns c =
     let t = c.before.before.before.before.before.before.before.before.before.before.before.before.args.t in
     let message : to_z w32 (of_z w32 t.message) ≡ t.message = search rules in

@@ -1,15 +1,15 @@
 -- By the part.
 use Rattle.std.proofs.Common.{rules, eq-eqb, ne_eqb}
-use Rattle.text.specs.Tables.{wordRow}
+use Rattle.text.specs.Tables.{word_row}
 use Rattle.text.proofs.tables.word_row.Statement.{statement}
 use Rattle.text.proofs.tables.word_row.Tie as tie
 
 returns : tie.Need-returns
-unfolding wordRow
+unfolding word_row
 returns c = rw (c.brief.ensures, eq-eqb _ _ c.before.before.before.before.if1.true)
 
 returns-2 : tie.Need-returns-2
-unfolding wordRow
+unfolding word_row
 returns-2 c =
     rw (c.brief2.ensures, c.before.queued-at.ensures, c.before.before.before.before.waiting-at.ensures, c.before.before.before.before.before.word-place.ensures, ne_eqb _ _ c.before.before.before.before.before.before.if1.false)
 

@@ -1,11 +1,11 @@
 -- By the callee.
 use Rattle.std.proofs.Common.{rules}
-use Rattle.text.specs.Views.{stepLine}
+use Rattle.text.specs.Views.{step_line}
 use Rattle.text.proofs.views.step_line.Statement.{statement}
 use Rattle.text.proofs.views.step_line.Tie as tie
 
 returns : tie.Need-returns
-unfolding stepLine
+unfolding step_line
 returns c = rw c.numbered.ensures
 
 pub step-line-spec : {M : Type 1} → statement M

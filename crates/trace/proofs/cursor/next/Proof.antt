@@ -46,7 +46,7 @@ use denote.Triple.Entry.{on_entry}
 use denote.Triple.Spec.{Meets, triple_of}
 use denote.Triple.Table.{entered, cited}
 use denote.Triple.Walked.{says, Stays, stay_ref, walk_of, Goes-ref, Walks, ends_at, walked, walk_Meets}
-use Rattle.trace.specs.Decoding.{nextRead}
+use Rattle.trace.specs.Decoding.{next_read}
 use Rattle.trace.specs.declared.cursor.Reader.{Reader}
 use Rattle.trace.specs.declared.decoding.Read.{Read}
 use Rattle.kernel.proofs.Lent.{at-its}
@@ -86,8 +86,8 @@ module _ {M : Type 1} {𝓤 : Ura M} (𝓛 : Logic 𝓤) (at_mem : Memory → SP
   abbrev NextRecord : Contract 𝓤
   NextRecord = triple_of 𝓛 next-record.signature (next-record.spec 𝓛 at_mem run)
 
-  found_of : (κ : Lft) (s : Bor (List ℕ)) (n : ℕ) (r : Read) → ent 𝓤 (ensured 𝓛 next-record.ended (next-record.clauses 𝓛 at_mem run) (κ, tt) (s, (n, tt)) tt r) (fact 𝓤 (r ≡ nextRead s.now n))
-  found_of κ s n r = ex_e 𝓤 _ (λ ws. snd∗ 𝓤 (sem 𝓛 (lasts next-record.ended (κ, tt) (s, (n, tt)) ws)) (fact 𝓤 (r ≡ nextRead s.now n)))
+  found_of : (κ : Lft) (s : Bor (List ℕ)) (n : ℕ) (r : Read) → ent 𝓤 (ensured 𝓛 next-record.ended (next-record.clauses 𝓛 at_mem run) (κ, tt) (s, (n, tt)) tt r) (fact 𝓤 (r ≡ next_read s.now n))
+  found_of κ s n r = ex_e 𝓤 _ (λ ws. snd∗ 𝓤 (sem 𝓛 (lasts next-record.ended (κ, tt) (s, (n, tt)) ws)) (fact 𝓤 (r ≡ next_read s.now n)))
 
 module _ {M : Type 1} {𝓤 : Ura M} (𝓛 : Logic 𝓤) (at_mem : Memory → SProp 𝓤) (run : Routine → Fun 𝓤) (κ κ' : Lft) (q q' : Share) (bounds : AllOutlive 2 (f.signature).outlives (κ, (κ', tt))) (b o : ℕ) (γ : GName) (h : Reader) where
   open 𝓛 use {H, A}
@@ -142,7 +142,7 @@ module _ {M : Type 1} {𝓤 : Ura M} (𝓛 : Logic 𝓤) (at_mem : Memory → SP
   again : (p : ℕ) → p < 2 ^ 64 → ent 𝓤 (sem 𝓛 Own) (sem 𝓛 ((B κ').own (h' p) (T'.lowered (h' p) ∷ [])))
   again p fits = qed 𝓛 (‵ Own ∷ []) ∵ owned ! usize (Is usize) (uint_Makes 𝓛 w64) p _ (refl, fits) $ move ! (1 ∷ 0 ∷ []) $ by ! (own_put 𝓛 D L 1 vd p mach)
 
-  exits : (r : Read) → Is S.the_row r (read-vals r) → r ≡ nextRead h.trace.now h.at
+  exits : (r : Read) → Is S.the_row r (read-vals r) → r ≡ next_read h.trace.now h.at
       → ent 𝓤 (⋆ 𝓛 (‵ (fobs γ ((B κ').coded.code (h' r.next))) ∷ ‵ (fbor κ (Body (mem (B κ')) b o γ)) ∷ ‵ (flft κ q) ∷ (‵ (flft κ' q') ⊛ ‵ ftrue) ∷ [])) (Post (LL.val S.the_type S'.the_laws r))
   exits r is e =
       qed 𝓛 (‵ (fobs γ ((B κ').coded.code (h' r.next))) ∷ ‵ (fbor κ (Body (mem (B κ')) b o γ)) ∷ ‵ (flft κ q) ∷ (‵ (flft κ' q') ⊛ ‵ ftrue) ∷ []) ∵
@@ -170,7 +170,7 @@ module _ {M : Type 1} {𝓤 : Ura M} (𝓛 : Logic 𝓤) (at_mem : Memory → SP
         -- [what `next_record` asks; what the reader owns; the cell; the open borrow; obs; auth; the locals from 6]
         calls_at ! fm (NextRecord 𝓛 at_mem run) known-next-record to-next-record (and_then ! (load ! (from ! (stop !)) (look ! 6 refl)) (and_then ! (load ! (from ! (stop !)) (look ! 10 refl)) (no_more !))) (λ u.
         use1 𝓛 (later (some (λ (r : Read). ((‵ (flft κ' q') ⊛ ‵ ftrue) ⊛ ‵ ((S.the_row).own_val r (u ∷ []))) ⊛ raw (ensured 𝓛 next-record.ended (next-record.clauses 𝓛 at_mem run) (κ', tt) (h.trace, (h.at, tt)) tt r)))) (id⊢ 𝓤 _) $ await ! tt $ pick ! (λ r.
-        split ! $ move ! (1 ∷ []) $ use1 𝓛 (raw (fact 𝓤 (r ≡ nextRead h.trace.now h.at))) (found_of 𝓛 at_mem run κ' h.trace h.at r) $ heard ! (r ≡ nextRead h.trace.now h.at) (λ e. split ! $ move ! (1 ∷ []) $
+        split ! $ move ! (1 ∷ []) $ use1 𝓛 (raw (fact 𝓤 (r ≡ next_read h.trace.now h.at))) (found_of 𝓛 at_mem run κ' h.trace h.at r) $ heard ! (r ≡ next_read h.trace.now h.at) (λ e. split ! $ move ! (1 ∷ []) $
         peeks ! S.the_row (Is S.the_row) (shows 𝓛 S.the_row) r (u ∷ []) (λ is. drop ! $
         -- [the token of 'a; what the reader owns; the cell; the open borrow; obs; auth; the locals from 6]
         land ! (from ! (stop !)) (init ! 8 refl ((LL.lawful S.the_type S'.the_laws 𝓛).typed r _ is).0) $ rewrite ! 8 (λ (z : Val). ‵ (fat full_share S'.mir l3 0 z)) (ap only (LL.tells S.the_type S'.the_laws r _ is)) refl $

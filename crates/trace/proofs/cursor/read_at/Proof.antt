@@ -49,7 +49,7 @@ use denote.Triple.Entry.{Vals, on_entry}
 use denote.Triple.Spec.{Meets, triple_of}
 use denote.Triple.Table.{entered, cited}
 use denote.Triple.Walked.{says, Stays, stay_none, stay_none_slice, walk_of, Goes-none, Goes-none_slice, Walks, ends_at, walked, walk_Meets}
-use Rattle.trace.specs.Decoding.{nextRead}
+use Rattle.trace.specs.Decoding.{next_read}
 use Rattle.trace.specs.Cursor.{moved}
 use Rattle.trace.specs.declared.cursor.Reader.{Reader}
 use Rattle.trace.specs.declared.decoding.Read.{Read}
@@ -129,7 +129,7 @@ module _ {M : Type 1} {𝓤 : Ura M} (𝓛 : Logic 𝓤) (at_mem : Memory → SP
       qed 𝓛 (‵ ((MutRef (named 0) (ν ∷ κ) (B κ)).own_val (lent l γ) (vptr l 0 ∷ [])) ∷ ‵ (flft (ν ∷ κ) (PosShare.right q)) ∷ ‵ (flft κ (PosShare.left q)) ∷ []) ∵ nothing ! $ move ! (1 ∷ 0 ∷ []) $ fjoin ! $
       nothing ! $ move ! (3 ∷ 0 ∷ []) $ join ! $ move ! (2 ∷ 0 ∷ []) $ join ! $ join ! $ frame ! $ done !
 
-  exits : (r : Read) → Is S.the_row r (read-vals r) → r ≡ nextRead s.now n → ent 𝓤 (sep 𝓤 (A.lft κ q) (sem 𝓛 Own)) (Post (LL.val S.the_type S'.the_laws r))
+  exits : (r : Read) → Is S.the_row r (read-vals r) → r ≡ next_read s.now n → ent 𝓤 (sep 𝓤 (A.lft κ q) (sem 𝓛 Own)) (Post (LL.val S.the_type S'.the_laws r))
   exits r is e =
       qed 𝓛 (‵ (flft κ q) ∷ ‵ Own ∷ []) ∵
       suffices ! _ (ends_at 𝓛 f.ended stayed (f.clauses 𝓛 at_mem run) (((κ, tt), (q, tt), tt, (s, (n, tt)), at), tt) (LL.val S.the_type S'.the_laws r) r (tt, (tt, tt)) (tt, (tt, tt))) $ says ! e $
@@ -157,8 +157,8 @@ module _ {M : Type 1} {𝓤 : Ura M} (𝓛 : Logic 𝓤) (at_mem : Memory → SP
         -- [what `next` asks; the lender's part; the rest of ν; _4; …; what frees _3; _2; …; _1; …; _0; …; the slice]
         calls_at ! fm (Next 𝓛 at_mem run) known (to-next ν l3 γ) (and_then ! (load ! (from ! (stop !)) (look ! 3 refl)) (no_more !)) (λ u.
         use1 𝓛 (later (some (λ (r : Read). ((‵ (flft (ν ∷ κ) (PosShare.right q)) ⊛ ‵ (flft κ (PosShare.left q)) ⊛ ‵ ftrue) ⊛ ‵ ((S.the_row).own_val r (u ∷ []))) ⊛ raw (ensured 𝓛 next.ended (next.clauses 𝓛 at_mem run) (ν ∷ κ, (κ, tt)) (lent l3 γ, tt) tt r)))) (id⊢ 𝓤 _) $ await ! tt $ pick ! (λ r.
-        split ! $ move ! (1 ∷ []) $ use1 𝓛 (some (λ (ws : Reader × Unit {0}). ‵ (lasts next.ended (ν ∷ κ, (κ, tt)) (lent l3 γ, tt) ws) ⊛ raw (fact 𝓤 ((r ≡ nextRead s.now n) × (ws.0 ≡ moved h))))) (id⊢ 𝓤 _) $ pick ! (λ ws.
-        split ! $ move ! (1 ∷ []) $ heard ! ((r ≡ nextRead s.now n) × (ws.0 ≡ moved h)) (λ e. fsplit ! $ move ! (2 ∷ []) $ split ! $ move ! (1 ∷ []) $
+        split ! $ move ! (1 ∷ []) $ use1 𝓛 (some (λ (ws : Reader × Unit {0}). ‵ (lasts next.ended (ν ∷ κ, (κ, tt)) (lent l3 γ, tt) ws) ⊛ raw (fact 𝓤 ((r ≡ next_read s.now n) × (ws.0 ≡ moved h))))) (id⊢ 𝓤 _) $ pick ! (λ ws.
+        split ! $ move ! (1 ∷ []) $ heard ! ((r ≡ next_read s.now n) × (ws.0 ≡ moved h)) (λ e. fsplit ! $ move ! (2 ∷ []) $ split ! $ move ! (1 ∷ []) $
         peeks ! S.the_row (Is S.the_row) (shows 𝓛 S.the_row) r (u ∷ []) (λ is. drop ! $ split ! $ move ! (1 ∷ []) $ split ! $ move ! (2 ∷ 6 ∷ []) $
         -- the lifetime is ended, and the reader is back
         use2 𝓛 (later (‵ (fdead (ν ∷ κ)) ⊛ ‵ (flft κ (PosShare.right q)))) (within_end 𝓛 ν κ (PosShare.right q)) $ await ! tt $ split ! $ move ! (2 ∷ 1 ∷ []) $ use2 𝓛 (‵ (flft κ q)) (𝓛.lfts.lft_join κ q) $ move ! (1 ∷ 5 ∷ 3 ∷ []) $

@@ -1,10 +1,10 @@
 -- Each field is what stands at its place.
-use Rattle.trace.specs.Decoding.{decodedStep}
+use Rattle.trace.specs.Decoding.{decoded_step}
 use Rattle.trace.proofs.decoding.decode_step.Statement.{statement}
 use Rattle.trace.proofs.decoding.decode_step.Tie as tie
 
 returns : tie.Need-returns
-unfolding decodedStep
+unfolding decoded_step
 returns c =
     rw (c.before.before.before.before.byte_at.ensures, c.before.before.before.byte-at2.ensures, c.before.before.byte-at3.ensures, c.before.read_u32.ensures, c.read-u322.ensures)
 

@@ -1,30 +1,30 @@
 -- Each test is the meaning's own, in its order.
 use borrow.Author.Rules.{rules}
 use borrow.Author.Tests.{lt-ltb, le-ltb, ne_eqb, eq-eqb}
-use Rattle.trace.specs.Decoding.{lengthRefusal}
+use Rattle.trace.specs.Decoding.{length_refusal}
 use Rattle.trace.proofs.decoding.judge_head.Statement.{statement}
 use Rattle.trace.proofs.decoding.judge_head.Tie as tie
 
 returns : tie.Need-returns
-unfolding lengthRefusal
+unfolding length_refusal
 returns c = rw (lt-ltb _ _ c.if1.true)
 
 returns-2 : tie.Need-returns-2
-unfolding lengthRefusal
+unfolding length_refusal
 returns-2 c = rw (le-ltb _ _ c.before.before.if1.false, ← c.before.byte_at.ensures, ne_eqb _ _ c.if2.true)
 
 returns-3 : tie.Need-returns-3
-unfolding lengthRefusal
+unfolding length_refusal
 returns-3 c =
     rw (le-ltb _ _ c.before.before.before.before.if1.false, ← c.before.before.before.byte_at.ensures, eq-eqb _ _ c.before.before.if2.false, ← c.before.ends-inside.ensures, c.if3.true)
 
 returns-4 : tie.Need-returns-4
-unfolding lengthRefusal
+unfolding length_refusal
 returns-4 c =
     rw (le-ltb _ _ c.before.before.before.before.before.before.before.if1.false, ← c.before.before.before.before.before.before.byte_at.ensures, eq-eqb _ _ c.before.before.before.before.before.if2.false, ← c.before.before.before.before.ends-inside.ensures, c.before.before.before.if3.false, ← c.before.before.read-u16.ensures, ← c.before.byte-at2.ensures, ne_eqb _ _ c.if4.true)
 
 returns-5 : tie.Need-returns-5
-unfolding lengthRefusal
+unfolding length_refusal
 returns-5 c =
     rw (le-ltb _ _ c.before.before.before.before.before.before.before.if1.false, ← c.before.before.before.before.before.before.byte_at.ensures, eq-eqb _ _ c.before.before.before.before.before.if2.false, ← c.before.before.before.before.ends-inside.ensures, c.before.before.before.if3.false, ← c.before.before.read-u16.ensures, ← c.before.byte-at2.ensures, eq-eqb _ _ c.if4.false)
 

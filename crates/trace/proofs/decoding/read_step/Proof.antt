@@ -4,16 +4,16 @@ use mathlib.Core.Path.{sym, ◌∙◌}
 use borrow.Author.Rules.{rules}
 use borrow.Author.Tests.{eq-eqb, ne_eqb}
 use Rattle.trace.proofs.Framing.{Stands, stands, part-of-step}
-use Rattle.trace.specs.Decoding.{steppedRead}
+use Rattle.trace.specs.Decoding.{stepped_read}
 use Rattle.trace.proofs.decoding.read_step.Statement.{statement}
 use Rattle.trace.proofs.decoding.read_step.Tie as tie
 
 returns : tie.Need-returns
-unfolding steppedRead
+unfolding stepped_read
 returns c = rw (eq-eqb _ _ c.before.if1.true) c.stop.ensures
 
 returns-2 : tie.Need-returns-2
-unfolding steppedRead
+unfolding stepped_read
 returns-2 c =
     rw (ne_eqb _ _ c.before.before.before.if1.false, ← c.before.before.judge-step.ensures, ne_eqb _ _ c.before.if2.true) c.refuse.ensures
 
@@ -31,7 +31,7 @@ part-decode-step-end : tie.Need-slice-bounds-decode-step-end
 part-decode-step-end c = (known c).within
 
 returns-3 : tie.Need-returns-3
-unfolding steppedRead
+unfolding stepped_read
 returns-3 c =
     let judged = c.before.before.before in
     rw (ne_eqb _ _ judged.before.before.if1.false, ← judged.before.judge-step.ensures, eq-eqb _ _ judged.if2.false, c.no-sizes.ensures, c.before.decode-step.ensures, part-of-step)

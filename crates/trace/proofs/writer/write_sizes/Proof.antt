@@ -10,14 +10,14 @@ use borrow.Author.Tests.{ne_eqb, eq-eqb, not-true, not-false}
 use Rattle.trace.proofs.Room.{Room, room}
 use Rattle.trace.proofs.SizesLaws.{Limits, limits}
 use Rattle.trace.proofs.Runs.{head-run}
-use Rattle.library.specs.Sizes.{sizesFit}
+use Rattle.library.specs.Sizes.{sizes_fit}
 use Rattle.trace.specs.TraceBytes.{head_of}
-use Rattle.trace.specs.Writer.{sizesAnswer, sizesWritten}
+use Rattle.trace.specs.Writer.{sizes_answer, sizes_written}
 use Rattle.trace.proofs.writer.write_sizes.Statement.{statement}
 use Rattle.trace.proofs.writer.write_sizes.Tie as tie
 
 -- the sizes are within their limits
-fit : (c : tie.Else1) → sizesFit c.before.before.before.args.sizes ≡ true
+fit : (c : tie.Else1) → sizes_fit c.before.before.before.args.sizes ≡ true
 fit c = sym c.before.sizes-fit.ensures ∙ not-false _ c.if1.false
 
 abbrev start : tie.Else2 → tie.Start
@@ -44,13 +44,13 @@ nine c =
     omega arith
 
 returns : tie.Need-returns
-unfolding sizesAnswer sizesWritten
+unfolding sizes_answer sizes_written
 returns c =
     let unfit = sym c.before.sizes-fit.ensures ∙ not-true _ c.if1.true in
     (rw unfit, rw unfit)
 
 returns-2 : tie.Need-returns-2
-unfolding sizesAnswer sizesWritten
+unfolding sizes_answer sizes_written
 returns-2 c =
     let fits = fit c.before.before.before in
     let refused = ne_eqb _ _ c.if2.true in
@@ -123,7 +123,7 @@ same_length : tie.Need-same-length
 same_length c = ap length (stored c) ∙ simp length-sets
 
 returns-3 : tie.Need-returns-3
-unfolding sizesAnswer sizesWritten
+unfolding sizes_answer sizes_written
 returns-3 c =
     let unrefused = free (sized c) in
     let fits = fit unrefused.before.before.before in

@@ -6,8 +6,8 @@ use lib.Seq.{sets, length-sets}
 use borrow.Author.Tests.{eq-eqb, ne_eqb}
 use Rattle.trace.proofs.Room.{Room, room}
 use Rattle.trace.proofs.Runs.{step_run}
-use Rattle.trace.specs.TraceBytes.{recordOf}
-use Rattle.trace.specs.Writer.{stepAnswer, stepWritten}
+use Rattle.trace.specs.TraceBytes.{record_of}
+use Rattle.trace.specs.Writer.{step_answer, step_written}
 use Rattle.trace.proofs.writer.write_step.Statement.{statement}
 use Rattle.trace.proofs.writer.write_step.Tie as tie
 
@@ -19,7 +19,7 @@ known : (c : tie.Else1) → Room (length (start c).args.buf.now) (start c).args.
 known c = room _ _ _ _ c.before.judge-room.ensures c.if1.false
 
 returns : tie.Need-returns
-unfolding stepAnswer stepWritten
+unfolding step_answer step_written
 returns c =
     let refused = ne_eqb _ _ c.if1.true in
     (rw (← c.before.judge-room.ensures, refused), rw (← c.before.judge-room.ensures, refused))
@@ -66,7 +66,7 @@ add-t5 c = omega (arith, (known (free-end c)).within)
 
 -- the buffer at the end
 stored : (c : tie.After-slice-known4)
-    → c.before.before.write-u322.new.0 ≡ sets (start (free-end c)).args.buf.now (start (free-end c)).args.at (recordOf (start (free-end c)).args.step)
+    → c.before.before.write-u322.new.0 ≡ sets (start (free-end c)).args.buf.now (start (free-end c)).args.at (record_of (start (free-end c)).args.step)
 stored c =
     let timed = c.before.before in
     let valued = timed.before.before.before.before in
@@ -77,7 +77,7 @@ same_length : tie.Need-same-length
 same_length c = ap length (stored c) ∙ simp length-sets
 
 returns-2 : tie.Need-returns-2
-unfolding stepAnswer stepWritten
+unfolding step_answer step_written
 returns-2 c =
     let judged = (free-end c).before in
     let zero = eq-eqb _ _ (free-end c).if1.false in
