@@ -1,10 +1,11 @@
 /*
- * Field by field. Only a thread's place is told in two ways: nil.h has one
- * number, which the thread's state says how to read; the second program has a
- * tag and an index.
+ * Field by field. The second program keeps each counter with its object, and a
+ * thread's place as a tag and an index.
  */
 #include "bridge.h"
 
+#include "compare.h"
+#include "saved.h"
 #include "trace.h"
 
 #include <string.h>
@@ -23,6 +24,11 @@ SAME(NIL_SLOTS, MAX_SLOTS);
 SAME(NIL_POOLS, MAX_POOLS);
 SAME(NIL_OBJECTS, POOL_OBJECTS);
 SAME(NIL_PLACES, MAX_PLACES);
+SAME(NIL_SEMAPHORE_PLACE, SEMAPHORE_PLACE);
+SAME(NIL_POOL_PLACE, POOL_PLACE);
+SAME(NIL_QUEUE_PLACE, QUEUE_PLACE);
+SAME(NIL_WRITERS_PLACE, WRITERS_PLACE);
+SAME(NIL_READERS_PLACE, READERS_PLACE);
 SAME(NIL_NOBODY, NOBODY);
 SAME(NIL_OK, MSG_OK);
 SAME(NIL_TIMEOUT, MSG_TIMEOUT);
@@ -87,63 +93,26 @@ SAME(NIL_LAST_STEP, LAST_STEP);
 SAME(NIL_ABSENT, ABSENT);
 SAME(NIL_FREE_MARK, FREE);
 SAME(NIL_OUT, OUT);
+SAME(NIL_OBJECT_THREAD, OBJECT_THREAD);
+SAME(NIL_OBJECT_REFERENCE, OBJECT_REFERENCE);
+SAME(NIL_OBJECT_QUEUE, OBJECT_QUEUE);
+SAME(NIL_OBJECT_SEMAPHORE, OBJECT_SEMAPHORE);
+SAME(NIL_OBJECT_MAILBOX, OBJECT_MAILBOX);
+SAME(NIL_OBJECT_POOL, OBJECT_POOL);
+SAME(NIL_OBJECT_CLOCK, OBJECT_CLOCK);
+SAME(NIL_OBJECT_STEPS, OBJECT_STEPS);
+SAME(NIL_OBJECT_STEPS + 1, OBJECTS);
+SAME(NIL_FIELDS, ALL_FIELDS);
+SAME(NIL_LAYOUT, SAVED_LAYOUT);
+SAME(NIL_SAVED, SAVED_BYTES);
+SAME(sizeof(nil_change), sizeof(struct change));
 SAME(NIL_TRACE_LIMIT, TRACE_LIMIT);
 SAME(NIL_STEP_RECORD, LENGTH_BYTES + STEP_BYTES);
-
-/* A place that nil.h's number does not lead to: no tag of the second program's,
-   so that its test refuses it. The index keeps the number. */
-enum { NO_SUCH_TAG = 99 };
-
-/* The ranges of the places with a counter, by their tags. */
-static const struct range {
-    uint32_t tag;
-    uint32_t first;
-    uint32_t end;
-} RANGES[] = {
-    { AT_SEMAPHORE, NIL_SEMAPHORE_PLACE, NIL_POOL_PLACE },
-    { AT_POOL, NIL_POOL_PLACE, NIL_QUEUE_PLACE },
-    { AT_QUEUE, NIL_QUEUE_PLACE, NIL_WRITERS_PLACE },
-    { AT_WRITERS, NIL_WRITERS_PLACE, NIL_READERS_PLACE },
-    { AT_READERS, NIL_READERS_PLACE, NIL_PLACES }
-};
-
-enum { RANGES_NUMBER = sizeof RANGES / sizeof RANGES[0] };
-
-static struct place queue_place(uint32_t place)
-{
-    for (uint32_t k = 0; k < RANGES_NUMBER; k++) {
-        if (place >= RANGES[k].first && place < RANGES[k].end) {
-            return (struct place){ RANGES[k].tag, place - RANGES[k].first };
-        }
-    }
-    return (struct place){ NO_SUCH_TAG, place };
-}
-
-static struct place place_of(const nil_thread *t)
-{
-    if (t->state == NIL_QUEUED) {
-        return queue_place(t->place);
-    }
-    if (t->state == NIL_SUSPENDED) {
-        return (struct place){ AT_REFERENCE, t->place };
-    }
-    return (struct place){ t->place == 0 ? NOWHERE : NO_SUCH_TAG, t->place };
-}
-
-uint16_t nil_place_of(struct place at)
-{
-    for (uint32_t k = 0; k < RANGES_NUMBER; k++) {
-        if (at.tag == RANGES[k].tag) {
-            return (uint16_t)(RANGES[k].first + at.index);
-        }
-    }
-    return (uint16_t)at.index;
-}
 
 static void thread_to_second(const nil_thread *from, struct thread *to)
 {
     to->state = from->state;
-    to->place = place_of(from);
+    to->place = numbered_place(from->state, from->place);
     to->remaining = from->remaining;
     to->pending = from->pending;
     to->awaited = from->awaited;
@@ -161,7 +130,7 @@ static void thread_to_second(const nil_thread *from, struct thread *to)
 static void thread_from_second(const struct thread *from, nil_thread *to)
 {
     to->state = (uint16_t)from->state;
-    to->place = nil_place_of(from->place);
+    to->place = (uint16_t)place_number(from->place);
     to->remaining = from->remaining;
     to->pending = from->pending;
     to->awaited = from->awaited;
@@ -212,30 +181,11 @@ static void pool_from_second(const struct pool *from, nil_pool *to)
     }
 }
 
-/* The second program keeps each counter with its object. */
-static int32_t *counter_of(struct tables *t, uint32_t place)
-{
-    struct place at = queue_place(place);
-
-    switch (at.tag) {
-    case AT_SEMAPHORE:
-        return &t->semaphore[at.index];
-    case AT_POOL:
-        return &t->pool[at.index].counter;
-    case AT_QUEUE:
-        return &t->queue[at.index];
-    case AT_WRITERS:
-        return &t->mailbox[at.index].writers;
-    default:
-        return &t->mailbox[at.index].readers;
-    }
-}
-
 static void words_to_second(const nil_words *from, struct words *to)
 {
     to->ready = from->ready;
     for (uint32_t place = 0; place < NIL_PLACES; place++) {
-        *word_at(to, queue_place(place)) = from->waiting[place];
+        *word_at(to, counter_place(place)) = from->waiting[place];
     }
     to->filler = from->unused;
 }
@@ -245,7 +195,7 @@ static void words_from_second(struct words from, nil_words *to)
 {
     to->ready = (uint16_t)from.ready;
     for (uint32_t place = 0; place < NIL_PLACES; place++) {
-        to->waiting[place] = (uint16_t)*word_at(&from, queue_place(place));
+        to->waiting[place] = (uint16_t)*word_at(&from, counter_place(place));
     }
     to->unused = (uint16_t)from.filler;
 }
@@ -295,7 +245,7 @@ void to_second(const nil_tables *from, const nil_clock *clock,
         pool_to_second(&from->pools[p], &to->pool[p]);
     }
     for (uint32_t place = 0; place < NIL_PLACES; place++) {
-        *counter_of(to, place) = from->counters[place];
+        *counter_at(to, counter_place(place)) = from->counters[place];
     }
     words_to_second(&from->words, &to->words);
     to->steps = from->steps;
@@ -305,7 +255,7 @@ void to_second(const nil_tables *from, const nil_clock *clock,
 
 void from_second(const struct tables *from, nil_tables *to, nil_clock *clock)
 {
-    struct tables t = *from; /* counter_of wants tables that it may change */
+    struct tables t = *from; /* counter_at wants tables that it may change */
 
     to->sizes = nil_sizes_of(&t.sizes);
     for (uint32_t i = 0; i < MAX_THREADS; i++) {
@@ -321,7 +271,7 @@ void from_second(const struct tables *from, nil_tables *to, nil_clock *clock)
         pool_from_second(&t.pool[p], &to->pools[p]);
     }
     for (uint32_t place = 0; place < NIL_PLACES; place++) {
-        to->counters[place] = *counter_of(&t, place);
+        to->counters[place] = *counter_at(&t, counter_place(place));
     }
     words_from_second(t.words, &to->words);
     to->steps = t.steps;

@@ -12,8 +12,6 @@
 
 nil_sizes nil_sizes_of(const struct sizes *z);
 nil_request nil_request_of(const struct step *s);
-/* The number of a place; the index alone for one that has no counter. */
-uint16_t nil_place_of(struct place at);
 
 void to_second(const nil_tables *from, const nil_clock *clock,
                struct tables *to);

@@ -18,6 +18,12 @@
 #include <stddef.h>
 #include <stdint.h>
 
+/* Tables are compared, changed and saved as the bytes that they are, numbers
+   with the lowest byte first. */
+#if defined(__BYTE_ORDER__) && __BYTE_ORDER__ != __ORDER_LITTLE_ENDIAN__
+#error "nil.h is for machines that store the lowest byte of a number first"
+#endif
+
 /* The number of this header's layout: it rises with every change of a struct.
    The archive's own is nil_layout(); NIL_LAYOUT_FITS() compares them. */
 #define NIL_LAYOUT UINT32_C(3)
@@ -150,13 +156,16 @@ enum {
     NIL_BAD_CALLER = 3,  /* neither an interrupt nor the running thread */
     NIL_BAD_CONTEXT = 4, /* not this kind by a thread, or by an interrupt */
     NIL_BAD_OBJECT = 5,  /* not in the configuration; a pipe's buffer of a
-                            length out of range */
+                            length out of range; tables of other sizes */
     NIL_BAD_VALUE = 6,   /* `a`, the timeout or a frequency out of range; a
-                            pipe that does not fit its buffer */
+                            pipe that does not fit its buffer; a checksum */
     NIL_BAD_MOMENT = 7,  /* the object is not in the state that is needed */
-    NIL_BAD_VERSION = 11, /* an empty trace, or one of another version */
-    NIL_CUT_SHORT = 12,   /* a trace that ends inside a record */
-    NIL_BAD_LENGTH = 13,  /* a record of a wrong length */
+    NIL_BAD_VERSION = 11, /* an empty trace, or one of another version; saved
+                             tables of another layout */
+    NIL_CUT_SHORT = 12,   /* a trace that ends inside a record; saved tables
+                             that end too early */
+    NIL_BAD_LENGTH = 13,  /* a record of a wrong length; saved tables that go
+                             on */
     NIL_BAD_SIZE = 14,    /* a size out of its limits */
     NIL_TOO_LONG = 15,    /* a trace above NIL_TRACE_LIMIT bytes */
     NIL_NO_SPACE = 16     /* a buffer too short */
@@ -213,7 +222,62 @@ enum {
 
 /* Bytes of stack that are enough for any call, whatever the tables hold; what
    a handler takes on the same stack is not counted. */
-enum { NIL_STACK = 65536 };
+enum { NIL_STACK = 81920 };
+
+/* What nil_change names, in the order in which a list has it. docs/COMPARE.md
+   says where each field lies and when it counts. */
+enum {
+    NIL_OBJECT_THREAD = 0,
+    NIL_OBJECT_REFERENCE = 1,
+    NIL_OBJECT_QUEUE = 2,
+    NIL_OBJECT_SEMAPHORE = 3,
+    NIL_OBJECT_MAILBOX = 4,
+    NIL_OBJECT_POOL = 5,
+    NIL_OBJECT_CLOCK = 6,
+    NIL_OBJECT_STEPS = 7
+};
+
+/* The fields of each object. Slots, places of a free list and marks are
+   numbered on from the first one's. */
+enum {
+    NIL_FIELD_THREAD_STATE = 0,
+    NIL_FIELD_THREAD_PLACE = 1,
+    NIL_FIELD_THREAD_REMAINING = 2,
+    NIL_FIELD_THREAD_PENDING = 3,
+    NIL_FIELD_THREAD_AWAITED = 4,
+    NIL_FIELD_THREAD_MESSAGE = 5,
+    NIL_FIELD_THREAD_CALL_KIND = 6,
+    NIL_FIELD_THREAD_CALL_OBJECT = 7,
+    NIL_FIELD_THREAD_CALL_OPERAND = 8,
+    NIL_FIELD_THREAD_CALL_TIMEOUT = 9,
+    NIL_FIELD_THREAD_ANSWER_MESSAGE = 10,
+    NIL_FIELD_THREAD_ANSWER_DATUM = 11,
+    NIL_FIELD_THREAD_CAUSE = 12,
+    NIL_FIELD_THREAD_STEP = 13,
+    NIL_FIELD_REFERENCE_HOLDER = 0,
+    NIL_FIELD_QUEUE_COUNTER = 0,
+    NIL_FIELD_SEMAPHORE_COUNTER = 0,
+    NIL_FIELD_MAILBOX_WRITERS = 0, /* their counter */
+    NIL_FIELD_MAILBOX_READERS = 1,
+    NIL_FIELD_MAILBOX_READ = 2,
+    NIL_FIELD_MAILBOX_WRITE = 3,
+    NIL_FIELD_MAILBOX_COUNT = 4,
+    NIL_FIELD_MAILBOX_RESET = 5,
+    NIL_FIELD_MAILBOX_MESSAGES = 6, /* of slot 0 */
+    NIL_FIELD_POOL_COUNTER = 0,
+    NIL_FIELD_POOL_LENGTH = 1,
+    NIL_FIELD_POOL_LIST = 2,   /* of the bottom */
+    NIL_FIELD_POOL_MARKS = 34, /* of object 0 */
+    NIL_FIELD_CLOCK_TIME = 0,
+    NIL_FIELD_CLOCK_FREQUENCY = 1,
+    NIL_FIELD_STEPS_NUMBER = 0
+};
+
+/* All fields that there are: a list of as many entries always has room. */
+enum { NIL_FIELDS = 611 };
+
+/* Bytes of saved tables, with their clock. */
+enum { NIL_SAVED = 1588 };
 
 /* What nil_read found. */
 enum { NIL_FOUND_NOTHING = 0, NIL_FOUND_SIZES = 1, NIL_FOUND_STEP = 2 };
@@ -333,6 +397,15 @@ typedef struct nil_result {
     uint32_t datum;
 } nil_result;
 
+/* A field that differs. Signed values stand as their 32 bits. */
+typedef struct nil_change {
+    uint32_t object; /* NIL_OBJECT_.. */
+    uint32_t number; /* of the object */
+    uint32_t field;  /* NIL_FIELD_.. */
+    uint32_t old_value;
+    uint32_t new_value;
+} nil_change;
+
 /* What stands at a place of a trace. */
 typedef struct nil_read_result {
     size_t next;      /* the place after it; the same place if nothing is found */
@@ -446,6 +519,82 @@ uint8_t nil_pipe_read(nil_pipes *pipes, uint32_t pipe, const uint8_t *buffer,
 uint8_t nil_pipe_reset(nil_pipes *pipes, uint32_t pipe, size_t length);
 uint8_t nil_pipe_resume(nil_pipes *pipes, uint32_t pipe, size_t length);
 
+/* The archive's side of the four functions below, which are what a host calls:
+   tables and clock as bytes with their length, a list as numbers, five an
+   entry. Only nil_load_bytes has one more answer, NIL_NO_SPACE where tables or
+   clock have less room than their structs. */
+uint8_t nil_compare_bytes(const void *first, size_t first_length,
+                          const void *first_clock, size_t first_clock_length,
+                          const void *second, size_t second_length,
+                          const void *second_clock,
+                          size_t second_clock_length, void *list, size_t room,
+                          size_t *entries);
+size_t nil_apply_bytes(void *tables, size_t tables_length, void *clock,
+                       size_t clock_length, const void *list, size_t numbers);
+uint8_t nil_save_bytes(const void *tables, size_t tables_length,
+                       const void *clock, size_t clock_length, uint8_t *file,
+                       size_t room);
+uint8_t nil_load_bytes(const uint8_t *file, size_t length, void *tables,
+                       size_t tables_length, void *clock,
+                       size_t clock_length);
+enum { NIL_CHANGE_NUMBERS = 5 };
+
+/* Lists what differs between two sets of tables, each with its clock: an entry
+   for each field, by object, number and field; none exactly where they are the
+   same in all that counts. A slot or a place of a free list that only the
+   second uses is listed with 0 for the old value, one that only the first uses
+   is not listed. `room` is how many entries fit. The number of entries goes to
+   `entries`, and 0 is returned; or NIL_BROKEN_TABLES for the first tables or
+   the second, then NIL_BAD_OBJECT where sizes or slots differ, then
+   NIL_NO_SPACE, with nothing written. */
+static inline uint8_t nil_compare(const nil_tables *first,
+                                  const nil_clock *first_clock,
+                                  const nil_tables *second,
+                                  const nil_clock *second_clock,
+                                  nil_change *list, size_t room,
+                                  size_t *entries)
+{
+    if (room > NIL_FIELDS) {
+        room = NIL_FIELDS; /* no list is longer */
+    }
+    return nil_compare_bytes(first, sizeof *first, first_clock,
+                             sizeof *first_clock, second, sizeof *second,
+                             second_clock, sizeof *second_clock, list,
+                             room * NIL_CHANGE_NUMBERS, entries);
+}
+
+/* Stores each entry's new value in its field, in the list's order, cut to the
+   field's width, whatever the tables hold; then makes the words anew. An entry
+   that names no field is passed over; returns how many were. The list of two
+   sets of tables, applied to the first, gives the second in all that counts. */
+static inline size_t nil_apply(nil_tables *tables, nil_clock *clock,
+                               const nil_change *list, size_t entries)
+{
+    return nil_apply_bytes(tables, sizeof *tables, clock, sizeof *clock, list,
+                           entries * NIL_CHANGE_NUMBERS);
+}
+
+/* Writes tables and clock, whatever they hold, as NIL_SAVED bytes with a
+   checksum, and returns 0; or NIL_NO_SPACE, with nothing written. */
+static inline uint8_t nil_save(const nil_tables *tables,
+                               const nil_clock *clock, uint8_t *file,
+                               size_t room)
+{
+    return nil_save_bytes(tables, sizeof *tables, clock, sizeof *clock, file,
+                          room);
+}
+
+/* Reads what nil_save has written, and returns 0; or NIL_BAD_VERSION for
+   another layout, or less than its number, then NIL_CUT_SHORT or
+   NIL_BAD_LENGTH, then NIL_BAD_VALUE for another checksum, with nothing
+   written. Tables that were broken when they were saved come back so. */
+static inline uint8_t nil_load(const uint8_t *file, size_t length,
+                               nil_tables *tables, nil_clock *clock)
+{
+    return nil_load_bytes(file, length, tables, sizeof *tables, clock,
+                          sizeof *clock);
+}
+
 /* The timeout here for a timeout of compiled firmware: its TIME_INFINITE (0)
    and TIME_IMMEDIATE (4294967295) change places, all others stay. */
 static inline uint32_t nil_timeout(uint32_t firmware)
@@ -553,6 +702,13 @@ NIL_AT(nil_result, finished, 6);
 NIL_AT(nil_result, message, 8);
 NIL_AT(nil_result, datum, 12);
 
+NIL_HOLDS(sizeof(nil_change) == 20);
+NIL_AT(nil_change, object, 0);
+NIL_AT(nil_change, number, 4);
+NIL_AT(nil_change, field, 8);
+NIL_AT(nil_change, old_value, 12);
+NIL_AT(nil_change, new_value, 16);
+
 NIL_HOLDS(sizeof(nil_read_result) == 56);
 NIL_AT(nil_read_result, next, 0);
 NIL_AT(nil_read_result, number, 8);
@@ -560,6 +716,9 @@ NIL_AT(nil_read_result, step, 16);
 NIL_AT(nil_read_result, sizes, 28);
 NIL_AT(nil_read_result, found, 48);
 NIL_AT(nil_read_result, code, 52);
+
+NIL_HOLDS(sizeof(nil_change) == NIL_CHANGE_NUMBERS * sizeof(uint32_t));
+NIL_HOLDS(NIL_SAVED == 8 + sizeof(nil_tables) + sizeof(nil_clock));
 
 #undef NIL_AT
 #undef NIL_HOLDS

@@ -27,7 +27,7 @@ pub const PIPE_BYTES: usize = 256;
 pub const LAYOUT: u32 = 3;
 
 /// Bytes of stack that are enough for any call, whatever the tables hold.
-pub const STACK: usize = 65536;
+pub const STACK: usize = 81920;
 
 /// Idle as the running thread, an interrupt as the caller, nobody in an empty reference.
 pub const NOBODY: u8 = 255;
@@ -64,6 +64,58 @@ pub const CAUSE_TICK: u32 = 8;
 
 /// The step number of the tables stays here.
 pub const LAST_STEP: u32 = 4294967295;
+
+/// What a [`Change`] names, in the order in which a list has it. docs/COMPARE.md says where each field lies and when it counts.
+pub const OBJECT_THREAD: u32 = 0;
+pub const OBJECT_REFERENCE: u32 = 1;
+pub const OBJECT_QUEUE: u32 = 2;
+pub const OBJECT_SEMAPHORE: u32 = 3;
+pub const OBJECT_MAILBOX: u32 = 4;
+pub const OBJECT_POOL: u32 = 5;
+pub const OBJECT_CLOCK: u32 = 6;
+pub const OBJECT_STEPS: u32 = 7;
+
+/// The fields of each object. Slots, places of a free list and marks are numbered on from the first one's.
+pub const FIELD_THREAD_STATE: u32 = 0;
+pub const FIELD_THREAD_PLACE: u32 = 1;
+pub const FIELD_THREAD_REMAINING: u32 = 2;
+pub const FIELD_THREAD_PENDING: u32 = 3;
+pub const FIELD_THREAD_AWAITED: u32 = 4;
+pub const FIELD_THREAD_MESSAGE: u32 = 5;
+pub const FIELD_THREAD_CALL_KIND: u32 = 6;
+pub const FIELD_THREAD_CALL_OBJECT: u32 = 7;
+pub const FIELD_THREAD_CALL_OPERAND: u32 = 8;
+pub const FIELD_THREAD_CALL_TIMEOUT: u32 = 9;
+pub const FIELD_THREAD_ANSWER_MESSAGE: u32 = 10;
+pub const FIELD_THREAD_ANSWER_DATUM: u32 = 11;
+pub const FIELD_THREAD_CAUSE: u32 = 12;
+pub const FIELD_THREAD_STEP: u32 = 13;
+pub const FIELD_REFERENCE_HOLDER: u32 = 0;
+pub const FIELD_QUEUE_COUNTER: u32 = 0;
+pub const FIELD_SEMAPHORE_COUNTER: u32 = 0;
+pub const FIELD_MAILBOX_WRITERS: u32 = 0;
+pub const FIELD_MAILBOX_READERS: u32 = 1;
+pub const FIELD_MAILBOX_READ: u32 = 2;
+pub const FIELD_MAILBOX_WRITE: u32 = 3;
+pub const FIELD_MAILBOX_COUNT: u32 = 4;
+pub const FIELD_MAILBOX_RESET: u32 = 5;
+pub const FIELD_MAILBOX_MESSAGES: u32 = 6;
+pub const FIELD_POOL_COUNTER: u32 = 0;
+pub const FIELD_POOL_LENGTH: u32 = 1;
+pub const FIELD_POOL_LIST: u32 = 2;
+pub const FIELD_POOL_MARKS: u32 = 34;
+pub const FIELD_CLOCK_TIME: u32 = 0;
+pub const FIELD_CLOCK_FREQUENCY: u32 = 1;
+pub const FIELD_STEPS_NUMBER: u32 = 0;
+
+/// All fields that there are: a list of as many entries always has room.
+pub const FIELDS: usize = 611;
+
+/// Bytes of saved tables, with their clock.
+pub const SAVED: usize = 1588;
+
+/// The numbers of a [`Change`], as it crosses the boundary.
+const CHANGE_NUMBERS: usize = 5;
 
 /// The kinds of step. `nil.h` says what each makes of its fields.
 pub mod kind {
@@ -270,6 +322,17 @@ pub struct Outcome {
     pub datum: u32,
 }
 
+/// A field that differs: whose it is, and its value in the first tables and in the second. Signed values stand as their 32 bits.
+#[repr(C)]
+#[derive(Clone, Copy, Debug, Default, PartialEq, Eq)]
+pub struct Change {
+    pub object: u32,
+    pub number: u32,
+    pub field: u32,
+    pub old: u32,
+    pub new: u32,
+}
+
 /// What stands at a place of a trace.
 #[derive(Clone, Copy, Debug, PartialEq, Eq)]
 pub enum Found {
@@ -363,7 +426,51 @@ declare! {
     ) -> u8;
     fn nil_pipe_reset(pipes: *mut Pipes, pipe: u32, length: usize) -> u8;
     fn nil_pipe_resume(pipes: *mut Pipes, pipe: u32, length: usize) -> u8;
+    fn nil_compare_bytes(
+        first: *const Tables,
+        first_length: usize,
+        first_clock: *const Clock,
+        first_clock_length: usize,
+        second: *const Tables,
+        second_length: usize,
+        second_clock: *const Clock,
+        second_clock_length: usize,
+        list: *mut Change,
+        room: usize,
+        entries: *mut usize,
+    ) -> u8;
+    fn nil_apply_bytes(
+        tables: *mut Tables,
+        tables_length: usize,
+        clock: *mut Clock,
+        clock_length: usize,
+        list: *const Change,
+        numbers: usize,
+    ) -> usize;
+    fn nil_save_bytes(
+        tables: *const Tables,
+        tables_length: usize,
+        clock: *const Clock,
+        clock_length: usize,
+        file: *mut u8,
+        room: usize,
+    ) -> u8;
+    fn nil_load_bytes(
+        file: *const u8,
+        length: usize,
+        tables: *mut Tables,
+        tables_length: usize,
+        clock: *mut Clock,
+        clock_length: usize,
+    ) -> u8;
 }
+
+// Tables go over as the bytes that they are, and so they are saved: numbers with the lowest byte first.
+#[cfg(not(target_endian = "little"))]
+compile_error!("nil.rs is for machines that store the lowest byte of a number first");
+
+const TABLES_BYTES: usize = core::mem::size_of::<Tables>();
+const CLOCK_BYTES: usize = core::mem::size_of::<Clock>();
 
 impl Tables {
     /// Tables of no sizes: a place for fresh ones. A step on them is refused with 1.
@@ -639,6 +746,91 @@ pub fn pipe_resume(pipes: &mut Pipes, pipe: u32, length: usize) -> Result<(), u8
     accepted(code, ())
 }
 
+/// Lists what differs between two sets of tables, each with its clock: an entry for each field, by object, number and field; none
+/// exactly where they are the same in all that counts. A slot or a place of a free list that only the second uses is listed with
+/// 0 for the old value, one that only the first uses is not listed. The entries stand at the front of `list`, which has room for
+/// any list where it has [`FIELDS`] of them, and are given back. It refuses with 1 for the first tables or the second, then with 5
+/// where sizes or slots differ, then with 16 for the room, and writes nothing.
+pub fn compare<'a>(
+    first: &Tables,
+    first_clock: &Clock,
+    second: &Tables,
+    second_clock: &Clock,
+    list: &'a mut [Change],
+) -> Result<&'a [Change], u8> {
+    let mut entries = 0;
+    // no list is longer
+    let room = list.len().min(FIELDS);
+    // SAFETY: references and slices lead to as many bytes as is said; a `Change` is five numbers; `entries` is a local of its own.
+    let code = unsafe {
+        nil_compare_bytes(
+            first,
+            TABLES_BYTES,
+            first_clock,
+            CLOCK_BYTES,
+            second,
+            TABLES_BYTES,
+            second_clock,
+            CLOCK_BYTES,
+            list.as_mut_ptr(),
+            room * CHANGE_NUMBERS,
+            &mut entries,
+        )
+    };
+    accepted(code, &list[..entries])
+}
+
+/// Stores each entry's new value in its field, in the list's order, cut to the field's width, whatever the tables hold; then makes
+/// the words anew. An entry that names no field is passed over; gives how many were. What [`compare`] lists, applied to the first
+/// tables, gives the second in all that counts.
+pub fn apply(tables: &mut Tables, clock: &mut Clock, list: &[Change]) -> usize {
+    // SAFETY: as in `compare`; what may be changed overlaps nothing else.
+    unsafe {
+        nil_apply_bytes(
+            tables,
+            TABLES_BYTES,
+            clock,
+            CLOCK_BYTES,
+            list.as_ptr(),
+            list.len() * CHANGE_NUMBERS,
+        )
+    }
+}
+
+/// Writes tables and clock, whatever they hold, as [`SAVED`] bytes with a checksum; or refuses with 16, and writes nothing.
+pub fn save(tables: &Tables, clock: &Clock, file: &mut [u8]) -> Result<(), u8> {
+    // SAFETY: as in `apply`.
+    let code = unsafe {
+        nil_save_bytes(
+            tables,
+            TABLES_BYTES,
+            clock,
+            CLOCK_BYTES,
+            file.as_mut_ptr(),
+            file.len(),
+        )
+    };
+    accepted(code, ())
+}
+
+/// Reads what [`save`] has written; or refuses with 11 for another layout, or less than its number, then with 12 or 13 for bytes
+/// too few or too many, then with 6 for another checksum, and writes nothing. Tables that were broken when they were saved come
+/// back so.
+pub fn load(file: &[u8], tables: &mut Tables, clock: &mut Clock) -> Result<(), u8> {
+    // SAFETY: as in `apply`.
+    let code = unsafe {
+        nil_load_bytes(
+            file.as_ptr(),
+            file.len(),
+            tables,
+            TABLES_BYTES,
+            clock,
+            CLOCK_BYTES,
+        )
+    };
+    accepted(code, ())
+}
+
 /// Reads the record at a place of a trace: the sizes at place 0, a step or the end elsewhere. The trace's length and version are judged at
 /// place 0 alone: [`code::TOO_LONG`] and [`code::BAD_VERSION`] come there and nowhere else.
 pub fn read(trace: &[u8], at: usize) -> Read {
@@ -841,6 +1033,17 @@ mod layout {
             })
         };
         assert!(b[0] == 1 && b[2] == 2 && b[4] == 3 && b[6] == 4 && b[8] == 5 && b[12] == 6);
+        let b: [u8; 4 * CHANGE_NUMBERS] = unsafe {
+            transmute(Change {
+                object: 1,
+                number: 2,
+                field: 3,
+                old: 4,
+                new: 5,
+            })
+        };
+        assert!(b[0] == 1 && b[4] == 2 && b[8] == 3 && b[12] == 4 && b[16] == 5);
+        assert!(SAVED == 8 + TABLES_BYTES + CLOCK_BYTES);
         let b: [u8; 56] = unsafe {
             transmute(RawRead {
                 next: 1,

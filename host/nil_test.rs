@@ -8,7 +8,7 @@
 mod nil;
 
 use nil::kind::{SEMAPHORE_RESET, SEMAPHORE_WAIT, SIGNAL, TICK};
-use nil::{Clock, Found, Outcome, Pipe, Pipes, Request, Sizes, Tables, Transfer, NOBODY};
+use nil::{Change, Clock, Found, Outcome, Pipe, Pipes, Request, Sizes, Tables, Transfer, NOBODY};
 
 const SIZES: Sizes = Sizes {
     threads: 2,
@@ -400,6 +400,130 @@ fn refuses_pipes() {
     refuses_pipe(table, 0, 8, object);
 }
 
+/// Tables and clock after so many of the six steps.
+fn after(steps: usize) -> (Tables, Clock) {
+    let (mut tables, mut clock) = (Tables::NONE, Clock::default());
+    nil::fresh(&mut tables, &mut clock, &SIZES, nil::FREQUENCY).unwrap();
+    for step in six_steps().iter().take(steps) {
+        nil::step(&mut tables, &mut clock, step);
+    }
+    (tables, clock)
+}
+
+fn change(object: u32, field: u32, old: u32, new: u32) -> Change {
+    Change {
+        object,
+        number: 0,
+        field,
+        old,
+        new,
+    }
+}
+
+/// Between steps 2 and 5 thread 0 has waited and timed out. The list leads there, words and all.
+fn lists_what_differs() {
+    let ((first, first_clock), (second, second_clock)) = (after(2), after(5));
+    let mut room = [Change::default(); nil::FIELDS];
+    let list = nil::compare(&first, &first_clock, &second, &second_clock, &mut room).unwrap();
+    let minus_1 = nil::TIMEOUT as u32;
+    let thread = nil::OBJECT_THREAD;
+    assert_eq!(
+        list,
+        [
+            change(thread, nil::FIELD_THREAD_MESSAGE, 0, minus_1),
+            change(thread, nil::FIELD_THREAD_ANSWER_MESSAGE, 0, minus_1),
+            change(thread, nil::FIELD_THREAD_CAUSE, 1, 8),
+            change(thread, nil::FIELD_THREAD_STEP, 2, 5),
+            change(nil::OBJECT_CLOCK, nil::FIELD_CLOCK_TIME, 0, 2),
+            change(nil::OBJECT_STEPS, nil::FIELD_STEPS_NUMBER, 2, 5),
+        ]
+    );
+    let (mut tables, mut clock) = (first, first_clock);
+    assert_eq!(nil::apply(&mut tables, &mut clock, list), 0);
+    assert_eq!((tables, clock), (second, second_clock));
+    // threads that are not in use do not count
+    tables.threads[2].pending = 7;
+    let none = nil::compare(&tables, &clock, &second, &second_clock, &mut []);
+    assert_eq!(none, Ok(&[][..]));
+}
+
+fn refuses_to_compare() {
+    let ((first, clock), (second, _)) = (after(0), after(1));
+    let mut room = [change(7, 7, 7, 7); 6];
+    let compare = |a: &Tables, b: &Tables, b_clock: &Clock, room: &mut [Change]| {
+        let before = room.to_vec();
+        let code = nil::compare(a, &clock, b, b_clock, room).err();
+        assert!(code.is_none() || room == before);
+        code
+    };
+    let (no_clock, mut other) = (Clock::default(), first);
+    assert_eq!(compare(&first, &second, &no_clock, &mut room), Some(1));
+    assert_eq!(compare(&Tables::NONE, &second, &clock, &mut room), Some(1));
+    other.sizes.semaphores = 2;
+    assert_eq!(compare(&other, &second, &clock, &mut []), Some(5));
+    // a wait changes six fields
+    let no_space = Some(nil::code::NO_SPACE);
+    assert_eq!(compare(&first, &second, &clock, &mut room[..5]), no_space);
+    assert_eq!(compare(&first, &second, &clock, &mut []), no_space);
+    assert_eq!(compare(&first, &second, &clock, &mut room), None);
+}
+
+/// Names that no field has, a value too large, a place before the state that goes with it, a field twice.
+fn applies_odd_lists() {
+    let (mut tables, mut clock) = after(0);
+    let mut expected = tables;
+    let list = [
+        change(8, 0, 0, 1),
+        change(nil::OBJECT_THREAD, 14, 0, 1),
+        change(nil::OBJECT_THREAD, nil::FIELD_THREAD_PLACE, 0, 0),
+        change(nil::OBJECT_THREAD, nil::FIELD_THREAD_STATE, 0, 65536 + 3),
+        change(nil::OBJECT_SEMAPHORE, 0, 0, 9),
+        change(nil::OBJECT_SEMAPHORE, 0, 5, 4294967295),
+        change(nil::OBJECT_CLOCK, nil::FIELD_CLOCK_TIME, 0, 4294967295),
+    ];
+    assert_eq!(nil::apply(&mut tables, &mut clock, &list), 2);
+    expected.threads[0].state = nil::state::QUEUED;
+    expected.counters[0] = -1;
+    expected.words.ready = 2;
+    expected.words.waiting[0] = 1;
+    assert_eq!((tables, clock.time), (expected, 4294967295));
+    assert_eq!(nil::apply(&mut tables, &mut clock, &[]), 0);
+    assert_eq!(tables, expected);
+}
+
+/// They come back as they were, tables that do not hang together too.
+fn saves_and_loads() {
+    let (first, first_clock) = after(4);
+    for tables in [first, Tables::NONE] {
+        let mut file = [7; nil::SAVED];
+        nil::save(&tables, &first_clock, &mut file).unwrap();
+        assert_eq!(file[..4], nil::LAYOUT.to_le_bytes());
+        let (mut loaded, mut clock) = (Tables::NONE, Clock::default());
+        nil::load(&file, &mut loaded, &mut clock).unwrap();
+        assert_eq!((loaded, clock), (tables, first_clock));
+    }
+}
+
+fn refuses_to_save_and_load() {
+    let (mut tables, mut clock) = after(4);
+    let kept = (tables, clock);
+    let mut file = [7; nil::SAVED + 1];
+    let saved = nil::save(&tables, &clock, &mut file[..nil::SAVED - 1]);
+    assert_eq!(saved, Err(nil::code::NO_SPACE));
+    assert_eq!(file, [7; nil::SAVED + 1]);
+    nil::save(&after(0).0, &clock, &mut file).unwrap();
+    assert_eq!(file[nil::SAVED], 7);
+    let mut load = |file: &[u8]| nil::load(file, &mut tables, &mut clock);
+    assert_eq!(load(&file[..3]), Err(nil::code::BAD_VERSION));
+    assert_eq!(load(&file[..nil::SAVED - 1]), Err(nil::code::CUT_SHORT));
+    assert_eq!(load(&file), Err(nil::code::BAD_LENGTH));
+    file[1000] ^= 1;
+    assert_eq!(load(&file[..nil::SAVED]), Err(nil::code::BAD_VALUE));
+    file[0] += 1;
+    assert_eq!(load(&file[..nil::SAVED]), Err(nil::code::BAD_VERSION));
+    assert_eq!((tables, clock), kept);
+}
+
 #[no_mangle]
 pub extern "C" fn main() -> i32 {
     plays_the_six_steps();
@@ -416,6 +540,11 @@ pub extern "C" fn main() -> i32 {
     pipes_bytes();
     resets_and_resumes_pipes();
     refuses_pipes();
+    lists_what_differs();
+    refuses_to_compare();
+    applies_odd_lists();
+    saves_and_loads();
+    refuses_to_save_and_load();
     println!("nil_test: the wrapper does as the paper lists");
     0
 }

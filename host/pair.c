@@ -8,7 +8,7 @@
 void expect(bool fine, struct where at, const char *what)
 {
     if (!fine) {
-        printf("compare: seed %llu, number %llu: %s\n",
+        printf("seed %llu, number %llu: %s\n",
                (unsigned long long)at.seed, (unsigned long long)at.number,
                what);
         exit(1);
@@ -110,7 +110,7 @@ static void expect_walks(struct where at, const nil_tables *t,
     expect(nil_first_ready(t) == running_thread(walked), at,
            "the first ready thread does not run");
     for (uint32_t k = 0; k < all.number; k++) {
-        expect(nil_waiting(t, nil_place_of(all.at[k]))
+        expect(nil_waiting(t, place_number(all.at[k]))
                    == walk_waiting(walked, all.at[k]),
                at, "no walk finds these waiters");
     }

@@ -110,6 +110,8 @@ int main(void)
     check_pipes();
     check_account();
     check_causes();
+    check_compare();
+    check_saved();
     printf("check: %u tests, %u failed\n", tests, failures);
     return failures == 0 && fflush(stdout) == 0 ? 0 : 1;
 }

@@ -58,5 +58,7 @@ void check_traces(void);
 void check_pipes(void);
 void check_account(void);
 void check_causes(void);
+void check_compare(void);
+void check_saved(void);
 
 #endif

@@ -277,6 +277,94 @@ printf 'step thread cause object message\nstopped 0 11\n' > "$dir/want"
 "$out/second" --why < /dev/null > "$dir/got"
 same 'why of nothing'
 
+# Saved tables: 1588 bytes, of the steps before a bad record too; none without
+# record 0.
+"$out/second" --save "$dir/last" "$dir/six" > "$dir/got"
+status 'save' 0 $?
+: > "$dir/want"
+same 'save'
+head -c 35 "$dir/six" | "$out/second" --save "$dir/first" > "$dir/got"
+status 'save, read from standard input' 0 $?
+same 'save, read from standard input'
+head -c 40 "$dir/six" | "$out/second" --save "$dir/first" > "$dir/got"
+status 'save, cut short' 0 $?
+echo 'stopped 3 12' > "$dir/want"
+same 'save, cut short'
+head -c 4 "$dir/six" | "$out/second" --save "$dir/none" > "$dir/got"
+status 'save without record 0' 0 $?
+echo 'stopped 0 12' > "$dir/want"
+same 'save without record 0'
+[ ! -e "$dir/none" ] || { echo "check.sh: tables of no trace saved"; failed=1; }
+wc -c < "$dir/last" | tr -d ' ' > "$dir/got"
+echo 1588 > "$dir/want"
+same 'the length of saved tables'
+"$out/second" --save "$dir/missing/saved" "$dir/six" 2> "$dir/message"
+status 'save into no folder' 1 $?
+[ -s "$dir/message" ] || { echo "check.sh: no message"; failed=1; }
+
+# What steps 3 to 5 of the six changed; the sixth is refused.
+cat > "$dir/want" <<'END'
+thread 0 message 0 -1
+thread 0 answer.message 0 -1
+thread 0 cause 1 8
+thread 0 step 2 5
+clock 0 time 0 2
+steps 0 number 2 5
+END
+"$out/changes" "$dir/first" "$dir/last" > "$dir/list"
+status 'changes' 1 $?
+cp "$dir/list" "$dir/got"
+same 'changes'
+"$out/changes" --apply "$dir/first" "$dir/list" "$dir/applied"
+status 'changes applied' 0 $?
+cmp -s "$dir/applied" "$dir/last" || {
+    echo "check.sh: changes applied give other tables"
+    failed=1
+}
+: > "$dir/want"
+"$out/changes" "$dir/applied" "$dir/last" > "$dir/got"
+status 'no changes' 0 $?
+same 'no changes'
+
+# Refusals: other sizes, tables that do not hang together, damaged files.
+"$out/second" --save "$dir/other" "$dir/all"
+echo 'refused 5' > "$dir/want"
+"$out/changes" "$dir/last" "$dir/other" > "$dir/got"
+status 'changes of other sizes' 3 $?
+same 'changes of other sizes'
+echo 'thread 1 remaining 0 1' > "$dir/list"
+"$out/changes" --apply "$dir/last" "$dir/list" "$dir/broken"
+status 'changes that break' 0 $?
+echo 'refused 1' > "$dir/want"
+"$out/changes" "$dir/broken" "$dir/other" > "$dir/got"
+status 'changes of broken tables' 3 $?
+same 'changes of broken tables'
+head -c 1587 "$dir/last" > "$dir/short"
+cat "$dir/last" "$dir/six" > "$dir/long"
+for pair in short:12 long:13 six:11; do
+    echo "refused ${pair#*:}" > "$dir/want"
+    "$out/changes" "$dir/last" "$dir/${pair%:*}" > "$dir/got"
+    status "changes of a file refused with ${pair#*:}" 3 $?
+    same "changes of a file refused with ${pair#*:}"
+done
+
+# Wrong usage, files that are not there, lines that are no entries.
+: > "$dir/want"
+echo 'thread 1 remaining 0 1 ' > "$dir/list"
+for words in "$dir/last" "--apply $dir/last $dir/list" "-x $dir/last" \
+    "$dir/last $dir/missing" "--apply $dir/last $dir/list $dir/not"; do
+    # several words
+    # shellcheck disable=SC2086
+    "$out/changes" $words > "$dir/got" 2> "$dir/message"
+    status "changes $words" 2 $?
+    same "changes $words"
+    [ -s "$dir/message" ] || { echo "check.sh: no message"; failed=1; }
+done
+[ ! -e "$dir/not" ] || { echo "check.sh: a bad list was saved"; failed=1; }
+"$out/changes" --help > "$dir/got"
+status 'help of changes' 0 $?
+grep -q '^usage: changes' "$dir/got" || { echo "check.sh: no usage"; failed=1; }
+
 # No listing without a readable file; a clear message instead.
 : > "$dir/want"
 for file in "$dir/missing" "$dir"; do
@@ -292,13 +380,16 @@ same 'wrong option'
 status 'two files' 2 $?
 : > "$dir/want"
 for words in '--account --tables' '--tables --account' '--why --tables' \
-    '--account --why' '--tables --why --tables'; do
+    '--account --why' '--tables --why --tables' '--save x --tables'; do
     # two words
     # shellcheck disable=SC2086
     "$out/second" $words "$dir/six" > "$dir/got" 2> /dev/null
     status "$words" 2 $?
     same "$words"
 done
+"$out/second" --save > "$dir/got" 2> /dev/null
+status 'no file to save to' 2 $?
+same 'no file to save to'
 "$out/second" --help > "$dir/got"
 status 'help' 0 $?
 grep -q '^usage: second' "$dir/got" || { echo "check.sh: no usage"; failed=1; }

@@ -1,5 +1,7 @@
-/* The listing program: second [--tables | --account | --why] [FILE]. */
+/* The listing program: second [--tables | --account | --why | --save SAVED]
+   [FILE]. */
 #include "account.h"
+#include "files.h"
 #include "trace.h"
 
 #include <errno.h>
@@ -14,12 +16,22 @@ static const uint32_t LISTED_FREQUENCY = 1000;
 enum { EXIT_FINE = 0, EXIT_TROUBLE = 1, EXIT_USAGE = 2 };
 
 static const char USAGE[] =
-    "usage: second [--tables | --account | --why] [FILE]\n"
+    "usage: second [--tables | --account | --why | --save SAVED] [FILE]\n"
     "Lists the steps of a trace, read from FILE or from standard input.\n"
-    "  --tables   print the answer and all tables after each step's line\n"
-    "  --account  print no steps, but what became of messages and objects\n"
-    "  --why      print no steps, but who was woken in them, and why\n"
-    "  --help     print this text\n";
+    "  --tables      print the answer and all tables after each step's line\n"
+    "  --account     print no steps, but what became of messages and objects\n"
+    "  --why         print no steps, but who was woken in them, and why\n"
+    "  --save SAVED  print no steps, but save the tables after the last one\n"
+    "  --help        print this text\n";
+
+static bool complain(const char *name)
+{
+    const char *why = errno != 0 ? strerror(errno)
+                                 : "cannot be read or written";
+
+    fprintf(stderr, "second: %s: %s\n", name, why);
+    return false;
+}
 
 /* ---- printing --------------------------------------------------------- */
 
@@ -129,6 +141,7 @@ struct run {
     struct tables t;
     struct account account;
     bool agrees; /* the account with the tables, after each step so far */
+    const char *saved; /* the file of --save */
 };
 
 /* Makes a step, and prints what is wanted of it. */
@@ -321,13 +334,33 @@ static bool account_trace(const uint8_t *bytes, size_t length,
     return run->agrees;
 }
 
+/* ---- saving ----------------------------------------------------------- */
+
+static void make_step(struct run *run, uint32_t record, const struct step *s)
+{
+    (void)record;
+    do_step(&run->t, s);
+}
+
+/* Without record 0 there are no tables: nothing is written then. */
+static bool save_trace(const uint8_t *bytes, size_t length, struct run *run)
+{
+    struct stop at = go_through(bytes, length, run, make_step);
+
+    print_stop(at);
+    return at.record == 0 || write_saved(run->saved, &run->t)
+        || complain(run->saved);
+}
+
 /* ---- the program ------------------------------------------------------ */
 
-/* Prints a trace in one way. Whether the account agreed, where one is kept. */
+/* Prints a trace in one way. Whether the account agreed, where one is kept, and
+   the tables were written, where they are saved. */
 typedef bool printer(const uint8_t *bytes, size_t length, struct run *run);
 
 struct options {
-    const char *file; /* NULL: standard input */
+    const char *file;  /* NULL: standard input */
+    const char *saved; /* NULL: nothing is saved */
     printer *print;
     bool help;
 };
@@ -337,6 +370,7 @@ static printer *printer_for(const char *word)
     return strcmp(word, "--tables") == 0 ? list_all
          : strcmp(word, "--account") == 0 ? account_trace
          : strcmp(word, "--why") == 0 ? explain_trace
+         : strcmp(word, "--save") == 0 ? save_trace
          : NULL;
 }
 
@@ -351,11 +385,14 @@ static bool choose(struct options *o, printer *print)
 
 static bool read_options(int argc, char **argv, struct options *o)
 {
-    *o = (struct options){ NULL, list_trace, false };
+    *o = (struct options){ NULL, NULL, list_trace, false };
     for (int k = 1; k < argc; k++) {
         if (printer_for(argv[k]) != NULL) {
             if (!choose(o, printer_for(argv[k]))) {
                 return false;
+            }
+            if (o->print == save_trace) {
+                o->saved = argv[++k]; /* NULL behind the last word */
             }
         } else if (strcmp(argv[k], "--help") == 0) {
             o->help = true;
@@ -365,15 +402,7 @@ static bool read_options(int argc, char **argv, struct options *o)
             o->file = argv[k];
         }
     }
-    return true;
-}
-
-static bool complain(const char *name)
-{
-    const char *why = errno != 0 ? strerror(errno) : "cannot be read";
-
-    fprintf(stderr, "second: %s: %s\n", name, why);
-    return false;
+    return o->print != save_trace || o->saved != NULL;
 }
 
 /* One byte more than a trace may have is read, to see refusal 15. Nothing is
@@ -417,6 +446,7 @@ int main(int argc, char **argv)
     if (!read_input(options.file, bytes, sizeof bytes, &length)) {
         return EXIT_TROUBLE;
     }
+    run.saved = options.saved;
     fine = options.print(bytes, length, &run);
     errno = 0;
     if (fflush(stdout) != 0 || ferror(stdout)) {

@@ -58,6 +58,16 @@ enum place_tag {
     AT_POOL
 };
 
+/* The numbers that a host has for the places with a counter, MAX_PLACES in all:
+   an object's number is added to its range's first. */
+enum {
+    SEMAPHORE_PLACE = 0,
+    POOL_PLACE = 16,
+    QUEUE_PLACE = 20,
+    WRITERS_PLACE = 28,
+    READERS_PLACE = 32
+};
+
 enum mark { ABSENT, FREE, OUT };
 
 /* Document 02, 7/13: "the cause of its last waking: none yet, signal, release,
@@ -258,6 +268,20 @@ uint32_t walk_ready(const struct tables *t);
 uint32_t walk_waiting(const struct tables *t, struct place at);
 /* The ready word and those of the places in use, from the records alone. */
 void make_words(struct tables *t);
+
+/* places.c: the place of a counter by its number, and a thread's place by the
+   number that a host keeps for it; and that number. All numbers go over and
+   come back. */
+struct place counter_place(uint32_t number);
+struct place numbered_place(uint32_t state, uint32_t number);
+uint32_t place_number(struct place at);
+/* Puts a host's number in the index of each thread's place, nowhere beside it,
+   and makes a place of it again: in between states and numbers may change, each
+   by itself. In use or not. */
+void number_places(struct tables *t);
+void read_places(struct tables *t);
+/* Asked for places that have a counter only: not a reference, not nowhere. */
+int32_t *counter_at(struct tables *t, struct place at);
 
 /* waits.c: where a thread waits in a call; nowhere in a sleep and for events.
    Only the kind and the object are looked at. A cause of the list by its

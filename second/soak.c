@@ -15,6 +15,8 @@
  *     every other thread keeps both, from none and 0 on;
  *   - no message and no object is lost, and none is made up: the ledger of
  *     account.c is run over every step;
+ *   - the list of what a step changed, applied to the tables before it, gives
+ *     those after it, and is empty exactly where they are the same;
  *   - a refused step keeps all bytes and gives masks, message and datum 0;
  *   - a clean trace, read and written again, gives the same bytes.
  * At the end it prints what the traces covered.
@@ -22,6 +24,7 @@
 #include "cases.h"
 #include "causes.h"
 #include "flags.h"
+#include "lists.h"
 #include "scenario.h"
 #include "signals.h"
 #include "trace.h"
@@ -51,6 +54,7 @@ static struct {
     struct signals_seen signals;
     struct causes_seen causes;
     struct cases_seen cases;
+    struct lists_seen lists;
 } seen;
 
 static struct account account;
@@ -208,6 +212,14 @@ static void expect_causes(uint64_t seed, uint32_t record,
     note_causes(&seen.causes, m);
 }
 
+static void expect_list(uint64_t seed, uint32_t record,
+                        const struct moment *m)
+{
+    const char *wrong = follow_list(&seen.lists, m);
+
+    expect(wrong == NULL, seed, record, wrong);
+}
+
 static bool nobody_has_woken(const struct tables *t)
 {
     for (uint32_t i = 0; i < t->sizes.threads; i++) {
@@ -258,6 +270,7 @@ static void run_step(uint64_t seed, uint32_t record, struct tables *t,
     expect(((r.woken | r.finished) & ~all) == 0, seed, record, "stray bits");
     expect_signals(seed, record, &m);
     expect_causes(seed, record, &m);
+    expect_list(seed, record, &m);
     if (r.code == ACCEPTED) {
         expect(finished_by_settling(s, &r), seed, record,
                "a call that slept was finished and not continued");
@@ -365,6 +378,7 @@ static void print_seen(void)
     print_wakings(&seen.causes);
     print_kept(&seen.causes);
     print_cases(&seen.cases);
+    print_lists(&seen.lists);
     printf("most continued %" PRIu32 " (%" PRIu32 "%% of a budget), "
            "most woken %" PRIu32 "\n",
            seen.most_continued, seen.tightest_percent, seen.most_woken);

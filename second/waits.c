@@ -87,23 +87,6 @@ void tell(struct work *w, struct finished_call c)
     }
 }
 
-/* Asked for places that have a counter only: not a reference, not nowhere. */
-static int32_t *counter_at(struct tables *t, struct place at)
-{
-    switch (at.tag) {
-    case AT_SEMAPHORE:
-        return &t->semaphore[at.index];
-    case AT_QUEUE:
-        return &t->queue[at.index];
-    case AT_WRITERS:
-        return &t->mailbox[at.index].writers;
-    case AT_READERS:
-        return &t->mailbox[at.index].readers;
-    default: /* a pool */
-        return &t->pool[at.index].counter;
-    }
-}
-
 /* A signal stops at the top, and the tables' rules do the rest: the sum is
    within 32 bits. */
 void add_to(int32_t *counter, int by)

@@ -7,7 +7,7 @@ use library::logic::either;
 
 // For each mailbox messages posted, fetched and lost, for each pool objects added; and for each object of each pool, at 32 times the
 // pool's number plus its own, who was handed it last, and in which step.
-#[derive(Drop)]
+#[derive(Clone, Copy)]
 pub struct Account {
     pub posted: [u32; 4],
     pub fetched: [u32; 4],
@@ -19,7 +19,7 @@ pub struct Account {
 
 // A call that finished with message 0, or kind 0 for none: who called, NOBODY for an interrupt; its kind and object; and its value,
 // which is its datum for a fetch and an alloc, for a reset how many messages there were, else its operand.
-#[derive(Drop)]
+#[derive(Clone, Copy)]
 pub struct Entry {
     pub who: u16,
     pub kind: u16,
@@ -102,6 +102,7 @@ fn set_step_if(so: bool, steps: [u32; 128], place: u32, number: u32) -> [u32; 12
 }
 
 // The account with an entry of a step of this number.
+#[tactic(auto, unfolding(crate::specs::Account::entered))]
 pub fn enter(a: Account, number: u32, e: Entry) -> Account
     ensures { result ≡ entered a number e }
 {

@@ -14,7 +14,7 @@ use library::signs::is_same;
 use library::tables::{Mailbox, Tables, mailbox_at};
 
 // What a step's result reports of finished calls: its code, whose calls finished, and an interrupt's answer.
-#[derive(Drop)]
+#[derive(Clone, Copy)]
 pub struct Report {
     pub code: u8,
     pub finished: u16,
@@ -104,6 +104,7 @@ fn enter_interrupt(a: Account, number: u32, mailboxes: [Mailbox; 4], s: Step, o:
 }
 
 // The threads' calls, where the rows were as `old` before the step and are as `new` after it.
+#[tactic(auto, unfolding(crate::specs::Accounting::threads_entered))]
 fn enter_threads(
     a: Account,
     number: u32,
@@ -130,6 +131,7 @@ fn enter_threads(
 }
 
 // The account after the step of this number, with its result and the tables before and after it.
+#[tactic(auto, unfolding(crate::specs::Accounting::accounted_step))]
 pub fn account_step(
     a: Account,
     number: u32,

@@ -1,5 +1,4 @@
 -- A host is told 0 exactly where its tables hang together: those of a host, whose lists have their tables' lengths.
-use Prim.Native.Nat.{◌+◌, ◌*◌}
 use native.Mathlib.Omega.{arith}
 use mathlib.Core.Path.{◌≡◌, sym, ◌∙◌}
 use lib.Dec.{eqb}

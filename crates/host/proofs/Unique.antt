@@ -24,6 +24,14 @@ use Rattle.host.proofs.times.nil_time_diff.Reads as times-nil-time-diff
 use Rattle.host.proofs.times.nil_time_diff.Kinds as times-nil-time-diff-kinds
 use Rattle.host.proofs.times.nil_time_in_range.Reads as times-nil-time-in-range
 use Rattle.host.proofs.times.nil_time_in_range.Kinds as times-nil-time-in-range-kinds
+use Rattle.host.proofs.comparing.nil_compare_bytes.Reads as comparing-nil-compare-bytes
+use Rattle.host.proofs.comparing.nil_compare_bytes.Kinds as comparing-nil-compare-bytes-kinds
+use Rattle.host.proofs.comparing.nil_apply_bytes.Reads as comparing-nil-apply-bytes
+use Rattle.host.proofs.comparing.nil_apply_bytes.Kinds as comparing-nil-apply-bytes-kinds
+use Rattle.host.proofs.comparing.nil_save_bytes.Reads as comparing-nil-save-bytes
+use Rattle.host.proofs.comparing.nil_save_bytes.Kinds as comparing-nil-save-bytes-kinds
+use Rattle.host.proofs.comparing.nil_load_bytes.Reads as comparing-nil-load-bytes
+use Rattle.host.proofs.comparing.nil_load_bytes.Kinds as comparing-nil-load-bytes-kinds
 use Rattle.host.proofs.times.nil_s2i.Reads as times-nil-s2i
 use Rattle.host.proofs.times.nil_s2i.Kinds as times-nil-s2i-kinds
 use Rattle.host.proofs.times.nil_ms2i.Reads as times-nil-ms2i
@@ -63,6 +71,30 @@ times-nil-time-diff-one κs a e x y = coincide
 
 pub times-nil-time-in-range-one : Fixes 0 times-nil-time-in-range-kinds.ps times-nil-time-in-range-kinds.r times-nil-time-in-range.Post
 times-nil-time-in-range-one κs a e x y = coincide
+
+module _ (κs : Lfts 6) (a : Dens κs comparing-nil-compare-bytes-kinds.ps) (x y : (res_t comparing-nil-compare-bytes-kinds.r κs).Denot)
+    (e f : AtExit (ended_of 6 comparing-nil-compare-bytes-kinds.ps comparing-nil-compare-bytes-kinds.r) κs) where
+  -- the code, and what the list and the number of entries are in the end
+  pub comparing-nil-compare-bytes-one : comparing-nil-compare-bytes.Post κs a x e → comparing-nil-compare-bytes.Post κs a y f → (x ≡ y) × ((e.1.1.1.1.0.now ≡ f.1.1.1.1.0.now) × (e.1.1.1.1.1.0.now ≡ f.1.1.1.1.1.0.now))
+  comparing-nil-compare-bytes-one p q = (coincide p.0 q.0, (coincide p.1.0 q.1.0, coincide p.1.1 q.1.1))
+
+module _ (κs : Lfts 3) (a : Dens κs comparing-nil-apply-bytes-kinds.ps) (x y : (res_t comparing-nil-apply-bytes-kinds.r κs).Denot)
+    (e f : AtExit (ended_of 3 comparing-nil-apply-bytes-kinds.ps comparing-nil-apply-bytes-kinds.r) κs) where
+  -- how many entries were passed over, and what tables and clock hold in the end
+  pub comparing-nil-apply-bytes-one : comparing-nil-apply-bytes.Post κs a x e → comparing-nil-apply-bytes.Post κs a y f → (x ≡ y) × ((e.0.now ≡ f.0.now) × (e.1.0.now ≡ f.1.0.now))
+  comparing-nil-apply-bytes-one p q = (coincide p.0 q.0, (coincide p.1.0 q.1.0, coincide p.1.1 q.1.1))
+
+module _ (κs : Lfts 3) (a : Dens κs comparing-nil-save-bytes-kinds.ps) (x y : (res_t comparing-nil-save-bytes-kinds.r κs).Denot)
+    (e f : AtExit (ended_of 3 comparing-nil-save-bytes-kinds.ps comparing-nil-save-bytes-kinds.r) κs) where
+  -- the code, and what the file holds in the end
+  pub comparing-nil-save-bytes-one : comparing-nil-save-bytes.Post κs a x e → comparing-nil-save-bytes.Post κs a y f → (x ≡ y) × (e.1.1.0.now ≡ f.1.1.0.now)
+  comparing-nil-save-bytes-one p q = (coincide p.0 q.0, coincide p.1 q.1)
+
+module _ (κs : Lfts 3) (a : Dens κs comparing-nil-load-bytes-kinds.ps) (x y : (res_t comparing-nil-load-bytes-kinds.r κs).Denot)
+    (e f : AtExit (ended_of 3 comparing-nil-load-bytes-kinds.ps comparing-nil-load-bytes-kinds.r) κs) where
+  -- the code, and what tables and clock hold in the end
+  pub comparing-nil-load-bytes-one : comparing-nil-load-bytes.Post κs a x e → comparing-nil-load-bytes.Post κs a y f → (x ≡ y) × ((e.1.0.now ≡ f.1.0.now) × (e.1.1.0.now ≡ f.1.1.0.now))
+  comparing-nil-load-bytes-one p q = (coincide p.0 q.0, (coincide p.1.0 q.1.0, coincide p.1.1 q.1.1))
 
 module _ (κs : Lfts 1) (a : Dens κs times-nil-s2i-kinds.ps) (x y : (res_t times-nil-s2i-kinds.r κs).Denot)
     (e f : AtExit (ended_of 1 times-nil-s2i-kinds.ps times-nil-s2i-kinds.r) κs) where

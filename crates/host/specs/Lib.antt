@@ -8,3 +8,4 @@ pub mod Screen
 pub mod Times
 pub mod Layout
 pub mod Piping
+pub mod Comparing

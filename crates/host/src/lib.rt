@@ -1,6 +1,9 @@
 // The boundary to a host in C: every function that a host calls. Each opens what it was lent, has a function by value do the work,
 // and stores what that gave. What a host owns has C's layout, no padding and no truth value: any bytes of it are legal values.
+#![tactic(auto)]
+
 pub mod broken;
+pub mod comparing;
 pub mod layout;
 pub mod piping;
 pub mod reads;

@@ -19,7 +19,7 @@ pub const STEP: u32 = 2;
 // A read as a host gets it: the place after it, the record's number, the step or the sizes that it found (else zeros), which of
 // them it found, and the refusal's number or 0.
 #[repr(C)]
-#[derive(Drop)]
+#[derive(Clone, Copy)]
 pub struct ReadResult {
     pub next: usize,
     pub number: usize,

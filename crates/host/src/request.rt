@@ -12,7 +12,7 @@ use steps::stepping::{Outcome, step};
 
 // A step as a host hands it over; `unused` fills the place before `a`.
 #[repr(C)]
-#[derive(Drop)]
+#[derive(Clone, Copy)]
 pub struct Request {
     pub kind: u8,
     pub caller: u8,
@@ -24,7 +24,7 @@ pub struct Request {
 
 // A step's result as a host gets it. The masks have bit i for thread i.
 #[repr(C)]
-#[derive(Drop)]
+#[derive(Clone, Copy)]
 pub struct StepResult {
     pub code: u16,
     pub running: u16,
@@ -35,7 +35,7 @@ pub struct StepResult {
 }
 
 // A step made by value: the tables that it leaves, its result, whether it was accepted, and whether it advances the clock.
-#[derive(Drop)]
+#[derive(Clone, Copy)]
 struct Answered {
     pub tables: Tables,
     pub result: StepResult,
@@ -69,6 +69,7 @@ fn result_of(o: Outcome) -> StepResult
 }
 
 // The step, by value.
+#[tactic(auto, unfolding(crate::specs::Request::step_answered))]
 fn answer(tables: Tables, clock: Clock, q: Request) -> Answered
     ensures { result ≡ step_answered tables clock q }
 {

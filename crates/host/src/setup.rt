@@ -9,7 +9,7 @@ use library::sizes::Sizes;
 use library::tables::Tables;
 
 // What is made, by value, and whether it was.
-#[derive(Drop)]
+#[derive(Clone, Copy)]
 struct Prepared {
     pub tables: Tables,
     pub clock: Clock,

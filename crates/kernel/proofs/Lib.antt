@@ -1,5 +1,4 @@
 -- What the proofs share, and the laws that the crates above cite.
-pub mod Lent
 pub mod Mirror
 pub mod Lengths
 pub mod Signed

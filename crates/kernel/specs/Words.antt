@@ -1,6 +1,6 @@
 -- Words beside the records: bit i of a word stands for thread i. "bit i set exactly when thread i is ready, and one such word for each
 -- semaphore (a pool's too), queue and mailbox side with the threads waiting there"
-use Rattle.std.specs.Prelude.{ℕ, zero, suc, ◌+◌, ◌-◌, ◌/◌, ◌%◌, ◌^◌, Bool, cond, set, replicate, ◌==◌, bit_and, bit_or, bit_xor, nat_lt, slice_index, slice_set}
+use Rattle.std.specs.Prelude.{ℕ, zero, suc, ◌+◌, ◌-◌, ◌/◌, ◌%◌, ◌^◌, Bool, cond, replicate, ◌==◌, bit_and, bit_or, bit_xor, nat_lt, slice_index, slice_set}
 use Rattle.kernel.specs.declared.records.Words.{Words}
 use Rattle.kernel.specs.Numbers.{queued}
 use Rattle.kernel.specs.Walk.{first_from, count_of}

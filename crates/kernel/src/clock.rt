@@ -6,7 +6,7 @@ ghost use Rattle.kernel.specs.Clock.{ticked_clock};
 use crate::time::{Interval, SystemTime};
 
 #[repr(C)]
-#[derive(Drop)]
+#[derive(Clone, Copy)]
 pub struct Clock {
     pub time: SystemTime,
     pub frequency: u32,

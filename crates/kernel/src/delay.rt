@@ -9,6 +9,7 @@ use crate::records::{Call, Kernel};
 use crate::time::{Interval, SystemTime, difference};
 
 // Thread i sleeps for an interval: chThdSleep. A step refuses 0 and infinite before they get here.
+#[tactic(auto, unfolding(crate::specs::Delay::slept_for))]
 pub fn sleep_for(k: Kernel, i: u8, d: Interval) -> Kernel
     ensures { result ≡ slept_for k i d }
 {
@@ -22,6 +23,7 @@ pub fn sleep_for(k: Kernel, i: u8, d: Interval) -> Kernel
 }
 
 // Thread i sleeps from `now` until a time; its full timeout is the interval slept: chThdSleepUntil.
+#[tactic(auto, unfolding(crate::specs::Delay::slept_until))]
 pub fn sleep_until(k: Kernel, i: u8, now: SystemTime, until: SystemTime) -> Kernel
     ensures { result ≡ slept_until k i now until }
 {

@@ -24,6 +24,7 @@ fn is_met(t: Thread) -> bool
 }
 
 // Thread i takes its pending flags in `mask`: they are cleared, and are the datum of its call.
+#[tactic(auto, unfolding(crate::specs::Event::took_flags))]
 pub fn take_flags(k: Kernel, i: u8, mask: u32) -> Kernel
     ensures { result ≡ took_flags k i mask }
 {
@@ -36,6 +37,7 @@ pub fn take_flags(k: Kernel, i: u8, mask: u32) -> Kernel
 
 // The flags of `mask` are signalled to thread i; if it awaits any of those now pending it is made ready. They stay pending until
 // it goes on, and so do flags that come in between: chEvtSignalI.
+#[tactic(auto, unfolding(crate::specs::Event::event_signalled))]
 pub fn signal_events(k: Kernel, i: u8, mask: u32) -> Kernel
     ensures { result ≡ event_signalled k i mask }
 {
@@ -46,6 +48,7 @@ pub fn signal_events(k: Kernel, i: u8, mask: u32) -> Kernel
 }
 
 // Thread i waits for any flag of the call's mask; those pending are taken at once: chEvtWaitAnyTimeout.
+#[tactic(auto, unfolding(crate::specs::Event::event_waited))]
 pub fn wait_events(k: Kernel, i: u8, call: Call) -> Kernel
     ensures { result ≡ event_waited k i call }
 {

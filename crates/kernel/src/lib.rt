@@ -1,6 +1,8 @@
 // The kernel part: threads, time, references, queues, semaphores and events of ChibiOS/NIL.
 // Every function is total: it answers for any value of its arguments, and its `ensures` is its whole result.
 // Tables go in and come out by value; the host owns what lies between two steps.
+#![tactic(auto)]
+
 pub mod clock;
 pub mod counters;
 pub mod delay;

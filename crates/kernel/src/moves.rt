@@ -71,6 +71,7 @@ fn answered_row(t: Thread, answer: Answer) -> Thread
 
 // Thread i is made ready with message m, and leaves what it waits on: its queue, whose counter rises, or its reference, which is
 // emptied. Its record keeps the cause of the call at work and the number of the step. Nothing changes where there is no thread i.
+#[tactic(auto, unfolding(crate::specs::Moves::woken, crate::specs::Moves::taken_off))]
 pub fn wake(k: Kernel, i: u8, m: i32) -> Kernel
     ensures { result ≡ woken k i m }
 {
@@ -101,6 +102,7 @@ pub fn wake(k: Kernel, i: u8, m: i32) -> Kernel
 
 // Thread i goes to sleep in a call, and joins what it will wait on: a queue, whose counter falls, or a reference, which then holds
 // it. Nothing changes where there is no thread i.
+#[tactic(auto, unfolding(crate::specs::Moves::slept, crate::specs::Moves::put_on))]
 pub fn sleep(k: Kernel, i: u8, state: u16, place: u16, call: Call) -> Kernel
     ensures { result ≡ slept k i state place call }
 {
@@ -127,6 +129,7 @@ pub fn sleep(k: Kernel, i: u8, state: u16, place: u16, call: Call) -> Kernel
 }
 
 // The call of thread i is finished with an answer; NOBODY stands for an interrupt, whose answer is kept beside the tables.
+#[tactic(auto, unfolding(crate::specs::Moves::finished))]
 pub fn finish(k: Kernel, i: u8, message: i32, datum: u32) -> Kernel
     ensures { result ≡ finished k i message datum }
 {
@@ -147,6 +150,7 @@ pub fn finish(k: Kernel, i: u8, message: i32, datum: u32) -> Kernel
 }
 
 // What cannot be had at once: a timeout of 0 answers -1 and changes nothing else, any other goes to sleep.
+#[tactic(auto, unfolding(crate::specs::Moves::blocked))]
 pub fn block(k: Kernel, i: u8, state: u16, place: u16, call: Call) -> Kernel
     ensures { result ≡ blocked k i state place call }
 {

@@ -9,6 +9,7 @@ use crate::waiters::first_waiter;
 use crate::words::{has_bit, waiting_at};
 
 // Thread i waits in the queue: chThdEnqueueTimeoutS.
+#[tactic(auto, unfolding(crate::specs::Queue::enqueued))]
 pub fn enqueue(k: Kernel, i: u8, place: u16, call: Call) -> Kernel
     ensures { result ≡ enqueued k i place call }
 {
@@ -16,6 +17,7 @@ pub fn enqueue(k: Kernel, i: u8, place: u16, call: Call) -> Kernel
 }
 
 // The first thread that waits at the place is made ready with m; with nobody there nothing changes: chThdDequeueNextI.
+#[tactic(auto, unfolding(crate::specs::Queue::released_first))]
 pub fn release_first(k: Kernel, place: u16, m: i32) -> Kernel
     ensures { result ≡ released_first k place m }
 {
@@ -23,6 +25,7 @@ pub fn release_first(k: Kernel, place: u16, m: i32) -> Kernel
 }
 
 // All threads that wait at the place are made ready with m, in index order: chThdDequeueAllI.
+#[tactic(auto, unfolding(crate::specs::Queue::released_all))]
 pub fn release_all(k: Kernel, place: u16, m: i32) -> Kernel
     ensures { result ≡ released_all k place m }
 {

@@ -9,7 +9,7 @@ use crate::numbers::{CAUSE_NONE, LAST_STEP, NOBODY, NOWHERE, READY};
 
 // An unfinished call: the step's kind, object, operand and full timeout; all 0 without one.
 #[repr(C)]
-#[derive(Drop)]
+#[derive(Clone, Copy)]
 pub struct Call {
     pub kind: u16,
     pub object: u16,
@@ -18,7 +18,7 @@ pub struct Call {
 }
 
 #[repr(C)]
-#[derive(Drop)]
+#[derive(Clone, Copy)]
 pub struct Answer {
     pub message: i32,
     pub datum: u32,
@@ -28,7 +28,7 @@ pub struct Answer {
 // waking the cause and the number of the step.
 // `place` is a counter's place if the thread is queued, a reference's number if it is suspended, else NOWHERE.
 #[repr(C)]
-#[derive(Drop)]
+#[derive(Clone, Copy)]
 pub struct Thread {
     pub state: u16,
     pub place: u16,
@@ -45,7 +45,7 @@ pub struct Thread {
 // Who is ready, and who waits at each place: bit i of a word stands for thread i.
 // `unused` fills the records up to a multiple of 4 bytes; it may hold anything, and keeps it.
 #[repr(C)]
-#[derive(Drop)]
+#[derive(Clone, Copy)]
 pub struct Words {
     pub ready: u16,
     pub waiting: [u16; 36],
@@ -54,7 +54,7 @@ pub struct Words {
 
 // What a host keeps between two steps. A reference holds a thread's number, or NOBODY. `steps` is the number of the last accepted step.
 #[repr(C)]
-#[derive(Drop)]
+#[derive(Clone, Copy)]
 pub struct Records {
     pub threads: [Thread; 16],
     pub counters: [i32; 36],
@@ -66,7 +66,7 @@ pub struct Records {
 // The kernel at work on one step: the records, who was woken, whose calls finished, the answer of an interrupt's own call, the number
 // of the step, and the cause that the call at work has if it wakes.
 // The words stand first, so that the compiler copies what follows them in one piece.
-#[derive(Drop)]
+#[derive(Clone, Copy)]
 pub struct Kernel {
     pub words: Words,
     pub threads: [Thread; 16],

@@ -8,6 +8,7 @@ use crate::records::{Call, Kernel};
 use crate::tables::holder_at;
 
 // Thread i is suspended on a reference: chThdSuspendTimeoutS. A step refuses a held reference before it gets here.
+#[tactic(auto, unfolding(crate::specs::Reference::suspended_on))]
 pub fn suspend(k: Kernel, i: u8, reference: u16, call: Call) -> Kernel
     ensures { result ≡ suspended_on k i reference call }
 {
@@ -15,6 +16,7 @@ pub fn suspend(k: Kernel, i: u8, reference: u16, call: Call) -> Kernel
 }
 
 // The thread that a reference holds is made ready with m; an empty one changes nothing: chThdResumeI.
+#[tactic(auto, unfolding(crate::specs::Reference::resumed))]
 pub fn resume(k: Kernel, reference: u16, m: i32) -> Kernel
     ensures { result ≡ resumed k reference m }
 {

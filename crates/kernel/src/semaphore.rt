@@ -10,13 +10,14 @@ use crate::records::{Call, Kernel};
 use crate::tables::{counter_at, set_counter};
 
 // The tables after a signal, and whether it counted.
-#[derive(Drop)]
+#[derive(Clone, Copy)]
 pub struct Signalled {
     pub kernel: Kernel,
     pub counted: bool,
 }
 
 // One is taken off the counter, whatever it is: chSemFastWaitI.
+#[tactic(auto, unfolding(crate::specs::Semaphore::taken))]
 pub fn take(k: Kernel, place: u16) -> Kernel
     ensures { result ≡ taken k place }
 {
@@ -25,6 +26,7 @@ pub fn take(k: Kernel, place: u16) -> Kernel
 }
 
 // Thread i waits for the semaphore: chSemWaitTimeoutS.
+#[tactic(auto, unfolding(crate::specs::Semaphore::waited))]
 pub fn wait(k: Kernel, i: u8, place: u16, call: Call) -> Kernel
     ensures { result ≡ waited k i place call }
 {
@@ -38,6 +40,7 @@ pub fn wait(k: Kernel, i: u8, place: u16, call: Call) -> Kernel
 
 // Below 0 the highest waiter is made ready with 0, which raises the counter; else the counter is raised: chSemSignalI.
 // At the top it stays, nobody is woken, and the signal has not counted.
+#[tactic(auto, unfolding(crate::specs::Semaphore::signalled))]
 pub fn signal(k: Kernel, place: u16) -> Signalled
     ensures { result ≡ signalled k place }
 {
@@ -56,6 +59,7 @@ pub fn signal(k: Kernel, place: u16) -> Signalled
 }
 
 // All waiters are made ready with -2, and the counter becomes c: chSemResetI.
+#[tactic(auto, unfolding(crate::specs::Semaphore::reset_to))]
 pub fn reset(k: Kernel, place: u16, c: i32) -> Kernel
     ensures { result ≡ reset_to k place c }
 {

@@ -20,6 +20,7 @@ fn count_off(t: Thread) -> Thread
 }
 
 // One tick for n threads, in index order: whose last tick it is, is made ready with -1; the others have one less.
+#[tactic(auto, unfolding(crate::specs::Ticking::ticked))]
 pub fn tick(k: Kernel, n: u16) -> Kernel
     ensures { result ≡ ticked k n }
 {

@@ -7,7 +7,7 @@ ghost use Rattle.kernel.specs.Units.{per_second, frequency_of, frequency_fits, r
 use crate::numbers::{INFINITE, USUAL_FREQUENCY};
 use crate::time::Interval;
 
-#[derive(Drop)]
+#[derive(Clone, Copy)]
 pub enum Unit {
     Seconds,
     Milliseconds,
@@ -15,19 +15,19 @@ pub enum Unit {
 }
 
 // The tick frequency that a caller gives, or none.
-#[derive(Drop)]
+#[derive(Clone, Copy)]
 pub enum Rate {
     Given(u32),
     Standard,
 }
 
-#[derive(Drop)]
+#[derive(Clone, Copy)]
 pub struct Ticks {
     pub code: u8,
     pub interval: Interval,
 }
 
-#[derive(Drop)]
+#[derive(Clone, Copy)]
 pub struct Units {
     pub code: u8,
     pub value: u64,
@@ -72,6 +72,7 @@ fn round_up(a: u64, b: u64) -> u64
 }
 
 // `x` of a unit as ticks; refused where the frequency is out of its range, or the ticks exceed the longest interval.
+#[tactic(auto, unfolding(crate::specs::Units::in_ticks))]
 pub fn to_ticks(u: Unit, x: u32, rate: Rate) -> Ticks
     ensures { result ≡ in_ticks u x rate }
 {
@@ -92,6 +93,7 @@ pub fn to_ticks(u: Unit, x: u32, rate: Rate) -> Ticks
 }
 
 // Ticks as a number of a unit; refused where the frequency is out of its range, or the interval is infinite.
+#[tactic(auto, unfolding(crate::specs::Units::of_ticks))]
 pub fn from_ticks(u: Unit, d: Interval, rate: Rate) -> Units
     ensures { result ≡ of_ticks u d rate }
 {

@@ -15,6 +15,7 @@ pub fn is_ready(t: Thread) -> bool
 }
 
 // The running thread: the first that is ready, or NOBODY for idle.
+#[tactic(auto, unfolding(crate::specs::Waiters::first_ready))]
 pub fn first_ready(k: Kernel) -> u8
     ensures { result ≡ first_ready k }
 {
@@ -46,6 +47,7 @@ pub fn running_free(k: Kernel) -> bool
 }
 
 // The first thread that is queued at a place, or NOBODY.
+#[tactic(auto, unfolding(crate::specs::Waiters::first_waiter))]
 pub fn first_waiter(k: Kernel, place: u16) -> u8
     ensures { result ≡ first_waiter k place }
 {

@@ -38,6 +38,7 @@ pub fn has_bit(w: u16, i: u8) -> bool
 }
 
 // How many threads a word names.
+#[tactic(auto, unfolding(crate::specs::Words::ones_of))]
 pub fn count_in(w: u16) -> u8
     ensures { result ≡ ones_of w }
 {
@@ -45,6 +46,7 @@ pub fn count_in(w: u16) -> u8
 }
 
 // The first thread that a word names, or NOBODY.
+#[tactic(auto, unfolding(crate::specs::Words::first_of))]
 pub fn first_in(w: u16) -> u8
     ensures { result ≡ first_of w }
 {

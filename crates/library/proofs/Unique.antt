@@ -17,6 +17,10 @@ use Rattle.library.proofs.calls.keeps_operand.Reads as calls-keeps-operand
 use Rattle.library.proofs.calls.keeps_operand.Kinds as calls-keeps-operand-kinds
 use Rattle.library.proofs.calls.call_of.Reads as calls-call-of
 use Rattle.library.proofs.calls.call_of.Kinds as calls-call-of-kinds
+use Rattle.library.proofs.fresh.tables_of.Reads as fresh-tables-of
+use Rattle.library.proofs.fresh.tables_of.Kinds as fresh-tables-of-kinds
+use Rattle.library.proofs.fresh.clock_of.Reads as fresh-clock-of
+use Rattle.library.proofs.fresh.clock_of.Kinds as fresh-clock-of-kinds
 use Rattle.library.proofs.fresh.make.Reads as fresh-make
 use Rattle.library.proofs.fresh.make.Kinds as fresh-make-kinds
 use Rattle.library.proofs.logic.both.Reads as logic-both
@@ -25,6 +29,8 @@ use Rattle.library.proofs.logic.either.Reads as logic-either
 use Rattle.library.proofs.logic.either.Kinds as logic-either-kinds
 use Rattle.library.proofs.mailbox.message_at.Reads as mailbox-message-at
 use Rattle.library.proofs.mailbox.message_at.Kinds as mailbox-message-at-kinds
+use Rattle.library.proofs.mailbox.set_message.Reads as mailbox-set-message
+use Rattle.library.proofs.mailbox.set_message.Kinds as mailbox-set-message-kinds
 use Rattle.library.proofs.mailbox.try_post.Reads as mailbox-try-post
 use Rattle.library.proofs.mailbox.try_post.Kinds as mailbox-try-post-kinds
 use Rattle.library.proofs.mailbox.try_fetch.Reads as mailbox-try-fetch
@@ -35,8 +41,12 @@ use Rattle.library.proofs.mailbox.resume_mailbox.Reads as mailbox-resume-mailbox
 use Rattle.library.proofs.mailbox.resume_mailbox.Kinds as mailbox-resume-mailbox-kinds
 use Rattle.library.proofs.pool.listed_at.Reads as pool-listed-at
 use Rattle.library.proofs.pool.listed_at.Kinds as pool-listed-at-kinds
+use Rattle.library.proofs.pool.set_listed.Reads as pool-set-listed
+use Rattle.library.proofs.pool.set_listed.Kinds as pool-set-listed-kinds
 use Rattle.library.proofs.pool.mark_at.Reads as pool-mark-at
 use Rattle.library.proofs.pool.mark_at.Kinds as pool-mark-at-kinds
+use Rattle.library.proofs.pool.set_length.Reads as pool-set-length
+use Rattle.library.proofs.pool.set_length.Kinds as pool-set-length-kinds
 use Rattle.library.proofs.pool.hand_over.Reads as pool-hand-over
 use Rattle.library.proofs.pool.hand_over.Kinds as pool-hand-over-kinds
 use Rattle.library.proofs.pool.try_alloc.Reads as pool-try-alloc
@@ -116,6 +126,12 @@ calls-keeps-operand-one κs a e x y = coincide
 pub calls-call-of-one : Fixes 0 calls-call-of-kinds.ps calls-call-of-kinds.r calls-call-of.Post
 calls-call-of-one κs a e x y = coincide
 
+pub fresh-tables-of-one : Fixes 0 fresh-tables-of-kinds.ps fresh-tables-of-kinds.r fresh-tables-of.Post
+fresh-tables-of-one κs a e x y = coincide
+
+pub fresh-clock-of-one : Fixes 0 fresh-clock-of-kinds.ps fresh-clock-of-kinds.r fresh-clock-of.Post
+fresh-clock-of-one κs a e x y = coincide
+
 pub fresh-make-one : Fixes 0 fresh-make-kinds.ps fresh-make-kinds.r fresh-make.Post
 fresh-make-one κs a e x y = coincide
 
@@ -127,6 +143,9 @@ logic-either-one κs a e x y = coincide
 
 pub mailbox-message-at-one : Fixes 0 mailbox-message-at-kinds.ps mailbox-message-at-kinds.r mailbox-message-at.Post
 mailbox-message-at-one κs a e x y = coincide
+
+pub mailbox-set-message-one : Fixes 0 mailbox-set-message-kinds.ps mailbox-set-message-kinds.r mailbox-set-message.Post
+mailbox-set-message-one κs a e x y = coincide
 
 pub mailbox-try-post-one : Fixes 0 mailbox-try-post-kinds.ps mailbox-try-post-kinds.r mailbox-try-post.Post
 mailbox-try-post-one κs a e x y = coincide
@@ -143,8 +162,14 @@ mailbox-resume-mailbox-one κs a e x y = coincide
 pub pool-listed-at-one : Fixes 0 pool-listed-at-kinds.ps pool-listed-at-kinds.r pool-listed-at.Post
 pool-listed-at-one κs a e x y = coincide
 
+pub pool-set-listed-one : Fixes 0 pool-set-listed-kinds.ps pool-set-listed-kinds.r pool-set-listed.Post
+pool-set-listed-one κs a e x y = coincide
+
 pub pool-mark-at-one : Fixes 0 pool-mark-at-kinds.ps pool-mark-at-kinds.r pool-mark-at.Post
 pool-mark-at-one κs a e x y = coincide
+
+pub pool-set-length-one : Fixes 0 pool-set-length-kinds.ps pool-set-length-kinds.r pool-set-length.Post
+pool-set-length-one κs a e x y = coincide
 
 pub pool-hand-over-one : Fixes 0 pool-hand-over-kinds.ps pool-hand-over-kinds.r pool-hand-over.Post
 pool-hand-over-one κs a e x y = coincide

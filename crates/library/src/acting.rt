@@ -33,6 +33,7 @@ fn signal_message(counted: bool) -> i32
 }
 
 // 3: a signal at the top is answered with 1, any other with 0: chSemSignal, chSemSignalI.
+#[tactic(auto, unfolding(crate::specs::Acting::signal_acted))]
 fn act_signal(k: Kernel, i: u8, place: u16) -> Kernel
     ensures { result ≡ signal_acted k i place }
 {
@@ -41,6 +42,7 @@ fn act_signal(k: Kernel, i: u8, place: u16) -> Kernel
 }
 
 // The kernel part's calls that have an answer of their own: 2, 3, 6, 9, 11, 12 and 14. All but 3 may sleep.
+#[tactic(auto, unfolding(crate::specs::Acting::call_made))]
 fn make_call(k: Kernel, now: SystemTime, s: Step) -> Kernel
     ensures { result ≡ call_made k now s }
 {
@@ -59,6 +61,7 @@ fn make_call(k: Kernel, now: SystemTime, s: Step) -> Kernel
 }
 
 // The kernel part's calls that answer 0 and 0: 1, 4, 5, 7, 8, 10 and 13.
+#[tactic(auto, unfolding(crate::specs::Acting::effected))]
 fn effect(k: Kernel, n: u16, s: Step) -> Kernel
     ensures { result ≡ effected k n s }
 {
@@ -97,6 +100,7 @@ fn answers_itself(kind: u8) -> bool
 }
 
 // An accepted step of kinds 1 to 14 acts. `now` is the time before the step.
+#[tactic(auto, unfolding(crate::specs::Acting::acted_on_kernel))]
 pub fn act_on_kernel(k: Kernel, n: u16, now: SystemTime, s: Step) -> Kernel
     ensures { result ≡ acted_on_kernel k n now s }
 {
@@ -108,6 +112,7 @@ pub fn act_on_kernel(k: Kernel, n: u16, now: SystemTime, s: Step) -> Kernel
 }
 
 // The library part's calls that never sleep: 18, 19, 21 and 22.
+#[tactic(auto, unfolding(crate::specs::Acting::box_effected))]
 fn effect_on_box(p: Plant, s: Step) -> Plant
     ensures { result ≡ box_effected p s }
 {
@@ -121,6 +126,7 @@ fn effect_on_box(p: Plant, s: Step) -> Plant
 }
 
 // An accepted step of kinds 15 to 22 acts.
+#[tactic(auto, unfolding(crate::specs::Acting::acted_on_box))]
 pub fn act_on_box(p: Plant, s: Step) -> Plant
     ensures { result ≡ acted_on_box p s }
 {

@@ -7,6 +7,7 @@ use kernel::semaphore::signal;
 use kernel::tables::counter_at;
 
 // As signal if the counter is below 1, else nothing: chBSemSignalI. Below 1 a signal counts: whether it did is dropped.
+#[tactic(auto, unfolding(crate::specs::Binary::binary_signalled))]
 pub fn binary_signal(k: Kernel, place: u16) -> Kernel
     ensures { result ≡ binary_signalled k place }
 {

@@ -9,7 +9,7 @@ use kernel::kinds::{KEPT_EVENT_WAIT, KEPT_POST, KEPT_POST_AHEAD, KEPT_SLEEP_UNTI
 use kernel::records::Call;
 
 // One call of a thread or an interrupt, or one tick. The caller is a thread's number, or NOBODY for an interrupt.
-#[derive(Drop)]
+#[derive(Clone, Copy)]
 pub struct Step {
     pub kind: u8,
     pub caller: u8,

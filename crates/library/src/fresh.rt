@@ -10,14 +10,14 @@ use kernel::units::{Rate, frequency_fits, frequency_of};
 use kernel::words::fresh_words;
 
 // Code 0 with the tables and their clock, or a refusal with the tables of no sizes and a clock of no frequency.
-#[derive(Drop)]
+#[derive(Clone, Copy)]
 pub struct Made {
     pub code: u8,
     pub tables: Tables,
     pub clock: Clock,
 }
 
-fn tables_of(sizes: Sizes) -> Tables
+pub fn tables_of(sizes: Sizes) -> Tables
     ensures { result ≡ fresh_tables sizes }
 {
     let words = fresh_words(sizes.threads);
@@ -34,7 +34,7 @@ fn tables_of(sizes: Sizes) -> Tables
     }
 }
 
-fn clock_of(frequency: u32) -> Clock
+pub fn clock_of(frequency: u32) -> Clock
     ensures { result ≡ fresh_clock frequency }
 {
     Clock {
@@ -56,6 +56,7 @@ fn refuse(code: u8) -> Made
 }
 
 // Fresh tables of the sizes, or refusal 14 for a size out of its limits, then 6 for a frequency out of its range.
+#[tactic(auto, unfolding(crate::specs::Fresh::made))]
 pub fn make(sizes: Sizes, rate: Rate) -> Made
     ensures { result ≡ made sizes rate }
 {

@@ -1,5 +1,7 @@
 // The library part, over the kernel part's contracts: whole tables, binary semaphores, mailboxes, guarded pools, acting and settling.
 // Every function is total: it answers for any value of its arguments, and its `ensures` is its whole result.
+#![tactic(auto)]
+
 pub mod acting;
 pub mod binary;
 pub mod calls;

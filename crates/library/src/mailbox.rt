@@ -35,7 +35,7 @@ pub fn message_at(b: Mailbox, slot: u16) -> u32
     if at < 16 { b.messages[at] } else { 0 }
 }
 
-fn set_message(b: Mailbox, slot: u16, x: u32) -> Mailbox
+pub fn set_message(b: Mailbox, slot: u16, x: u32) -> Mailbox
     ensures { result ≡ with_message b slot x }
 {
     let at = slot as usize;
@@ -75,6 +75,7 @@ fn place_for(b: Mailbox, kind: u16, slots: u16) -> Placed
 }
 
 // The post of a call has a slot: the message goes in, and the first reader is released.
+#[tactic(auto, unfolding(crate::specs::Mailbox::post_done))]
 fn end_post(p: Plant, i: u8, call: Call, placed: Placed) -> Plant
     ensures { result ≡ post_done p i call placed }
 {
@@ -90,6 +91,7 @@ fn end_post(p: Plant, i: u8, call: Call, placed: Placed) -> Plant
 }
 
 // Thread i, or an interrupt, posts the operand of a call: chMBPostTimeoutS, chMBPostAheadTimeoutS.
+#[tactic(auto, unfolding(crate::specs::Mailbox::post_tried))]
 pub fn try_post(p: Plant, i: u8, call: Call) -> Plant
     ensures { result ≡ post_tried p i call }
 {
@@ -106,6 +108,7 @@ pub fn try_post(p: Plant, i: u8, call: Call) -> Plant
 }
 
 // The fetch of a call has a slot: the message comes out, and the first writer is released.
+#[tactic(auto, unfolding(crate::specs::Mailbox::fetch_done))]
 fn end_fetch(p: Plant, i: u8, call: Call, placed: Placed) -> Plant
     ensures { result ≡ fetch_done p i call placed }
 {
@@ -118,6 +121,7 @@ fn end_fetch(p: Plant, i: u8, call: Call, placed: Placed) -> Plant
 }
 
 // Thread i, or an interrupt, fetches a message, which is the datum of its call: chMBFetchTimeoutS.
+#[tactic(auto, unfolding(crate::specs::Mailbox::fetch_tried))]
 pub fn try_fetch(p: Plant, i: u8, call: Call) -> Plant
     ensures { result ≡ fetch_tried p i call }
 {
@@ -135,6 +139,7 @@ pub fn try_fetch(p: Plant, i: u8, call: Call) -> Plant
 }
 
 // Both queues of a mailbox are released with -2, writers first.
+#[tactic(auto, unfolding(crate::specs::Mailbox::both_released))]
 fn release_both(k: Kernel, number: u16) -> Kernel
     ensures { result ≡ both_released k number }
 {
@@ -143,6 +148,7 @@ fn release_both(k: Kernel, number: u16) -> Kernel
 }
 
 // A mailbox is emptied and goes into reset state; all who wait on it are made ready with -2: chMBResetI.
+#[tactic(auto, unfolding(crate::specs::Mailbox::mailbox_reset))]
 pub fn reset_mailbox(p: Plant, number: u16) -> Plant
     ensures { result ≡ mailbox_reset p number }
 {
@@ -156,6 +162,7 @@ pub fn reset_mailbox(p: Plant, number: u16) -> Plant
 }
 
 // A mailbox leaves reset state: chMBResumeX.
+#[tactic(auto, unfolding(crate::specs::Mailbox::mailbox_resumed))]
 pub fn resume_mailbox(p: Plant, number: u16) -> Plant
     ensures { result ≡ mailbox_resumed p number }
 {

@@ -21,7 +21,7 @@ pub fn listed_at(x: Pool, i: u16) -> u8
     if at < 32 { x.list[at] } else { 0 }
 }
 
-fn set_listed(x: Pool, i: u16, o: u8) -> Pool
+pub fn set_listed(x: Pool, i: u16, o: u8) -> Pool
     ensures { result ≡ with_listed x i o }
 {
     let at = i as usize;
@@ -51,7 +51,7 @@ fn set_mark(x: Pool, o: u8, mark: u8) -> Pool
     r
 }
 
-fn set_length(x: Pool, length: u16) -> Pool
+pub fn set_length(x: Pool, length: u16) -> Pool
     ensures { result ≡ with_length x length }
 {
     let mut r = x;
@@ -71,6 +71,7 @@ fn top_of(x: Pool) -> u8
 }
 
 // The pool without its top, which is out; an empty one stays.
+#[tactic(auto, unfolding(crate::specs::Pool::popped))]
 fn pop(x: Pool) -> Pool
     ensures { result ≡ popped x }
 {
@@ -82,6 +83,7 @@ fn pop(x: Pool) -> Pool
 }
 
 // The pool with an object on top, which is free; a full one stays.
+#[tactic(auto, unfolding(crate::specs::Pool::pushed))]
 fn push(x: Pool, o: u8) -> Pool
     ensures { result ≡ pushed x o }
 {
@@ -97,6 +99,7 @@ fn push(x: Pool, o: u8) -> Pool
 }
 
 // Thread i, or an interrupt, takes the top of a pool as the datum of its call.
+#[tactic(auto, unfolding(crate::specs::Pool::handed_over))]
 pub fn hand_over(p: Plant, i: u8, number: u16) -> Plant
     ensures { result ≡ handed_over p i number }
 {
@@ -107,6 +110,7 @@ pub fn hand_over(p: Plant, i: u8, number: u16) -> Plant
 }
 
 // Thread i, or an interrupt, waits for an object: chGuardedPoolAllocTimeoutS.
+#[tactic(auto, unfolding(crate::specs::Pool::alloc_tried))]
 pub fn try_alloc(p: Plant, i: u8, call: Call) -> Plant
     ensures { result ≡ alloc_tried p i call }
 {
@@ -122,6 +126,7 @@ pub fn try_alloc(p: Plant, i: u8, call: Call) -> Plant
 
 // An object is put on top of a pool, and the pool's semaphore is signalled: chGuardedPoolFreeI, chGuardedPoolAddI.
 // A pool's counter is at most 32, so that the signal counts: whether it did is dropped.
+#[tactic(auto, unfolding(crate::specs::Pool::put_back))]
 pub fn put_back(p: Plant, number: u16, o: u8) -> Plant
     ensures { result ≡ put_back p number o }
 {

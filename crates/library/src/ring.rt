@@ -16,14 +16,14 @@ ghost use Rattle.library.specs.Ring.{
 use crate::numbers::NO_SLOT;
 
 #[repr(C)]
-#[derive(Drop)]
+#[derive(Clone, Copy)]
 pub struct Positions {
     pub read: u16,
     pub write: u16,
     pub count: u16,
 }
 
-#[derive(Drop)]
+#[derive(Clone, Copy)]
 pub struct Placed {
     pub slot: u16,
     pub positions: Positions,
@@ -44,6 +44,7 @@ fn follows(q: Positions, slots: u16) -> bool
 }
 
 // Whether the positions hang together: both of these.
+#[tactic(auto, unfolding(crate::specs::Ring::positions_fit))]
 pub fn positions_fit(q: Positions, slots: u16) -> bool
     ensures { result ≡ positions_fit q slots }
 {
@@ -77,6 +78,7 @@ fn place_before(p: u16, slots: u16) -> u16
 
 impl Positions {
     // A message goes in at the write place.
+    #[tactic(auto, unfolding(crate::specs::Ring::posted))]
     pub fn post(self, slots: u16) -> Placed
         ensures { result ≡ posted self slots }
     {
@@ -100,6 +102,7 @@ impl Positions {
     }
 
     // A message goes in before the read place.
+    #[tactic(auto, unfolding(crate::specs::Ring::posted_ahead))]
     pub fn post_ahead(self, slots: u16) -> Placed
         ensures { result ≡ posted_ahead self slots }
     {
@@ -123,6 +126,7 @@ impl Positions {
     }
 
     // A message comes out at the read place.
+    #[tactic(auto, unfolding(crate::specs::Ring::fetched))]
     pub fn fetch(self, slots: u16) -> Placed
         ensures { result ≡ fetched self slots }
     {
@@ -146,6 +150,7 @@ impl Positions {
     }
 
     // All messages are dropped, and both places return to 0.
+    #[tactic(auto, unfolding(crate::specs::Ring::emptied))]
     pub fn reset(self) -> Placed
         ensures { result ≡ emptied self }
     {

@@ -51,6 +51,7 @@ fn is_answered_only(t: Thread) -> bool
 }
 
 // Thread i's call answers its wake message, with datum 0.
+#[tactic(auto, unfolding(kernel::specs::Moves::finished))]
 fn answer_woken(k: Kernel, i: u8, t: Thread) -> Kernel
     ensures { result ≡ finished k i t.message 0 }
 {
@@ -58,6 +59,7 @@ fn answer_woken(k: Kernel, i: u8, t: Thread) -> Kernel
 }
 
 // Thread i's unfinished call goes on after its waking. Whom it wakes, it wakes by its own cause.
+#[tactic(auto, unfolding(crate::specs::Settling::went_on))]
 fn go_on(p: Plant, i: u8) -> Plant
     ensures { result ≡ continued p i }
 {
@@ -81,6 +83,7 @@ fn go_on(p: Plant, i: u8) -> Plant
 
 // The plant once the running thread has no unfinished call, or the budget is spent.
 #[cycle(continue_call_settle)]
+#[tactic(auto, unfolding(crate::specs::Settling::settled))]
 pub fn settle(p: Plant, budget: u16) -> Plant
     ensures { result ≡ settled budget p }
 {
@@ -96,6 +99,7 @@ pub fn settle(p: Plant, budget: u16) -> Plant
 // Thread i's call is continued, and settling goes on: with half of the budget, then with the rest. Where nothing is left to settle,
 // which is most often so, whole tables need not change hands for it.
 #[cycle(continue_call_settle)]
+#[tactic(auto, unfolding(crate::specs::Settling::settled))]
 pub fn continue_call(p: Plant, i: u8, budget: u16) -> Plant
     ensures { result ≡ settled budget (continued p i) }
 {

@@ -5,7 +5,7 @@ ghost use Rattle.library.specs.Sizes.{slots_at, slots_fit, sizes_fit, no_sizes};
 use crate::logic::{both, either};
 
 #[repr(C)]
-#[derive(Drop)]
+#[derive(Clone, Copy)]
 pub struct Sizes {
     pub threads: u16,
     pub semaphores: u16,
@@ -33,6 +33,7 @@ fn slots_fit(s: Sizes, i: u16) -> bool
 }
 
 // Whether every size is within its limits.
+#[tactic(auto, unfolding(crate::specs::Sizes::sizes_fit))]
 pub fn sizes_fit(s: Sizes) -> bool
     ensures { result ≡ sizes_fit s }
 {

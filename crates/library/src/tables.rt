@@ -11,7 +11,7 @@ use kernel::records::{Kernel, Records};
 
 // A mailbox: where it reads and writes, its reset state (any value but 0), and its messages' bits.
 #[repr(C)]
-#[derive(Drop)]
+#[derive(Clone, Copy)]
 pub struct Mailbox {
     pub positions: Positions,
     pub reset: u16,
@@ -20,7 +20,7 @@ pub struct Mailbox {
 
 // A pool: its free objects, the last one on top, and a mark for each object. Its counter is the kernel part's.
 #[repr(C)]
-#[derive(Drop)]
+#[derive(Clone, Copy)]
 pub struct Pool {
     pub length: u16,
     pub list: [u8; 32],
@@ -28,7 +28,7 @@ pub struct Pool {
 }
 
 #[repr(C)]
-#[derive(Drop)]
+#[derive(Clone, Copy)]
 pub struct Tables {
     pub kernel: Records,
     pub mailboxes: [Mailbox; 4],
@@ -37,7 +37,7 @@ pub struct Tables {
 }
 
 // The tables at work on one step.
-#[derive(Drop)]
+#[derive(Clone, Copy)]
 pub struct Plant {
     pub kernel: Kernel,
     pub mailboxes: [Mailbox; 4],

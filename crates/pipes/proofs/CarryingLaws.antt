@@ -6,14 +6,14 @@ use native.Mathlib.Numerals.{add-one}
 use native.Mathlib.Omega.{arith}
 use mathlib.Core.Path.{◌≡◌, refl, sym, ap, ◌∙◌}
 use mathlib.Core.Logic.{◌≢◌}
-use mathlib.Core.Bool.{Bool, true, false, cond, ◌&&◌}
+use mathlib.Core.Bool.{Bool, true, cond, ◌&&◌}
 use mathlib.Core.List.{List}
 use lib.Dec.{leb, ltb}
 use lib.ListN.{length, get_or, set, length-set}
 use lib.Seq.{get_or-set_same, get_or-set_other}
 use borrow.Author.Tests.{lt-ltb, le-ltb, ltb-true, lt-leb, le-leb, leb-true}
 use Rattle.kernel.proofs.Cases.{same_or, in-or-out, both-means}
-use Rattle.pipes.specs.Carrying.{smaller_of, ring_place, carried, carried_between, run_carried}
+use Rattle.pipes.specs.Carrying.{smaller_of, ring_place, carried, run_carried}
 
 pub length-carried : (k : ℕ) (s : List ℕ) (q : ℕ) (d : List ℕ) (p : ℕ) → length (carried k s q d p) ≡ length d
 unfolding carried
@@ -77,13 +77,6 @@ carried-off (suc k) s q d p x h =
     get_or-set_other (carried k s q d p) (ring_place (length d) p k) x (get_or s (ring_place (length s) q k) 0) 0 (h k (omega arith))
     ∙ carried-off k s q d p x (λ j l. h j (omega arith))
 
--- whether a run ends within a length, asked of what is left behind its place
-pub room-behind : (n p k : ℕ) → p ≤ n → leb k (n - p) ≡ leb (p + k) n
-room-behind n p k h =
-    in-or-out (n - p) k
-    (λ l. rw (lt-leb k (n - p) l, lt-leb (p + k) n (omega arith)))
-    (λ l. rw (le-leb k (n - p) l, le-leb (p + k) n (omega arith)))
-
 -- a run that ends within a ring ends at a place of it, or at its end, which is its start
 pub place_after : (n p k : ℕ) → p + k ≤ n → p < n → cond (ltb (p + k) n) (p + k) 0 ≡ ring_place n p k
 place_after n p k h l =
@@ -111,9 +104,6 @@ module _ (n : ℕ) (s : List ℕ) (q : ℕ) (d : List ℕ) (p : ℕ) where
         so_far = refl;
       }
 
-  pub run_length : (j : ℕ) (e : List ℕ) → OnRun n j s q d p e → length e ≡ length d
-  run_length j e o = ap length o.so_far ∙ length-carried j s q d p
-
   pub run-goes-on : (j : ℕ) (e : List ℕ) → OnRun n j s q d p e → j < n → OnRun n (j + 1) s q d p (set e (p + j) (get_or s (q + j) 0))
   run-goes-on j e o l =
       record {
@@ -122,15 +112,6 @@ module _ (n : ℕ) (s : List ℕ) (q : ℕ) (d : List ℕ) (p : ℕ) where
         out_of = o.out_of;
         so_far = carried-next j s q d p e (omega (arith, o.into)) (omega (arith, o.out_of)) o.so_far;
       }
-
-  pub run_ends : (j : ℕ) (e : List ℕ) → OnRun n j s q d p e → n ≤ j → e ≡ run_carried n s q d p
-  run_ends j e o l =
-      let end : j ≡ n = omega (arith, o.upto) in
-      rw (le-leb (p + n) (length d) o.into, le-leb (q + n) (length s) o.out_of, ← end) o.so_far
-
-  -- the run passes an end
-  pub run-refused : (x y r : Bool) → r ≡ x && y → x ≡ leb (p + n) (length d) → y ≡ leb (q + n) (length s) → r ≡ false → d ≡ run_carried n s q d p
-  run-refused x y r e a b f = rw (← a, ← b, ← e, f)
 
 -- the smaller of two is at most each, and above 0 where both are
 pub record Least (a b r : ℕ) : Type 0 where
@@ -207,12 +188,3 @@ module _ (n : ℕ) (s : List ℕ) (q : ℕ) (d : List ℕ) (p : ℕ) where
             out_of = yr;
             so_far = run ∙ rw (o.so_far, o.into, o.out_of) (sym (carried-more k r s q d p));
           }
-
-    pub way-ends : n ≤ k → p < length d → q < length s → e ≡ carried_between n s q d p
-    way-ends l h g =
-        let end : k ≡ n = omega (arith, o.upto) in
-        rw (lt-ltb p (length d) h, lt-ltb q (length s) g, ← end) o.so_far
-
-  -- there is no such place
-  pub way-refused : (r : Bool) → r ≡ ltb p (length d) && ltb q (length s) → r ≡ false → d ≡ carried_between n s q d p
-  way-refused r e f = rw (← e, f)

@@ -1,12 +1,12 @@
 -- What is known of a pipe where a transfer goes ahead, and that the code's way is then the meaning's.
 use Prim.Native.Nat.{ℕ, ◌-◌, ◌≤◌, ◌<◌}
 use native.Mathlib.Omega.{arith}
-use mathlib.Core.Path.{◌≡◌, sym, ◌∙◌}
-use mathlib.Core.Bool.{Bool, true, false, not}
+use mathlib.Core.Path.{◌≡◌, ◌∙◌}
+use mathlib.Core.Bool.{true}
 use mathlib.Core.List.{List}
 use lib.Dec.{eqb, leb, ltb}
 use lib.ListN.{length}
-use borrow.Author.Tests.{eqb-true, ltb-true, leb-true, lt-ltb, le-ltb, not-true, not-false}
+use borrow.Author.Tests.{eqb-true, ltb-true, leb-true, lt-ltb, le-ltb}
 use Rattle.kernel.proofs.Cases.{split, in-or-out, both-means}
 use Rattle.library.specs.Ring.{positions_fit}
 use Rattle.library.proofs.RingLaws.{Fitting, fit-means}
@@ -16,7 +16,7 @@ use Rattle.pipes.specs.declared.transfer.Moved.{Moved}
 use Rattle.pipes.specs.Table.{pipe_at}
 use Rattle.pipes.specs.Carrying.{smaller_of, carried, carried_between}
 use Rattle.pipes.specs.Judging.{is_there, length_fits, pipe_refusal}
-use Rattle.pipes.specs.Transfer.{goes_ahead, stopped, gone_on, filled, drained, write_answer, buffer_written, read_answer, target_read}
+use Rattle.pipes.specs.Transfer.{goes_ahead, gone_on, filled, drained, write_answer, buffer_written, read_answer, target_read}
 use Rattle.pipes.proofs.CarryingLaws.{least}
 
 -- a call that nothing refuses
@@ -69,28 +69,12 @@ carried-in k s d q h l =
     in-or-out 0 (length d) (λ w. rw (lt-ltb q (length s) l, lt-ltb 0 (length d) w))
     (λ w. let none : k ≡ 0 = omega arith in rw (lt-ltb q (length s) l, le-ltb 0 (length d) w, none))
 
--- ---- in the form in which code meets them: r is the code's test
-
-pub goes_on : (t : Pipes) (i n : ℕ) (r : Bool) → r ≡ goes_ahead t i n → not r ≡ false → goes_ahead t i n ≡ true
-goes_on t i n r e h = sym e ∙ not-false r h
+-- ---- in the form in which code meets them
 
 pub at-work : (t : Pipes) (i n : ℕ) → goes_ahead t i n ≡ true → (p : Pipe) → p ≡ pipe_at t i → Fitting p.positions n × (1 ≤ n) × (n ≤ 256)
 at-work t i n h p e = let g = (goes-means t i n h).0 in rw e (g.fits, g.some, g.long)
 
--- a transfer that does not go ahead leaves all
-module _ (t : Pipes) (i : ℕ) (b l : List ℕ) (r : Bool) (er : r ≡ goes_ahead t i (length b)) (h : not r ≡ true) (m : Moved) (em : m ≡ stopped t i (length b)) where
-  halted : goes_ahead t i (length b) ≡ false
-  halted = sym er ∙ not-true r h
-
-  pub write-stops : (m ≡ write_answer t i (length b) (length l)) × (b ≡ buffer_written t i b l)
-  unfolding write_answer buffer_written
-  write-stops = (rw halted em, rw halted)
-
-  pub read-stops : (m ≡ read_answer t i (length b) (length l)) × (l ≡ target_read t i b l)
-  unfolding read_answer target_read
-  read-stops = (rw halted em, rw halted)
-
--- one that does, with k bytes, leaves e of what it writes to
+-- a transfer that goes ahead, with k bytes, leaves e of what it writes to
 module _ (t : Pipes) (i : ℕ) (b l : List ℕ) (h : goes_ahead t i (length b) ≡ true) (p : Pipe) (ep : p ≡ pipe_at t i) (k : ℕ) (e : List ℕ) (m : Moved) where
   pub write_goes : k ≡ smaller_of (length l) (length b - p.positions.count) → e ≡ carried_between k l 0 b p.positions.write
       → m ≡ gone_on t i (filled p.positions (length b) k) k → (m ≡ write_answer t i (length b) (length l)) × (e ≡ buffer_written t i b l)

@@ -24,6 +24,7 @@ fn length_fits(n: usize) -> bool
 }
 
 // The refusal of a call on pipe i with a buffer of n bytes, or 0.
+#[tactic(auto, unfolding(crate::specs::Judging::pipe_refusal))]
 pub fn judge(t: Pipes, i: u32, n: usize) -> u8
     ensures { result ≡ pipe_refusal t i n }
 {

@@ -6,13 +6,14 @@ use crate::judging::{MOST_PIPES, judge};
 use crate::table::{Pipe, Pipes, blank_pipe, pipe_at, set_pipe};
 
 // A table, and 0 or the refusal that left it as it was.
-#[derive(Drop)]
+#[derive(Clone, Copy)]
 pub struct Opened {
     pub pipes: Pipes,
     pub code: u8,
 }
 
 // So many empty pipes: chPipeObjectInit. Refused with 14 above four.
+#[tactic(auto, unfolding(crate::specs::Opening::pipes_fresh))]
 pub fn make_pipes(t: Pipes, number: u32) -> Opened
     ensures { result ≡ pipes_fresh t number }
 {
@@ -30,6 +31,7 @@ pub fn make_pipes(t: Pipes, number: u32) -> Opened
 }
 
 // Empties a pipe, returns both places to 0 and sets its reset state: chPipeReset.
+#[tactic(auto, unfolding(crate::specs::Opening::pipe_reset))]
 pub fn reset_pipe(t: Pipes, i: u32, n: usize) -> Opened
     ensures { result ≡ pipe_reset t i n }
 {
@@ -49,6 +51,7 @@ pub fn reset_pipe(t: Pipes, i: u32, n: usize) -> Opened
 }
 
 // Ends a pipe's reset state: chPipeResume.
+#[tactic(auto, unfolding(crate::specs::Opening::pipe_resumed))]
 pub fn resume_pipe(t: Pipes, i: u32, n: usize) -> Opened
     ensures { result ≡ pipe_resumed t i n }
 {

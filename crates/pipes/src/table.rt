@@ -6,7 +6,7 @@ ghost use Rattle.pipes.specs.Table.{blank_pipe, pipe_in, with_pipe};
 use library::ring::Positions;
 
 #[repr(C)]
-#[derive(Drop)]
+#[derive(Clone, Copy)]
 pub struct Pipe {
     pub positions: Positions,
     // any value but 0 is the reset state
@@ -14,7 +14,7 @@ pub struct Pipe {
 }
 
 #[repr(C)]
-#[derive(Drop)]
+#[derive(Clone, Copy)]
 pub struct Pipes {
     pub pipes: [Pipe; 4],
     // how many there are

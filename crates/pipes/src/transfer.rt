@@ -17,7 +17,7 @@ use kernel::numbers::WAS_RESET;
 use library::ring::Positions;
 
 // What a transfer leaves of the table, its refusal or 0, and the number of bytes moved, or -2.
-#[derive(Drop)]
+#[derive(Clone, Copy)]
 pub struct Moved {
     pub pipes: Pipes,
     pub code: u8,
@@ -25,6 +25,7 @@ pub struct Moved {
 }
 
 // Whether bytes may move: nothing refuses it, and the pipe is not in reset state.
+#[tactic(auto, unfolding(crate::specs::Transfer::goes_ahead))]
 fn goes_ahead(t: Pipes, i: u32, n: usize) -> bool
     ensures { result ≡ goes_ahead t i n }
 {
@@ -34,6 +35,7 @@ fn goes_ahead(t: Pipes, i: u32, n: usize) -> bool
 }
 
 // The answer where none may: the refusal, or -2.
+#[tactic(auto, unfolding(crate::specs::Transfer::stopped))]
 fn stop(t: Pipes, i: u32, n: usize) -> Moved
     ensures { result ≡ stopped t i n }
 {
@@ -46,6 +48,7 @@ fn stop(t: Pipes, i: u32, n: usize) -> Moved
 }
 
 // The answer where k bytes moved and pipe i stands at these positions then.
+#[tactic(auto, unfolding(crate::specs::Transfer::gone_on))]
 fn go_on(t: Pipes, i: u32, q: Positions, k: u16) -> Moved
     ensures { result ≡ gone_on t i q k }
 {
@@ -62,6 +65,7 @@ fn go_on(t: Pipes, i: u32, q: Positions, k: u16) -> Moved
 }
 
 // Copies what is offered, as far as there is room, from the write place on.
+#[tactic(auto, unfolding(crate::specs::Transfer::write_answer, crate::specs::Transfer::buffer_written))]
 pub fn write_pipe(t: Pipes, i: u32, buffer: &mut [u8], offered: &[u8]) -> Moved
     ensures answer { result ≡ write_answer t i (length buffer.old) (length offered.now) }
     ensures buffer { buffer.new ≡ buffer_written t i buffer.old offered.now }
@@ -85,6 +89,7 @@ pub fn write_pipe(t: Pipes, i: u32, buffer: &mut [u8], offered: &[u8]) -> Moved
 }
 
 // Copies what is there, as far as the target goes, from the read place on.
+#[tactic(auto, unfolding(crate::specs::Transfer::read_answer, crate::specs::Transfer::target_read))]
 pub fn read_pipe(t: Pipes, i: u32, buffer: &[u8], target: &mut [u8]) -> Moved
     ensures answer { result ≡ read_answer t i (length buffer.now) (length target.old) }
     ensures target { target.new ≡ target_read t i buffer.now target.old }

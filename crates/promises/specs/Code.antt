@@ -4,3 +4,4 @@ pub mod Steps
 pub mod Pipes
 pub mod Traces
 pub mod Listing
+pub mod Compare

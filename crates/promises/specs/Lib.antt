@@ -6,4 +6,4 @@ pub mod Together
 pub mod Kept
 pub mod Meant
 pub mod Top
-pub mod Contracts
+pub mod HostCalls

@@ -34,3 +34,12 @@ pub mod Listing
 pub mod Printing
 pub mod Accounting
 pub mod AllTables
+pub mod Equal
+pub mod Fields
+pub mod Compare
+pub mod Applying
+pub mod Rejoined
+pub mod OneList
+pub mod Lies
+pub mod Typed
+pub mod Saved

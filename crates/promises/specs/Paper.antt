@@ -13,6 +13,9 @@ pub mod Reader
 pub mod Writer
 pub mod Traces
 pub mod Pipes
+pub mod Compare
+pub mod Saved
+pub mod Comparing
 pub mod Boundary
 pub mod Broken
 pub mod Waking

@@ -3,11 +3,13 @@ pub mod Demands
 pub mod RuledOut
 pub mod Traces
 pub mod Pipes
+pub mod Compare
 pub mod Ledgers
 pub mod Signals
 pub mod Causes
 pub mod Wakings
 pub mod Broken
+pub mod Saved
 pub mod Frequency
 pub mod Facts
 pub mod Listing
@@ -22,3 +24,5 @@ pub mod ShownAgain
 pub mod ShownSignals
 pub mod ShownCauses
 pub mod ShownBroken
+pub mod ShownSaved
+pub mod ShownCompare

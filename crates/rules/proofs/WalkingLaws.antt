@@ -35,7 +35,7 @@ use Rattle.rules.proofs.HangingLaws.{bad-agree, used-of-le}
 -- ---- tables
 
 -- entry i of a table
-tabled-at : (f : ℕ → ℕ) (n i : ℕ) → i < n → get_or (tabled f n) i 0 ≡ f i
+pub tabled-at : (f : ℕ → ℕ) (n i : ℕ) → i < n → get_or (tabled f n) i 0 ≡ f i
 unfolding tabled
 tabled-at f zero i h = absurd (not-suc-le-zero h)
 tabled-at f (suc n) zero h = refl

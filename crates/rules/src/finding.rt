@@ -23,7 +23,7 @@ use library::sizes::{Sizes, sizes_fit};
 use library::tables::Tables;
 
 // The first rule that is broken and the row that it concerns; 0 and 0 where none is.
-#[derive(Drop)]
+#[derive(Clone, Copy)]
 pub struct Broken {
     pub rule: u16,
     pub row: u16,
@@ -80,6 +80,7 @@ fn bad_running(threads: [Thread; 16], ready: u16) -> u16
 }
 
 // What was found so far; where that is nothing, a row that breaks the next rule.
+#[tactic(auto, unfolding(crate::specs::Finding::or_else))]
 fn or_else(found: Broken, rule: u16, row: u16) -> Broken
     ensures { result ≡ or_else found rule row }
 {
@@ -94,6 +95,7 @@ fn or_else(found: Broken, rule: u16, row: u16) -> Broken
 }
 
 // The same for the rules 7 to 11, of which each is looked for only where the walk has found that not all records fit.
+#[tactic(auto, unfolding(crate::specs::Finding::or_row))]
 fn or_row(found: Broken, fit: bool, threads: [Thread; 16], z: Sizes) -> Broken
     ensures { result ≡ or_row found fit threads z }
 {
@@ -120,6 +122,7 @@ fn bad_cause(fit: bool, threads: [Thread; 16], z: Sizes) -> u16
 }
 
 // Looks for the first rule that is broken. All are tested, whatever was found: each reads within its table.
+#[tactic(auto, unfolding(crate::specs::Finding::broken))]
 pub fn find_broken(t: Tables, clock: Clock) -> Broken
     ensures { result ≡ broken (opened t) clock }
 {

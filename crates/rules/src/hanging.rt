@@ -7,6 +7,7 @@ use crate::finding::find_broken;
 use kernel::clock::Clock;
 use library::tables::Tables;
 
+#[tactic(auto, unfolding(crate::specs::Hanging::hangs_together))]
 pub fn hangs_together(t: Tables, clock: Clock) -> bool
     ensures { result ≡ hangs_together (opened t) clock }
 {

@@ -1,5 +1,7 @@
 // Tables that hang together: document 01's section of that name, a module for each subject and a function for each sentence.
 // Only rows within the sizes are read.
+#![tactic(auto)]
+
 pub mod finding;
 pub mod hanging;
 pub mod limits;

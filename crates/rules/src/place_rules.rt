@@ -63,6 +63,7 @@ fn place_fits(z: Sizes, p: u16, c: i32, n: u16) -> bool
 }
 
 // The same by the word of those who are queued. Where nobody is and the counter is 0 it fits, in use or not.
+#[tactic(auto, unfolding(kernel::specs::Words::ones_of))]
 fn word_counted(z: Sizes, p: u16, c: i32, word: u16) -> bool
     ensures { result ≡ place_fits z p c (ones_of word) }
 {

@@ -43,6 +43,7 @@ pub fn pool_of(t: Thread) -> u16
 }
 
 // How often each object is listed.
+#[tactic(auto, unfolding(crate::specs::PoolRules::occurrences))]
 fn count_listed(x: Pool) -> [u16; 32]
     ensures { (o : ℕ) → o < 32 → get_or result o 0 ≡ occurrences x o }
 {
@@ -60,6 +61,7 @@ fn count_listed(x: Pool) -> [u16; 32]
 }
 
 // Whether only objects are listed.
+#[tactic(auto, unfolding(crate::specs::PoolRules::entries_fit))]
 fn entries_fit(x: Pool) -> bool
     ensures { result ≡ entries_fit x }
 {
@@ -87,6 +89,7 @@ fn object_fits(mark: u8, n: u16) -> bool
 }
 
 // Whether each object is marked, and is listed as its mark says.
+#[tactic(auto, unfolding(crate::specs::PoolRules::objects_fit))]
 fn objects_fit(x: Pool) -> bool
     ensures { result ≡ objects_fit x }
 {
@@ -117,6 +120,7 @@ fn length_fits(length: u16, c: i32, promised: u16) -> bool
 }
 
 // Whether a pool with this counter and so many promises hangs together.
+#[tactic(auto, unfolding(crate::specs::PoolRules::pool_fits))]
 fn pool_fits(x: Pool, c: i32, promised: u16) -> bool
     ensures { result ≡ pool_fits x c promised }
 {

@@ -106,6 +106,7 @@ fn is_sound(call: Call, z: Sizes) -> bool
     call.object < limit && (1 <= call.timeout && (keeps || call.operand == 0))
 }
 
+#[tactic(auto, unfolding(crate::specs::RowRules::call_fits))]
 pub fn call_fits(t: Thread, z: Sizes) -> bool
     ensures { result ≡ call_fits t z }
 {
@@ -156,6 +157,7 @@ fn wait_place(kind: u16, object: u16) -> u16
 }
 
 // A ready thread waits nowhere; any other waits as its call does.
+#[tactic(auto, unfolding(crate::specs::RowRules::wait_fits))]
 pub fn wait_fits(t: Thread) -> bool
     ensures { result ≡ wait_fits t }
 {
@@ -168,6 +170,7 @@ pub fn wait_fits(t: Thread) -> bool
 }
 
 // Ticks are left exactly if the thread waits for a finite time, and no more than its call's timeout.
+#[tactic(auto, unfolding(crate::specs::RowRules::ticks_fit))]
 pub fn ticks_fit(t: Thread) -> bool
     ensures { result ≡ ticks_fit t }
 {
@@ -200,6 +203,7 @@ pub fn none_pending(t: Thread) -> bool
     t.state != AWAITING || t.pending & t.awaited == 0
 }
 
+#[tactic(auto, unfolding(crate::specs::RowRules::flags_fit))]
 fn flags_fit(t: Thread) -> bool
     ensures { result ≡ flags_fit t }
 {
@@ -214,6 +218,7 @@ pub fn cause_fits(t: Thread) -> bool
 }
 
 // Whether a thread's record hangs together by itself.
+#[tactic(auto, unfolding(crate::specs::RowRules::row_fits))]
 pub fn row_fits(t: Thread, z: Sizes) -> bool
     ensures { result ≡ row_fits t z }
 {

@@ -16,7 +16,7 @@ use library::sizes::Sizes;
 
 // Whether each record hangs together by itself; who is ready, who waits at each place, who is suspended on each reference, and to whom
 // each pool has promised an object.
-#[derive(Drop)]
+#[derive(Clone, Copy)]
 pub struct Walked {
     pub rows: bool,
     pub ready: u16,

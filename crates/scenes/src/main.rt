@@ -2,11 +2,17 @@
 // with the rule, `data/` as traces, under their titles.
 // A line for each step: its number, code, running thread, woken mask, finished mask, message and datum.
 // `stdout` holds what the papers' words give.
+#![tactic(auto)]
+
+use std::io;
 use text::files::show_all;
 use text::views::View;
 
-fn main() {
+fn main(rt: HostRuntime) -> io::Result<()> {
+    let mut out = rt.stdout();
     show_all(
+        &rt,
+        &mut out,
         b"six lines.trace\n\
         highest, not longest.trace\n\
         a timeout gives its place back.trace\n\
@@ -26,5 +32,6 @@ fn main() {
         binary signal.trace\n\
         signal at the top.trace\n",
         View::Answers,
-    );
+    )?;
+    Ok(())
 }

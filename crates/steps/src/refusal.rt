@@ -148,6 +148,7 @@ fn first_failing(
 }
 
 // The refusal number of a step, or 0. All tests are made, whatever the others say: each reads within its table.
+#[tactic(auto, unfolding(crate::specs::Refusal::refusal_of, kernel::specs::Waiters::first_ready))]
 pub fn refuse(t: Tables, clock: Clock, s: Step) -> u8
     ensures { result ≡ refusal_of (opened t) clock s }
 {

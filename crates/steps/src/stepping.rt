@@ -21,7 +21,7 @@ use library::tables::{Plant, Tables, close, open, set_kernel};
 
 // A step's result. The masks have bit i for thread i.
 #[repr(C)]
-#[derive(Drop)]
+#[derive(Clone, Copy)]
 pub struct Outcome {
     pub code: u8,
     pub running: u8,
@@ -31,7 +31,7 @@ pub struct Outcome {
     pub datum: u32,
 }
 
-#[derive(Drop)]
+#[derive(Clone, Copy)]
 pub struct Stepped {
     pub tables: Tables,
     pub clock: Clock,
@@ -45,6 +45,7 @@ fn one_if(b: bool) -> u16
 }
 
 // The flags as a word, flag i at bit i.
+#[tactic(auto, unfolding(crate::specs::Stepping::mask_of))]
 fn mask_of(flags: [bool; 16]) -> u16
     ensures { result ≡ mask_of flags }
 {
@@ -71,6 +72,7 @@ fn answer_of(k: Kernel, caller: u8) -> Answer
 }
 
 // The result of an accepted step, once it has settled.
+#[tactic(auto, unfolding(crate::specs::Stepping::outcome_of))]
 fn outcome_of(k: Kernel, caller: u8) -> Outcome
     ensures { result ≡ outcome_of k caller }
 {
@@ -126,6 +128,7 @@ fn budget_of(n: u16) -> u16
 }
 
 // An accepted step that has settled: its tables, its clock and its result.
+#[tactic(auto, unfolding(crate::specs::Stepping::done_with))]
 fn end_step(p: Plant, clock: Clock, s: Step) -> Stepped
     ensures { result ≡ done_with p clock s }
 {
@@ -190,6 +193,7 @@ fn running_at_refusal(running: u8, code: u8) -> u8
 }
 
 // A refused step: the very tables and clock that came in.
+#[tactic(auto, unfolding(crate::specs::Stepping::refused_with, kernel::specs::Waiters::first_ready))]
 fn refuse_step(tables: Tables, clock: Clock, code: u8) -> Stepped
     ensures { result ≡ refused_with tables clock (opened tables) code }
 {
@@ -204,6 +208,7 @@ fn refuse_step(tables: Tables, clock: Clock, code: u8) -> Stepped
 }
 
 // One step of a thread, an interrupt or the tick, on any tables.
+#[tactic(auto, unfolding(crate::specs::Stepping::stepped, library::specs::Acting::acted))]
 pub fn step(tables: Tables, clock: Clock, s: Step) -> Stepped
     ensures { result ≡ stepped tables clock s }
 {

@@ -19,7 +19,3 @@ read_more zero s at next e h = omega arith
 read_more (suc n) s at next e h =
     let less : suc n - 1 ≡ n = omega arith in
     rw less (ap (place_read n s) e)
-
-pub read_none : (n : ℕ) (s : List ℕ) (at p : ℕ) → n ≡ 0 → place_read n s at ≡ p → at ≡ p
-unfolding place_read
-read_none n s at p none e = sym (ap (λ (m : ℕ). place_read m s at) none) ∙ e

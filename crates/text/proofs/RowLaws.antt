@@ -1,11 +1,9 @@
 -- Items in the buffer, as the code meets them.
-use Rattle.std.proofs.Common.{◌≡◌, ℕ, ◌+◌, ◌<◌, ◌≤◌, Bool, true, false, cond, ltb, List, [], ◌∷◌, ◌++◌, length, get_or, take, ℤ, pos, nat_abs, sym, refl, ap, ◌∙◌, subst, append_assoc, append-nil, add-one, arith, take_all, take-suc, ltb-true}
+use Rattle.std.proofs.Common.{◌≡◌, ℕ, ◌+◌, ◌<◌, ◌≤◌, Bool, true, false, cond, List, [], ◌∷◌, ◌++◌, length, get_or, take, ℤ, pos, nat_abs, sym, refl, ap, ◌∙◌, subst, append_assoc, append-nil, add-one, arith, take-suc}
 use Rattle.kernel.specs.Walk.{bit, count_of}
 use lib.Signed.{lt_z}
 use Rattle.text.specs.declared.items.Item.{Item}
-use Rattle.kernel.proofs.Cases.{split}
 use Rattle.text.specs.Put.{Put}
-use Rattle.text.specs.Tables.{least}
 use Rattle.text.specs.Decimal.{decimal}
 use Rattle.text.specs.Rows.{signed_text, field, fields, rows}
 use Rattle.text.proofs.PutLaws.{then, nothing}
@@ -14,11 +12,6 @@ use Rattle.text.proofs.PutLaws.{then, nothing}
 pub sign_below : {l k : List ℕ} {at t : ℕ} (m : ℤ) (size : ℕ) → size ≡ nat_abs m → lt_z m (pos 0) ≡ true → Put l k at t (45 ∷ decimal size)
     → Put l k at t (signed_text m)
 sign_below {l} {k} {at} {t} m size e b p =
-    subst (λ (c : Bool). Put l k at t (cond c (45 ∷ decimal (nat_abs m)) (decimal (nat_abs m)))) (sym b) (rw e at p)
-
-pub sign-not-below : {l k : List ℕ} {at t : ℕ} (m : ℤ) (size : ℕ) → size ≡ nat_abs m → lt_z m (pos 0) ≡ false → Put l k at t (decimal size)
-    → Put l k at t (signed_text m)
-sign-not-below {l} {k} {at} {t} m size e b p =
     subst (λ (c : Bool). Put l k at t (cond c (45 ∷ decimal (nat_abs m)) (decimal (nat_abs m)))) (sym b) (rw e at p)
 
 fields-append : (a b : List Item) → fields (a ++ b) ≡ fields a ++ fields b
@@ -34,9 +27,6 @@ fields-more {l} {m} {k} {at} {r} {t} xs i d h p q =
     ap (λ (y : List ℕ). fields (take i xs) ++ y) (sym (append-nil (field (get_or xs i d)))) ∙ sym (fields-append (take i xs) last)
     ∙ ap fields (sym (take-suc xs i d h)) ∙ ap (λ (n : ℕ). fields (take n xs)) (sym (add-one i)) in
     subst (λ (y : List ℕ). Put l k at t y) e (then p q)
-
-pub fields-all : {l m : List ℕ} {at r : ℕ} (xs : List Item) (i : ℕ) → length xs ≤ i → Put l m at r (fields (take i xs)) → Put l m at r (fields xs)
-fields-all {l} {m} {at} {r} xs i h p = subst (λ (ys : List Item). Put l m at r (fields ys)) (take_all i xs h) p
 
 -- one text more
 pub rows_more : {l m k : List ℕ} {at r t : ℕ} (f : ℕ → List ℕ) (i : ℕ) → Put l m at r (rows i f) → Put m k r t (f i) → Put l k at t (rows (i + 1) f)
@@ -64,10 +54,3 @@ count-more f i n b e h = rw (add-one i, e, h)
 pub bit-small : (b : Bool) → bit b ≤ 1
 bit-small true = omega arith
 bit-small false = omega arith
-
-pub count-all : (f : ℕ → Bool) (i k n : ℕ) → i ≤ k → k ≤ i → n ≡ count_of f i → n ≡ count_of f k
-count-all f i k n h g e = let same : i ≡ k = omega arith in e ∙ ap (count_of f) same
-
--- no more rows than the table has
-pub least-most : (n most : ℕ) → least n most ≤ most
-least-most n most = split (ltb n most) (λ t. rw t (let h : n < most = ltb-true n most t in omega arith)) (λ e. rw e (omega arith))

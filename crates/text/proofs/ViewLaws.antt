@@ -1,9 +1,7 @@
 -- The records' texts, one after the other, are the view's; and the laws of one record and of the loop, as the code meets them.
-use Rattle.std.proofs.Common.{◌≡◌, ℕ, zero, suc, ◌+◌, ◌*◌, ◌<◌, ◌≤◌, eqb, ◌≢◌, List, [], ◌++◌, length, get_or, take, drop, refl, ap, ◌∙◌, subst, append-nil, arith, eq-eqb, ne_eqb, eqb-true}
+use Rattle.std.proofs.Common.{◌≡◌, ℕ, zero, suc, ◌+◌, ◌*◌, ◌<◌, ◌≤◌, eqb, ◌≢◌, List, [], ◌++◌, length, get_or, take, drop, refl, ap, subst, append-nil, arith, eq-eqb, ne_eqb, eqb-true}
 use borrow.Author.Tests.{eqb-false}
 use Rattle.kernel.proofs.Cases.{split}
-use Rattle.kernel.proofs.Lengths.{read_past}
-use Rattle.library.specs.declared.sizes.Sizes.{Sizes}
 use Rattle.library.specs.Sizes.{no_sizes}
 use Rattle.trace.specs.declared.decoding.Read.{Read}
 use Rattle.trace.specs.declared.decoding.Found.TheVariants as found
@@ -19,29 +17,9 @@ use Rattle.text.specs.declared.views.Shown.{Shown}
 use Rattle.text.specs.declared.views.Listing.{Listing}
 use Rattle.text.specs.Put.{Put}
 use Rattle.text.specs.Rows.{rows}
-use Rattle.text.specs.Tables.{least}
-use Rattle.text.specs.Views.{counts, rows_in, parts_text, view_parts, fresh_seen, seen_after, records_text, reading_text, view_text}
+use Rattle.text.specs.Views.{parts_text, view_parts, fresh_seen, seen_after, records_text, reading_text, view_text}
 use Rattle.text.specs.Views.{Record, seen_behind, shown_parts, stop_text, record_of, text_from, Listed}
 use Rattle.text.proofs.PutLaws.{then, whole-text}
-
--- how many rows a part has
-pub rows-read : (z : Sizes) (part t s q r m p : ℕ) → t ≡ least z.threads 16 → s ≡ least z.semaphores 16 → q ≡ least z.queues 8
-    → r ≡ least z.references 8 → m ≡ least z.mailboxes 4 → p ≡ least z.pools 4 → get_or (counts t s q r m p) part 0 ≡ rows_in z part
-unfolding rows_in
-rows-read z part t s q r m p a b c d e f =
-    ap (λ (x : ℕ). get_or (counts x s q r m p) part 0) a ∙ ap (λ (x : ℕ). get_or (counts (least z.threads 16) x q r m p) part 0) b
-    ∙ ap (λ (x : ℕ). get_or (counts (least z.threads 16) (least z.semaphores 16) x r m p) part 0) c
-    ∙ ap (λ (x : ℕ). get_or (counts (least z.threads 16) (least z.semaphores 16) (least z.queues 8) x m p) part 0) d
-    ∙ ap (λ (x : ℕ). get_or (counts (least z.threads 16) (least z.semaphores 16) (least z.queues 8) (least z.references 8) x p) part 0) e
-    ∙ ap (λ (x : ℕ). get_or (counts (least z.threads 16) (least z.semaphores 16) (least z.queues 8) (least z.references 8) (least z.mailboxes 4) x) part 0) f
-
-pub rows-past : (z : Sizes) (part : ℕ) → 20 ≤ part → 0 ≡ rows_in z part
-unfolding rows_in
-rows-past z part h =
-    read_past
-    (counts (least z.threads 16) (least z.semaphores 16) (least z.queues 8) (least z.references 8) (least z.mailboxes 4)
-    (least z.pools 4))
-    20 part refl h 0
 
 -- ---- all records
 

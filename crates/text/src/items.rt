@@ -17,7 +17,7 @@ use library::tables::{Mailbox, Pool, blank_mailbox, blank_pool};
 
 // What stands in a row behind its word: nothing, the line's end, a dash, a number without a blank before it, a number, a long one, one
 // with its sign, one with a letter before it, or the word of a cause.
-#[derive(Drop)]
+#[derive(Clone, Copy)]
 pub enum Item {
     Nothing,
     End,
@@ -31,7 +31,7 @@ pub enum Item {
 }
 
 // A row: its word, filled up with zeros; up to fifteen items; n things that it lists behind them, of a mailbox or of a pool; and its end.
-#[derive(Drop)]
+#[derive(Clone, Copy)]
 pub struct Line {
     pub word: [u8; 9],
     pub a: Item,
@@ -189,6 +189,7 @@ fn digit(n: u64) -> u8
     48 + (n % 10) as u8
 }
 
+#[tactic(auto, unfolding(crate::specs::Decimal::decimal))]
 fn put_number(out: &mut [u8], at: usize, n: u64) -> usize
     ensures { Put out.old out.new at result (decimal n) }
 {
@@ -236,6 +237,7 @@ fn put_letter(out: &mut [u8], at: usize, b: u8) -> usize
     if b == 0 { at } else { put_byte(out, at, b) }
 }
 
+#[tactic(auto, unfolding(crate::specs::Rows::word_text))]
 fn put_letters(out: &mut [u8], at: usize, word: [u8; 9]) -> usize
     ensures { Put out.old out.new at result (word_text word) }
 {
@@ -306,6 +308,7 @@ fn cell(b: Mailbox, p: Pool, which: u8, j: u8) -> Item
 }
 
 // The n things that a row lists.
+#[tactic(auto, unfolding(crate::specs::Rows::rows))]
 fn put_cells(out: &mut [u8], at: usize, b: Mailbox, p: Pool, which: u8, n: u8) -> usize
     ensures { Put out.old out.new at result (rows n (λ j. field (cell_of b p which j))) }
 {
@@ -319,6 +322,7 @@ fn put_cells(out: &mut [u8], at: usize, b: Mailbox, p: Pool, which: u8, n: u8) -
 }
 
 // A row: its word, its items, what it lists, and its end.
+#[tactic(auto, unfolding(crate::specs::Rows::row_text))]
 pub(crate) fn put_row(out: &mut [u8], at: usize, r: Line) -> usize
     ensures { Put out.old out.new at result (row_text r) }
 {

@@ -1,13 +1,14 @@
-// A view of a trace, written to standard output.
+// A view of a trace, written to a sink.
 // What is handed to the write call is the buffer up to its end, and what stands there is the contracts': a record's text is put behind what
 // was there (`list_next`), and the records' texts are the view's (`view-text`, proofs/ViewLaws.antt). Outside every statement stay that the
 // write call writes what it is handed, and here the lines that hand it over: `write_out`, where it is called, and the end 0 behind it.
-ghost use Rattle.std.specs.Prelude.{◌≡◌};
+ghost use Rattle.std.specs.Prelude.{◌≡◌, IfOk};
 ghost use Rattle.text.specs.Ending.{place_read};
 
 use crate::views::{Listing, View, fresh_seen, list_next, parts_of, put_parts};
-use libc::STDOUT_FILENO;
 use library::sizes::no_sizes;
+use std::io;
+use std::io::Write;
 
 // More reads than the longest trace has records.
 const READS: u32 = 5000;
@@ -15,28 +16,32 @@ const READS: u32 = 5000;
 const NEARLY_FULL: usize = 32768;
 
 // A text that filled the buffer may lack its end, and is not written: there is none so long.
-fn write_out(out: &[u8], end: usize) -> usize
-    ensures { result ≡ 0 }
+// The only error is the sink's, of its write; it leaves the buffer as it was, of which a part may have been written.
+fn write_out<W: Write>(sink: &mut W, out: &[u8], end: usize) -> io::Result<usize>
+    ensures { IfOk result (λ r. r ≡ 0) }
 {
     if end < out.len() {
-        io::write_all(STDOUT_FILENO, &out[..end]);
+        sink.write_all(&out[..end])?;
     }
-    0
+    Ok(0)
 }
 
-fn write_if_full(out: &[u8], end: usize) -> usize {
+fn write_if_full<W: Write>(sink: &mut W, out: &[u8], end: usize) -> io::Result<usize> {
     if NEARLY_FULL < end {
-        write_out(out, end)
+        write_out(sink, out, end)
     } else {
-        end
+        Ok(end)
     }
 }
 
 // Prints a view of a trace. The answer is the place in the trace where reading ended: its end, or the bad record.
-pub fn print_trace(s: &[u8], view: View) -> usize
-    ensures { result ≡ place_read 5000 s.now 0 }
+// The only error is the sink's, of the write that failed, and the printing ends with it; it leaves the trace, which is only lent, as it was,
+// and of the text a first part written.
+#[tactic(auto, unfolding(crate::specs::Ending::place_read))]
+pub fn print_trace<W: Write>(sink: &mut W, s: &[u8], view: View) -> io::Result<usize>
+    ensures { IfOk result (λ r. r ≡ place_read 5000 s.now 0) }
 {
-    let mut space = io::large_buffer();
+    let mut space = [0u8; 65536];
     let out: &mut [u8] = &mut space;
     let v = parts_of(view);
     let fresh = fresh_seen(no_sizes());
@@ -50,13 +55,13 @@ pub fn print_trace(s: &[u8], view: View) -> usize
     while 0 < left {
         let at = x.at;
         x = list_next(out, s, x, READS - left, v);
-        x.end = write_if_full(out, x.end);
+        x.end = write_if_full(sink, out, x.end)?;
         if x.at == at {
             left = 0;
         } else {
             left -= 1;
         }
     }
-    write_out(out, x.end);
-    x.at
+    write_out(sink, out, x.end)?;
+    Ok(x.at)
 }

@@ -54,6 +54,7 @@ fn count_marks(p: Pool, mark: u8) -> u32
 }
 
 // Object i of all pools, 32 a pool; no row if it is not out.
+#[tactic(auto, unfolding(crate::specs::Sums::object_row))]
 fn object_row(a: Account, t: Tables, i: u8) -> Line
     ensures { result ≡ object_row a t i }
 {
@@ -76,6 +77,7 @@ fn object_row(a: Account, t: Tables, i: u8) -> Line
     }
 }
 
+#[tactic(auto, unfolding(crate::specs::Sums::mailbox_sums))]
 fn mailbox_sums(a: Account, t: Tables, i: u8) -> Line
     ensures { result ≡ mailbox_sums a t i }
 {
@@ -96,6 +98,7 @@ fn mailbox_sums(a: Account, t: Tables, i: u8) -> Line
     )
 }
 
+#[tactic(auto, unfolding(crate::specs::Sums::pool_sums))]
 fn pool_sums(a: Account, t: Tables, i: u8) -> Line
     ensures { result ≡ pool_sums a t i }
 {
@@ -114,6 +117,7 @@ fn pool_sums(a: Account, t: Tables, i: u8) -> Line
 }
 
 // Row i of an account.
+#[tactic(auto, unfolding(crate::specs::Sums::sum_row))]
 pub(crate) fn sum_row(a: Account, t: Tables, part: u8, i: u8) -> Line
     ensures { result ≡ sum_row a t part i }
 {

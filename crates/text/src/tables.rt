@@ -68,6 +68,7 @@ fn waits_at(state: u16, place: u16) -> Item
 }
 
 // What a thread waits for, its unfinished call, its last answer, and the cause and the step of its last waking.
+#[tactic(auto, unfolding(crate::specs::Tables::thread_row))]
 fn thread_row(i: u8, t: Thread) -> Line
     ensures { result ≡ thread_row i t }
 {
@@ -110,6 +111,7 @@ fn reset_of(n: u16) -> u32
 }
 
 // A mailbox's positions, its reset state, who waits, and its slots.
+#[tactic(auto, unfolding(crate::specs::Tables::mailbox_row))]
 fn mailbox_row(t: Tables, i: u8) -> Line
     ensures { result ≡ mailbox_row t i }
 {
@@ -134,6 +136,7 @@ fn mailbox_row(t: Tables, i: u8) -> Line
 }
 
 // A pool's counter and free list.
+#[tactic(auto, unfolding(crate::specs::Tables::free_row))]
 fn free_row(n: u8, p: Pool, count: i32) -> Line
     ensures { result ≡ free_row n p count }
 {
@@ -154,6 +157,7 @@ fn free_row(n: u8, p: Pool, count: i32) -> Line
 }
 
 // And its marks.
+#[tactic(auto, unfolding(crate::specs::Tables::marks_row))]
 fn marks_row(n: u8, p: Pool) -> Line
     ensures { result ≡ marks_row n p }
 {
@@ -165,6 +169,7 @@ fn marks_row(n: u8, p: Pool) -> Line
 }
 
 // Row i of the pools, two a pool.
+#[tactic(auto, unfolding(crate::specs::Tables::pool_row))]
 fn pool_row(t: Tables, i: u8) -> Line
     ensures { result ≡ pool_row t i }
 {
@@ -193,6 +198,7 @@ fn word_place(part: u8, i: u8) -> u16
 }
 
 // Row i of the words.
+#[tactic(auto, unfolding(crate::specs::Tables::word_row))]
 pub(crate) fn word_row(w: Words, part: u8, i: u8) -> Line
     ensures { result ≡ word_row w part i }
 {
@@ -210,6 +216,7 @@ pub(crate) fn word_row(w: Words, part: u8, i: u8) -> Line
 }
 
 // Row i of a table.
+#[tactic(auto, unfolding(crate::specs::Tables::table_row))]
 pub(crate) fn table_row(t: Tables, part: u8, i: u8) -> Line
     ensures { result ≡ table_row t part i }
 {

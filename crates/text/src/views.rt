@@ -45,7 +45,7 @@ const WHY_HEAD: u8 = 21;
 
 // What is printed: a line for each step, these with all tables, a line for each waking, or the account at the end; and without a heading a
 // line for each step that has its message and datum too.
-#[derive(Drop)]
+#[derive(Clone, Copy)]
 pub enum View {
     Lines,
     AllTables,
@@ -55,7 +55,7 @@ pub enum View {
 }
 
 // A view: from which part on and how many stand before all records, behind each step's, and at the end.
-#[derive(Drop)]
+#[derive(Clone, Copy)]
 pub struct Parts {
     pub head: u8,
     pub heads: u8,
@@ -67,7 +67,7 @@ pub struct Parts {
 
 // What is known behind a record: its number, the step, the threads that it found, its result, and the tables, the clock and the account
 // after it.
-#[derive(Drop)]
+#[derive(Clone, Copy)]
 pub struct Seen {
     pub number: u32,
     pub step: Step,
@@ -79,7 +79,7 @@ pub struct Seen {
 }
 
 // A trace under way: what is known behind the last record, the place in the trace, and the place in the buffer.
-#[derive(Drop)]
+#[derive(Clone, Copy)]
 pub struct Listing {
     pub seen: Seen,
     pub at: usize,
@@ -135,6 +135,7 @@ pub(crate) fn parts_of(view: View) -> Parts
 
 // The waking of thread i, if the step has woken it. It waited in the step's own call, if it is the caller, else in the one that its
 // record had kept.
+#[tactic(auto, unfolding(crate::specs::Views::waking_row))]
 fn waking_row(x: Seen, i: u8) -> Line
     ensures { result ≡ waking_row x i }
 {
@@ -159,6 +160,7 @@ fn waking_row(x: Seen, i: u8) -> Line
 }
 
 // A step's line, with its message and datum or without them.
+#[tactic(auto, unfolding(crate::specs::Views::step_line))]
 fn step_line(number: u32, o: Outcome, message: Item, datum: Item) -> Line
     ensures { result ≡ step_line number o message datum }
 {
@@ -174,6 +176,7 @@ fn step_line(number: u32, o: Outcome, message: Item, datum: Item) -> Line
 }
 
 // A row of a step: its line, its answer, the clock, the number of accepted steps, its line with its answer, or a waking.
+#[tactic(auto, unfolding(crate::specs::Views::step_row))]
 fn step_row(x: Seen, part: u8, i: u8) -> Line
     ensures { result ≡ step_row x part i }
 {
@@ -198,6 +201,7 @@ fn step_row(x: Seen, part: u8, i: u8) -> Line
 }
 
 // Row i of a part.
+#[tactic(auto, unfolding(crate::specs::Views::row_of))]
 fn row_of(x: Seen, part: u8, i: u8) -> Line
     ensures { result ≡ row_of x part i }
 {
@@ -219,6 +223,7 @@ fn row_of(x: Seen, part: u8, i: u8) -> Line
 }
 
 // What stands before a part's rows.
+#[tactic(auto, unfolding(crate::specs::Views::head_text))]
 fn put_head(out: &mut [u8], at: usize, part: u8) -> usize
     ensures { Put out.old out.new at result (head_text part) }
 {
@@ -233,6 +238,7 @@ fn put_head(out: &mut [u8], at: usize, part: u8) -> usize
 }
 
 // How many rows a part has: as many as there are objects, each mailbox with two words, each pool with two rows and 32 objects.
+#[tactic(auto, unfolding(crate::specs::Views::rows_in))]
 fn rows_in(z: Sizes, part: u8) -> u8
     ensures { result ≡ rows_in z part }
 {
@@ -269,6 +275,7 @@ fn rows_in(z: Sizes, part: u8) -> u8
 }
 
 // A part: what stands before its rows, and these.
+#[tactic(auto, unfolding(crate::specs::Views::part_text))]
 fn put_part(out: &mut [u8], at: usize, x: Seen, part: u8) -> usize
     ensures { Put out.old out.new at result (part_text x part) }
 {
@@ -285,6 +292,7 @@ fn put_part(out: &mut [u8], at: usize, x: Seen, part: u8) -> usize
 }
 
 // Some parts, one behind the other.
+#[tactic(auto, unfolding(crate::specs::Views::parts_text))]
 pub(crate) fn put_parts(out: &mut [u8], at: usize, x: Seen, from: u8, n: u8) -> usize
     ensures { Put out.old out.new at result (parts_text x from n) }
 {
@@ -369,6 +377,7 @@ fn report_of(o: Outcome) -> Report
 }
 
 // What is known behind a step, which is the record of this number.
+#[tactic(auto, unfolding(crate::specs::Views::seen_after))]
 fn see(number: u32, x: Seen, s: Step) -> Seen
     ensures { result ≡ seen_after number x s }
 {
@@ -405,7 +414,7 @@ fn see_read(number: u32, x: Seen, sizes: Sizes, found: Found) -> Seen
 }
 
 // Which parts are shown of it: from which on, and how many.
-#[derive(Drop)]
+#[derive(Clone, Copy)]
 struct Shown {
     from: u8,
     n: u8,

@@ -13,7 +13,7 @@ use Rattle.trace.specs.TraceBytes.{sizes_body, head_of, step_body, record_of, re
 use Rattle.trace.specs.Decoding.{number_at, head_refusal, step_refusal, decoded_sizes, decoded_step, head_sizes, opened_read, next_read}
 use Rattle.trace.specs.Traces.{read_from, read_all, Tabled, Bytes}
 use Rattle.trace.proofs.BodyLaws.{step-encoded, sizes-encoded, sizes-tabled, take_short}
-use Rattle.trace.proofs.Cases.{split}
+use Rattle.kernel.proofs.Cases.{split}
 use Rattle.trace.proofs.Framing.{Stands, Head, head, stands}
 use Rattle.trace.proofs.ReadingLaws.{ends, steps_on, refuses}
 use Rattle.trace.proofs.SizesLaws.{limits}

@@ -13,7 +13,7 @@ use Rattle.trace.specs.Ordered.{bytes_n, get_n}
 use Rattle.trace.specs.TraceBytes.{sizes_body, step_body}
 use Rattle.trace.specs.Decoding.{decoded_sizes, decoded_step}
 use Rattle.trace.specs.Traces.{Encodes, Tabled, Bytes}
-use Rattle.trace.proofs.Cases.{split}
+use Rattle.kernel.proofs.Cases.{split}
 use Rattle.trace.proofs.Widths.{get-bytes, bytes-get}
 
 -- ---- steps

@@ -1,17 +1,17 @@
 -- What the reader's refusals tell of a trace: a length that was not refused lies within the trace, with its body.
-use Prim.Native.Nat.{ℕ, ◌+◌, ◌-◌, ◌≤◌, ◌<◌}
+use Prim.Native.Nat.{ℕ, ◌+◌, ◌≤◌}
 use native.Mathlib.Omega.{arith}
 use mathlib.Core.Path.{◌≡◌}
 use mathlib.Core.Bool.{true, false, true≢false}
 use mathlib.Core.List.{List}
 use lib.Dec.{eqb, ltb}
 use lib.ListN.{length, get_or}
-use borrow.Author.Tests.{lt-ltb, le-ltb, eq-eqb, ltb-false, eqb-true, eqb-false}
+use borrow.Author.Tests.{le-ltb, eq-eqb, ltb-false, eqb-true, eqb-false}
 use Rattle.trace.specs.Ordered.{get_n}
 use Rattle.trace.specs.TraceBytes.{longest}
 use Rattle.library.specs.Sizes.{sizes_fit}
 use Rattle.trace.specs.Decoding.{ends_inside, length_refusal, head_sizes, head_refusal, step_refusal}
-use Rattle.trace.proofs.Cases.{split, ltb-same}
+use Rattle.kernel.proofs.Cases.{split}
 
 -- record 0 was not refused with 15, 11, 12 or 13
 pub record Opens (s : List ℕ) : Type 0 where
@@ -31,17 +31,6 @@ pub record Stands (s : List ℕ) (at : ℕ) : Type 0 where
   pub within : at + 13 ≤ length s
 
 module _ (s : List ℕ) (at : ℕ) where
-  -- in the form in which code meets it: the input ends inside the length
-  pub ends-in-length : length s < at + 2 → true ≡ ends_inside s at
-  unfolding ends_inside
-  ends-in-length h = rw (lt-ltb (length s) (at + 2) h)
-
-  -- the length is n, and the code's own test is of what is left
-  pub ends-in-body : (n : ℕ) → n ≡ get_n 2 s at → at + 2 ≤ length s → ltb (length s - at - 2) n ≡ ends_inside s at
-  unfolding ends_inside
-  ends-in-body n e h =
-      rw (le-ltb (length s) (at + 2) h, ← e) (ltb-same (length s - at - 2) n (length s) (at + 2 + n) (λ l. omega arith) (λ l. omega arith))
-
   pub whole : ends_inside s at ≡ false → at + 2 + get_n 2 s at ≤ length s
   unfolding ends_inside
   whole e =
@@ -97,10 +86,3 @@ module _ (s : List ℕ) where
       (λ u. record { opens = opens (eqb-true (length_refusal s) 0 t); fit = u })
       (λ f. let z : ◌≡◌ {A = ℕ} 14 0 = rw (t, f) at e in absurd (omega arith)))
       (λ f. absurd (eqb-false (length_refusal s) 0 f (rw f at e)))
-
--- the part of the trace that a body is: from behind the length, as many bytes as the length says
-pub part : (from n : ℕ) → from + n - from ≡ n
-part from n = omega arith
-
-pub part-of-step : (at : ℕ) → at + 13 - (at + 2) ≡ 11
-part-of-step at = omega arith

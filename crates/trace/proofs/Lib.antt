@@ -1,5 +1,4 @@
 -- What the proofs share, and the round trip.
-pub mod Cases
 pub mod Widths
 pub mod SizesLaws
 pub mod Framing

@@ -17,7 +17,7 @@ use Rattle.trace.specs.TraceBytes.{longest, sizes_body, head_of, step_body, reco
 use Rattle.trace.specs.Decoding.{number_at, head_refusal, step_refusal, decoded_step, stopped_read, refused_read, opened_read, stepped_read, next_read}
 use Rattle.trace.specs.Traces.{read_from, read_all, Encodes, AllEncode, more, Tabled}
 use Rattle.trace.proofs.BodyLaws.{step-decoded, sizes-decoded}
-use Rattle.trace.proofs.Cases.{split}
+use Rattle.kernel.proofs.Cases.{split}
 use Rattle.trace.proofs.Framing.{Opens, Stands, head, stands, opened, accepted}
 use Rattle.trace.proofs.SizesLaws.{Limits, limits}
 use Rattle.trace.proofs.Widths.{get-bytes}

@@ -1,21 +1,14 @@
 -- What the writer's refusals tell: where nothing is refused, the bytes lie within the buffer and within 60,000.
-use Prim.Native.Nat.{ℕ, ◌+◌, ◌≤◌, ◌<◌}
+use Prim.Native.Nat.{ℕ, ◌+◌, ◌≤◌}
 use native.Mathlib.Omega.{arith}
 use mathlib.Core.Path.{◌≡◌, sym, ◌∙◌}
 use lib.Dec.{ltb}
-use borrow.Author.Tests.{lt-ltb, le-ltb, ltb-false}
+use borrow.Author.Tests.{le-ltb, ltb-false}
 use Rattle.trace.specs.TraceBytes.{longest}
 use Rattle.trace.specs.Writer.{room_refusal}
-use Rattle.trace.proofs.Cases.{split}
+use Rattle.kernel.proofs.Cases.{split}
 
 module _ (len at n : ℕ) where
-  -- in the form in which code meets them
-  pub too_long : longest < at + n → 15 ≡ room_refusal len at n
-  too_long h = rw (lt-ltb longest (at + n) h)
-
-  pub too_short : at + n ≤ longest → len < at + n → 16 ≡ room_refusal len at n
-  too_short h g = rw (le-ltb longest (at + n) h, lt-ltb len (at + n) g)
-
   pub fits : at + n ≤ longest → at + n ≤ len → 0 ≡ room_refusal len at n
   fits h g = rw (le-ltb longest (at + n) h, le-ltb len (at + n) g)
 

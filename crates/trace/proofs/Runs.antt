@@ -15,7 +15,7 @@ use Rattle.trace.specs.Ordered.{bytes_n, put_n}
 use Rattle.library.specs.Sizes.{slots_at}
 use Rattle.trace.specs.TraceBytes.{sizes_body, head_of, record_of}
 use Rattle.trace.specs.Writer.{slot_written}
-use Rattle.trace.proofs.Cases.{split}
+use Rattle.kernel.proofs.Cases.{split}
 use Rattle.trace.proofs.Room.{Room}
 use Rattle.trace.proofs.SizesLaws.{Limits}
 use Rattle.trace.proofs.Widths.{put_some}

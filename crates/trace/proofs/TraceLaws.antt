@@ -18,7 +18,7 @@ use Rattle.trace.specs.Decoding.{found_code, number_at, head_refusal, step_refus
 use Rattle.trace.specs.Writer.{written_code, write_answer, room_refusal, sizes_refusal, sizes_written, step_written}
 use Rattle.trace.specs.Traces.{read_all, written_all, AllEncode, Tabled, Bytes}
 use Rattle.trace.proofs.AgainLaws.{ReadToItsEnd, read_whole, trace-again, head-tabled}
-use Rattle.trace.proofs.Cases.{split}
+use Rattle.kernel.proofs.Cases.{split}
 use Rattle.trace.proofs.ReadingLaws.{all_read}
 use Rattle.trace.proofs.SizesLaws.{Limits, limits}
 use Rattle.trace.proofs.WritingLaws.{length-record, length-head, all-written}

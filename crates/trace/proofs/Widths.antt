@@ -1,13 +1,12 @@
 -- Numbers as bytes, at any width k: by induction on k, since a number is its last byte and the number of the others.
 use Prim.Native.Nat.{ℕ, zero, suc, ◌+◌, ◌*◌, ◌/◌, ◌%◌, ◌^◌, ◌≤◌, ◌<◌}
 use native.Mathlib.Nat.{add-zero, zero-add, div-add-mod', div-lt_iff_lt-mul, zero-lt-suc, pow-suc}
-use native.Mathlib.Numerals.{add-one}
 use native.Mathlib.Omega.{arith}
 use mathlib.Core.Path.{◌≡◌, refl, sym, ap, ap₂, ◌∙◌}
 use mathlib.Core.List.{List, [], ◌∷◌, ◌++◌}
-use lib.ListN.{length, get_or, set, take, drop, length-append, length-drop, get_or-eq_default, get_or-append}
+use lib.ListN.{length, get_or, take, drop, length-append, length-drop, get_or-append}
 use lib.Seq.{sets, get_or-append_seam, get_or-append-add, get_or-drop, take-suc}
-use borrow.Author.Tests.{le-leb, lt-leb}
+use borrow.Author.Tests.{le-leb}
 use Rattle.trace.specs.Ordered.{bytes_n, get_n, put_n}
 
 pub length-bytes : (k x : ℕ) → length (bytes_n k x) ≡ k
@@ -22,11 +21,6 @@ unfolding get_n
 get-same zero l m at to h = refl
 get-same (suc k) l m at to h =
     ap₂ (λ (n b : ℕ). n * 256 + b) (get-same k l m at to (λ j i. h j (omega arith))) (h k (omega arith))
-
-pub get-past : (k : ℕ) (l : List ℕ) (at : ℕ) → length l ≤ at → 0 ≡ get_n k l at
-unfolding get_n
-get-past zero l at h = refl
-get-past (suc k) l at h = omega (arith, get-past k l at h, get_or-eq_default l 0 {n = at + k} (omega arith))
 
 -- the bytes of a number make it up
 value : (k x : ℕ) → x < 256 ^ k → get_n k (bytes_n k x) 0 ≡ x
@@ -75,10 +69,6 @@ pub put_some : (k : ℕ) (l : List ℕ) (at x : ℕ) → at + k ≤ length l →
 unfolding put_n
 put_some k l at x h = simp (le-leb (at + k) (length l) h)
 
-pub put-none : (k : ℕ) (l : List ℕ) (at x : ℕ) → length l < at + k → l ≡ put_n k l at x
-unfolding put_n
-put-none k l at x h = simp (lt-leb (at + k) (length l) h)
-
 -- ---- the two widths, in the form in which code meets them: a, b, c, d are the bytes that the callees gave
 module _ (l : List ℕ) (at a b : ℕ) (ea : a ≡ get_or l at 0) (eb : b ≡ get_or l (at + 1) 0) where
   first : get_or l (at + 0) 0 ≡ a
@@ -91,14 +81,3 @@ module _ (l : List ℕ) (at a b : ℕ) (ea : a ≡ get_or l at 0) (eb : b ≡ ge
   pub get-four : (c d : ℕ) → c ≡ get_or l (at + 2) 0 → d ≡ get_or l (at + 3) 0 → ((a * 256 + b) * 256 + c) * 256 + d ≡ get_n 4 l at
   unfolding get_n
   get-four c d ec ed = omega (arith, first)
-
-pub put_two : (l : List ℕ) (at x : ℕ) → at + 2 ≤ length l → set (set l at (x / 256 % 256)) (at + 1) (x % 256) ≡ put_n 2 l at x
-put_two l at x h = rw add-one (put_some 2 l at x h)
-
-pub put_four : (l : List ℕ) (at x : ℕ) → at + 4 ≤ length l
-    → set (set (set (set l at (x / 256 / 256 / 256 % 256)) (at + 1) (x / 256 / 256 % 256)) (at + 2) (x / 256 % 256)) (at + 3) (x % 256) ≡ put_n 4 l at x
-put_four l at x h =
-    let e₁ : at + 1 ≡ suc at = omega arith in
-    let e₂ : at + 2 ≡ suc (suc at) = omega arith in
-    let e₃ : at + 3 ≡ suc (suc (suc at)) = omega arith in
-    rw (e₁, e₂, e₃) (put_some 4 l at x h)

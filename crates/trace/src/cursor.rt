@@ -6,13 +6,14 @@ ghost use Rattle.trace.specs.Cursor.{moved};
 
 use crate::decoding::{Read, next_record};
 
-#[derive(Drop)]
+#[derive(Clone, Copy)]
 pub struct Reader<'a> {
     pub trace: &'a [u8],
     pub at: usize,
 }
 
 // The next record. The reader is moved on only by a record that was read.
+#[tactic(auto, unfolding(crate::specs::Decoding::next_read))]
 pub fn next<'s, 'a>(r: &'s mut Reader<'a>) -> Read
     ensures { (result ≡ next_read r.old.trace.now r.old.at) × (r.new ≡ moved r.old) }
 {
@@ -23,6 +24,7 @@ pub fn next<'s, 'a>(r: &'s mut Reader<'a>) -> Read
 }
 
 // The record at a place, by a reader that stands there.
+#[tactic(auto, unfolding(crate::specs::Decoding::next_read))]
 pub fn read_at(s: &[u8], at: usize) -> Read
     ensures { result ≡ next_read s.now at }
 {

@@ -9,7 +9,7 @@ use library::calls::Step;
 use library::sizes::{Sizes, no_sizes, sizes_fit};
 
 // What a read finds.
-#[derive(Drop)]
+#[derive(Clone, Copy)]
 pub enum Found {
     // record 0, whose sizes stand beside it
     Opened,
@@ -22,7 +22,7 @@ pub enum Found {
 }
 
 // A read: what it found, record 0's sizes (else none), and the place after it, which is the same place unless a record was read.
-#[derive(Drop)]
+#[derive(Clone, Copy)]
 pub struct Read {
     pub found: Found,
     pub sizes: Sizes,
@@ -41,6 +41,7 @@ pub fn number_at(at: usize) -> usize
 }
 
 // Whether the input ends inside the length or the body of the record at a place.
+#[tactic(auto, unfolding(crate::specs::Decoding::ends_inside))]
 fn ends_inside(s: &[u8], at: usize) -> bool
     ensures { result ≡ ends_inside s.now at }
 {
@@ -56,6 +57,7 @@ fn ends_inside(s: &[u8], at: usize) -> bool
 }
 
 // The refusal of the version byte and of record 0's length, or 0. A length below 6 is none of 6 plus a byte.
+#[tactic(auto, unfolding(crate::specs::Decoding::length_refusal))]
 fn judge_head(s: &[u8]) -> u8
     ensures { result ≡ length_refusal s.now }
 {
@@ -74,6 +76,7 @@ fn judge_head(s: &[u8]) -> u8
 }
 
 // The refusal of a later record's length, or 0.
+#[tactic(auto, unfolding(crate::specs::Decoding::step_refusal))]
 fn judge_step(s: &[u8], at: usize) -> u8
     ensures { result ≡ step_refusal s.now at }
 {
@@ -85,6 +88,7 @@ fn judge_step(s: &[u8], at: usize) -> u8
 }
 
 // Record 0's body. It ends with the slots of the last mailbox, so those of absent ones are 0.
+#[tactic(auto, unfolding(crate::specs::Decoding::decoded_sizes))]
 pub fn decode_sizes(body: &[u8]) -> Sizes
     ensures { result ≡ decoded_sizes body.now }
 {
@@ -111,6 +115,7 @@ pub fn decode_sizes(body: &[u8]) -> Sizes
 }
 
 // A step's body. Its values are not judged: that is the step's own refusal.
+#[tactic(auto, unfolding(crate::specs::Decoding::decoded_step))]
 pub fn decode_step(body: &[u8]) -> Step
     ensures { result ≡ decoded_step body.now }
 {
@@ -148,6 +153,7 @@ fn refuse(code: u8, at: usize) -> Read
 }
 
 // The version byte and record 0.
+#[tactic(auto, unfolding(crate::specs::Decoding::opened_read))]
 fn read_head(s: &[u8]) -> Read
     ensures { result ≡ opened_read s.now }
 {
@@ -170,6 +176,7 @@ fn read_head(s: &[u8]) -> Read
 }
 
 // A later record, or the end. The decoder is handed the part of the trace that the body is.
+#[tactic(auto, unfolding(crate::specs::Decoding::stepped_read))]
 fn read_step(s: &[u8], at: usize) -> Read
     ensures { result ≡ stepped_read s.now at }
 {
@@ -192,6 +199,7 @@ fn read_step(s: &[u8], at: usize) -> Read
 }
 
 // The record at a place: at place 0 the version byte and record 0, elsewhere a step or the end.
+#[tactic(auto, unfolding(crate::specs::Decoding::next_read))]
 pub fn next_record(s: &[u8], at: usize) -> Read
     ensures { result ≡ next_read s.now at }
 {

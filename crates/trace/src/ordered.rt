@@ -10,6 +10,7 @@ pub fn byte_at(s: &[u8], at: usize) -> u8
     if at < s.len() { s[at] } else { 0 }
 }
 
+#[tactic(auto, unfolding(crate::specs::Ordered::get_n))]
 pub fn read_u16(s: &[u8], at: usize) -> u16
     ensures { result ≡ get_n 2 s.now at }
 {
@@ -22,6 +23,7 @@ pub fn read_u16(s: &[u8], at: usize) -> u16
     a * 256 + b
 }
 
+#[tactic(auto, unfolding(crate::specs::Ordered::get_n))]
 pub fn read_u32(s: &[u8], at: usize) -> u32
     ensures { result ≡ get_n 4 s.now at }
 {
@@ -35,6 +37,7 @@ pub fn read_u32(s: &[u8], at: usize) -> u32
     ((a * 256 + b) * 256 + c) * 256 + d
 }
 
+#[tactic(auto, unfolding(crate::specs::Ordered::put_n))]
 pub fn write_u16(buf: &mut [u8], at: usize, x: u16)
     ensures { buf.new ≡ put_n 2 buf.old at x }
 {
@@ -46,6 +49,7 @@ pub fn write_u16(buf: &mut [u8], at: usize, x: u16)
     }
 }
 
+#[tactic(auto, unfolding(crate::specs::Ordered::put_n))]
 pub fn write_u32(buf: &mut [u8], at: usize, x: u32)
     ensures { buf.new ≡ put_n 4 buf.old at x }
 {

@@ -7,7 +7,7 @@ use crate::ordered::{write_u16, write_u32};
 use library::calls::Step;
 use library::sizes::{Sizes, sizes_fit, slots_at};
 
-#[derive(Drop)]
+#[derive(Clone, Copy)]
 pub enum Written {
     // the record stands before this place, where the next one goes
     Upto(usize),
@@ -43,6 +43,7 @@ fn write_slot(buf: &mut [u8], sizes: Sizes, i: u16)
 }
 
 // The version byte and record 0, at the start of the buffer.
+#[tactic(auto, unfolding(crate::specs::Writer::sizes_answer, crate::specs::Writer::sizes_written))]
 pub fn write_sizes(buf: &mut [u8], sizes: Sizes) -> Written
     ensures answer { result ≡ sizes_answer sizes buf.old }
     ensures buffer { buf.new ≡ sizes_written sizes buf.old }
@@ -71,6 +72,7 @@ pub fn write_sizes(buf: &mut [u8], sizes: Sizes) -> Written
 }
 
 // One step's record, at a place of the buffer.
+#[tactic(auto, unfolding(crate::specs::Writer::step_answer, crate::specs::Writer::step_written))]
 pub fn write_step(buf: &mut [u8], at: usize, step: Step) -> Written
     ensures answer { result ≡ step_answer at buf.old }
     ensures buffer { buf.new ≡ step_written step at buf.old }

@@ -26,7 +26,7 @@ use Rattle.promises.specs.Kept.Accepting.{Accepted}
 use Rattle.promises.specs.Kept.Chain.{Note, signal_at, after, nil-right, count_in, is_slept}
 use Rattle.promises.specs.Kept.Moving.{finish-chained}
 use Rattle.promises.specs.Kept.Whole.{Whole, Done, kernel-done, idle-free, stepper-caller, stepper-kept}
-use Rattle.promises.specs.Kept.KernelActs.{Acts, stepper, sleeper, object_of, kept-fits, kernel-acts}
+use Rattle.promises.specs.Kept.KernelActs.{Acts, stepper, sleeper, object-of, kept-fits, kernel-acts}
 use Rattle.promises.specs.Kept.BoxActs.{Tries, Tryer, post-tries, fetch-tries, alloc-tries, reset-acts, resume-acts, put-acts}
 
 -- of the kinds 15 to 22, two are left
@@ -86,27 +86,27 @@ module _ (p : Plant) (c : Clock) (s : Step) (a : Accepted p c s) (w : Whole p.si
   post-acts : (m : ℕ) → s.kind ≡ m → (m ≡ 15) ⊎ (m ≡ 16) → Acts z p s (post_tried p s.caller (call_of s))
   post-acts m e (inl f) =
       let is = e ∙ f in
-      let o = object_of p c s a w 15 is in
+      let o = object-of p c s a w 15 is in
       tried (post_tried p s.caller (call_of s))
       (post-tries p w s.caller (call_of s)
       (tryer 15 is (inr (inr (inr (inr (inr (inl (omega arith, omega arith))))))) refl refl (rw is o)) (rw is o) (rw is) (rw is))
   post-acts m e (inr f) =
       let is = e ∙ f in
-      let o = object_of p c s a w 16 is in
+      let o = object-of p c s a w 16 is in
       tried (post_tried p s.caller (call_of s))
       (post-tries p w s.caller (call_of s)
       (tryer 16 is (inr (inr (inr (inr (inr (inl (omega arith, omega arith))))))) refl refl (rw is o)) (rw is o) (rw is) (rw is))
 
   fetch-acts : s.kind ≡ 17 → Acts z p s (fetch_tried p s.caller (call_of s))
   fetch-acts is =
-      let o = object_of p c s a w 17 is in
+      let o = object-of p c s a w 17 is in
       tried (fetch_tried p s.caller (call_of s))
       (fetch-tries p w s.caller (call_of s)
       (tryer 17 is (inr (inr (inr (inr (inr (inl (omega arith, omega arith))))))) refl refl (rw is o)) (rw is o) (rw is) (rw is))
 
   alloc-acts : s.kind ≡ 20 → Acts z p s (alloc_tried p s.caller (call_of s))
   alloc-acts is =
-      let o = object_of p c s a w 20 is in
+      let o = object-of p c s a w 20 is in
       tried (alloc_tried p s.caller (call_of s))
       (alloc-tries p w s.caller (call_of s) (tryer 20 is (inr (inr (inr (inr (inr (inr refl)))))) refl refl (rw is o)) is (rw is o))
 
@@ -121,10 +121,10 @@ module _ (p : Plant) (c : Clock) (s : Step) (a : Accepted p c s) (w : Whole p.si
   -- 21: "free of an object not out" is refused; 22: "add of one not absent"
   puts : (s.kind ≡ 21) ⊎ (s.kind ≡ 22) → Acts z p s (finished_at_once (put_back p s.object (s.a % 256)) s.caller)
   puts (inl e) =
-      put_in 21 e (object_of p c s a w 21 e) (leb-true s.a 31 (rw e at a.value))
+      put_in 21 e (object-of p c s a w 21 e) (leb-true s.a 31 (rw e at a.value))
       (λ f. absurd (omega (arith, eqb-true (mark_at (pool_at p s.object) (s.a % 256)) out (rw e at a.state), f)))
   puts (inr e) =
-      put_in 22 e (object_of p c s a w 22 e) (leb-true s.a 31 (rw e at a.value))
+      put_in 22 e (object-of p c s a w 22 e) (leb-true s.a 31 (rw e at a.value))
       (λ f. absurd (omega (arith, eqb-true (mark_at (pool_at p s.object) (s.a % 256)) absent (rw e at a.state), f)))
 
   box-effects : 15 ≤ s.kind → eqb s.kind 15 ≡ false → eqb s.kind 16 ≡ false → eqb s.kind 17 ≡ false → eqb s.kind 20 ≡ false
@@ -133,10 +133,10 @@ module _ (p : Plant) (c : Clock) (s : Step) (a : Accepted p c s) (w : Whole p.si
   box-effects l e15 e16 e17 e20 =
       chosen (λ (h : Plant). Acts z p s (finished_at_once h s.caller)) (eqb s.kind 18)
       (λ e. let is = eqb-true s.kind 18 e in at-once (mailbox_reset p s.object) []
-      (reset-acts p w s.object (object_of p c s a w 18 is)) refl)
+      (reset-acts p w s.object (object-of p c s a w 18 is)) refl)
       (λ e18. chosen (λ (h : Plant). Acts z p s (finished_at_once h s.caller)) (eqb s.kind 19)
       (λ e. let is = eqb-true s.kind 19 e in at-once (mailbox_resumed p s.object) []
-      (resume-acts p w s.object (object_of p c s a w 19 is)) refl)
+      (resume-acts p w s.object (object-of p c s a w 19 is)) refl)
       (λ e19. puts
       (two-left s.kind l (leb-true s.kind 22 (both-means (leb 1 s.kind) (leb s.kind 22) a.kind).1)
       (eqb-false s.kind 15 e15) (eqb-false s.kind 16 e16) (eqb-false s.kind 17 e17) (eqb-false s.kind 20 e20)

@@ -328,19 +328,19 @@ module _ (z : Sizes) (few : z.threads ≤ 16) (i : ℕ) (within : i < z.threads)
   move-idle {k} Move.ages s g o a =
       rw (aging k)
       (rw (aged-counted k.cause k.steps (thread_at k i) (λ e. omega (arith, e, g.ready-ticks a.is-ready)))
-      (record { is-ready = a.is-ready; no_call = a.no_call }))
+      (record { is-ready = a.is-ready; no-call = a.no-call }))
   move-idle {k} (Move.sleeps j c w) s g o a =
       slept-row Idle k i (below s) j (wait_state c.kind) (wait_place c.kind c.object) c low
       (λ e. absurd (omega (arith, rw (sym e, eq-eqb i i refl) at o))) a
   move-idle (Move.takes p l e) s g o a = a
   move-idle (Move.sets p c w) s g o a = a
   move-idle {k} (Move.finishes j m d f) s g o a =
-      finished-row Idle k i (below s) j m d (someone f.within) (λ e. record { is-ready = a.is-ready; no_call = refl }) a
+      finished-row Idle k i (below s) j m d (someone f.within) (λ e. record { is-ready = a.is-ready; no-call = refl }) a
   move-idle {k} (Move.hands j d f) s g o a =
-      finished-row Idle k i (below s) j ok d (someone f.within) (λ e. record { is-ready = a.is-ready; no_call = refl }) a
+      finished-row Idle k i (below s) j ok d (someone f.within) (λ e. record { is-ready = a.is-ready; no-call = refl }) a
   move-idle (Move.answers b) s g o a = a
   move-idle {k} (Move.flags j f e) s g o a =
-      flagged-row Idle k i (below s) j f (λ x. record { is-ready = a.is-ready; no_call = a.no_call }) a
+      flagged-row Idle k i (below s) j f (λ x. record { is-ready = a.is-ready; no-call = a.no-call }) a
   move-idle Move.begins s g o a = a
   move-idle (Move.causes c l) s g o a = a
 

@@ -143,7 +143,7 @@ module _ (p : Plant) (c : Clock) (s : Step) (a : Accepted p c s) (w : Whole p.si
                 f.below,
                 record {
                   is-ready = eqb-true (thread_at k (first_ready k)).state ready f.passes;
-                  no_call = (test-hangs p c a.hangs).running;
+                  no-call = (test-hangs p c a.hangs).running;
                 },
               )
               | inr f ↦ inl f.0
@@ -155,8 +155,8 @@ module _ (p : Plant) (c : Clock) (s : Step) (a : Accepted p c s) (w : Whole p.si
   sleeper d = elim stepper [ inl e ↦ absurd (d e) | inr x ↦ x ]
 
   -- the object of a step of kind m is in the configuration
-  pub object_of : (m : ℕ) → s.kind ≡ m → s.object < object_limit z m
-  object_of m e = rw e at a.object
+  pub object-of : (m : ℕ) → s.kind ≡ m → s.object < object_limit z m
+  object-of m e = rw e at a.object
 
   -- ---- 1, 3, 4, 5, 7, 8, 10, 13
 
@@ -199,7 +199,7 @@ module _ (p : Plant) (c : Clock) (s : Step) (a : Accepted p c s) (w : Whole p.si
   -- 3: at the top nothing happens
   signal-acts : s.kind ≡ 3 → Effects z p s (signalled k s.object).kernel
   signal-acts e =
-      let l = object_of 3 e in
+      let l = object-of 3 e in
       split (lt_z (counter_at k s.object) (pos 2147483647))
       (λ b. signalling (signalled k s.object).kernel (low l)
       (signal-chained z g k s.object (omega (arith, low l)) (told l) (tally l) b))
@@ -208,7 +208,7 @@ module _ (p : Plant) (c : Clock) (s : Step) (a : Accepted p c s) (w : Whole p.si
   -- 5
   binary-acts : s.kind ≡ 5 → Effects z p s (binary_signalled k s.object)
   binary-acts e =
-      let l = object_of 5 e in
+      let l = object-of 5 e in
       let x = binary-chained z g k s.object (omega (arith, low l)) (told l) (tally l) in
       split (lt_z (counter_at k s.object) (pos 1))
       (λ b. signalling (binary_signalled k s.object) (low l) (rw b at x))
@@ -218,7 +218,7 @@ module _ (p : Plant) (c : Clock) (s : Step) (a : Accepted p c s) (w : Whole p.si
   reset-acts : s.kind ≡ 4 → Effects z p s (reset_to k s.object (message_of s))
   reset-acts e =
       plainly (reset_to k s.object (message_of s))
-      (reset-chained z g k s.object (told (object_of 4 e)) (message_of s) (low (object_of 4 e))
+      (reset-chained z g k s.object (told (object-of 4 e)) (message_of s) (low (object-of 4 e))
       (not_negative s.a (leb-true s.a 2147483647 (rw e at a.value))))
 
   queue : s.object < z.queues → TellsAt n k (queue_place s.object)
@@ -230,7 +230,7 @@ module _ (p : Plant) (c : Clock) (s : Step) (a : Accepted p c s) (w : Whole p.si
   -- 10
   resume-acts : s.kind ≡ 10 → Effects z p s (resumed k s.object (message_of s))
   resume-acts e =
-      let r = w.kernel.rules.references s.object (object_of 10 e) in
+      let r = w.kernel.rules.references s.object (object-of 10 e) in
       plainly (resumed k s.object (message_of s))
       (resume-chained z g k s.object (message_of s) w.kernel.rules.sized r.within
       (λ d.
@@ -248,11 +248,11 @@ module _ (p : Plant) (c : Clock) (s : Step) (a : Accepted p c s) (w : Whole p.si
       (λ e4. chosen (Effects z p s) (eqb s.kind 5) (λ e. binary-acts (eqb-true s.kind 5 e))
       (λ e5. chosen (Effects z p s) (eqb s.kind 7)
       (λ e. plainly (released_first k (queue_place s.object) (message_of s))
-      (release-first-chained z g k w.kernel.rules.sized (queue_place s.object) (queue (object_of 7 (eqb-true s.kind 7 e))) (message_of s)
+      (release-first-chained z g k w.kernel.rules.sized (queue_place s.object) (queue (object-of 7 (eqb-true s.kind 7 e))) (message_of s)
       (λ l. absurd (far s.object l))))
       (λ e7. chosen (Effects z p s) (eqb s.kind 8)
       (λ e. plainly (released_all k (queue_place s.object) (message_of s))
-      (release-all-chained z g k (queue_place s.object) (queue (object_of 8 (eqb-true s.kind 8 e))) (message_of s)
+      (release-all-chained z g k (queue_place s.object) (queue (object-of 8 (eqb-true s.kind 8 e))) (message_of s)
       (λ l. absurd (far s.object l))))
       (λ e8. chosen (Effects z p s) (eqb s.kind 10) (λ e. resume-acts (eqb-true s.kind 10 e))
       (λ e10.
@@ -260,7 +260,7 @@ module _ (p : Plant) (c : Clock) (s : Step) (a : Accepted p c s) (w : Whole p.si
       left-thirteen s.kind h (leb-true 1 s.kind (both-means (leb 1 s.kind) (leb s.kind 22) a.kind).0) x
       (eqb-false s.kind 1 e1) (eqb-false s.kind 4 e4) (eqb-false s.kind 5 e5)
       (eqb-false s.kind 7 e7) (eqb-false s.kind 8 e8) (eqb-false s.kind 10 e10) in
-      let l = object_of 13 is in
+      let l = object-of 13 is in
       plainly (event_signalled k s.object s.a)
       (event-signal-chained z g k s.object s.a w.kernel.rules.sized l)))))))
 
@@ -308,7 +308,7 @@ module _ (p : Plant) (c : Clock) (s : Step) (a : Accepted p c s) (w : Whole p.si
 
     wait-acts : s.kind ≡ 2 → KernelActs z p s (waited k s.caller s.object (call_of s))
     wait-acts e =
-        let l = object_of 2 e in
+        let l = object-of 2 e in
         let x =
         wait-chained z g k s.caller s.object (call_of s) (omega (arith, low l)) (rw e) (rw e)
         (λ t b. sleeper-in (call_of s) (kept-fits (inl e) (rw e l) t) (λ v. rw e b) (λ v. absurd (omega (arith, rw e at v)))
@@ -326,7 +326,7 @@ module _ (p : Plant) (c : Clock) (s : Step) (a : Accepted p c s) (w : Whole p.si
     queue-acts : s.kind ≡ 6 → KernelActs z p s (enqueued k s.caller (queue_place s.object) (call_of s))
     unfolding enqueued
     queue-acts e =
-        let l = object_of 6 e in
+        let l = object-of 6 e in
         let x = queue-place k z g s.object l (queue_place s.object) refl in
         let level = (w.kernel.rules.places (queue_place s.object) (omega (arith, x.1.0)) x.1.1).level x.0 in
         waiting _ s.caller (eqb s.timeout immediate)
@@ -339,7 +339,7 @@ module _ (p : Plant) (c : Clock) (s : Step) (a : Accepted p c s) (w : Whole p.si
     suspend-acts : s.kind ≡ 9 → KernelActs z p s (suspended_on k s.caller s.object (call_of s))
     unfolding suspended_on
     suspend-acts e =
-        let l = object_of 9 e in
+        let l = object-of 9 e in
         let empty = eqb-true (holder_at k s.object) nobody (rw e at a.state) in
         waiting _ s.caller (eqb s.timeout immediate)
         (block-chained z g k s.caller suspended s.object (call_of s) (rw e) (rw e)

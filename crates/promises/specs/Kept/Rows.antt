@@ -65,7 +65,7 @@ readied-good z t m c n l g =
       unready-state = λ n. absurd (n refl);
       unready-place = λ n. absurd (n refl);
       ready-place = λ e. refl;
-      no_call = g.no_call;
+      no-call = g.no-call;
       operand = g.operand;
       awaited = g.awaited;
       none-pending = λ e. absurd (not-awaiting e);
@@ -101,7 +101,7 @@ asleep-good z t c f p l =
       unready-state = λ n. refl;
       unready-place = λ n. refl;
       ready-place = λ e. absurd (waits-unready c.kind f.kind e);
-      no_call = λ e. absurd (kind-some c.kind f.kind e);
+      no-call = λ e. absurd (kind-some c.kind f.kind e);
       operand = λ n. f.operand;
       awaited = refl;
       none-pending = p;
@@ -122,7 +122,7 @@ answered-good z t m d r g =
       unready-state = λ n. absurd (n r);
       unready-place = λ n. absurd (n r);
       ready-place = g.ready-place;
-      no_call = λ e. (refl, (refl, refl));
+      no-call = λ e. (refl, (refl, refl));
       operand = λ n. absurd (n refl);
       awaited = refl;
       none-pending = λ e. absurd (not-awaiting (sym r ∙ e));
@@ -142,7 +142,7 @@ counted-good z t l g =
       unready-state = g.unready-state;
       unready-place = g.unready-place;
       ready-place = g.ready-place;
-      no_call = g.no_call;
+      no-call = g.no-call;
       operand = g.operand;
       awaited = g.awaited;
       none-pending = g.none-pending;
@@ -166,7 +166,7 @@ flags-good z t f p g =
       unready-state = g.unready-state;
       unready-place = g.unready-place;
       ready-place = g.ready-place;
-      no_call = g.no_call;
+      no-call = g.no-call;
       operand = g.operand;
       awaited = g.awaited;
       none-pending = p;
@@ -178,4 +178,4 @@ flags-good z t f p g =
 -- ready, and with no unfinished call
 pub record Idle (t : Thread) : Type 0 where
   pub is-ready : t.state ≡ ready
-  pub no_call : t.call.kind ≡ 0
+  pub no-call : t.call.kind ≡ 0

@@ -162,7 +162,7 @@ Stepper z k i = (i ≡ nobody) ⊎ ((i < z.threads) × Idle (thread_at k i))
 
 -- its call may finish
 pub idle-free : (t : Thread) → Idle t → Free t
-idle-free t a = record { is-ready = a.is-ready; unpromised = rw a.no_call (second-fails (is_ready t) refl) }
+idle-free t a = record { is-ready = a.is-ready; unpromised = rw a.no-call (second-fails (is_ready t) refl) }
 
 pub stepper-caller : (z : Sizes) (k : Kernel) (i : ℕ) → Stepper z k i → Caller z k i
 stepper-caller z k i (inl e) = inl e

@@ -70,10 +70,10 @@ list-row l ws vs =
     ∙ ap (λ (k : List ℕ). l ++ (k ++ (10 ∷ []))) (sym (others-append ws vs))
     ∙ sym (append_assoc l (others_text (ws ++ vs)) (10 ∷ [])) ∙ words_row (Word.letters l) (ws ++ vs)
 
-pair_row : (w l : List ℕ) (a b : Item) (u v : Word) → word_text w ≡ l → field a ≡ 32 ∷ word_bytes u → field b ≡ 32 ∷ word_bytes v
+pair-row : (w l : List ℕ) (a b : Item) (u v : Word) → word_text w ≡ l → field a ≡ 32 ∷ word_bytes u → field b ≡ 32 ∷ word_bytes v
     → row_text (brief w a b) ≡ rows_bytes (pair_row l u v ∷ [])
 unfolding row_text
-pair_row w l a b u v e f g = rw (no_rows, e, f, g) (list-row l (u ∷ v ∷ []) []) ∙ alone (row_bytes (Word.letters l) (u ∷ v ∷ []))
+pair-row w l a b u v e f g = rw (no_rows, e, f, g) (list-row l (u ∷ v ∷ []) []) ∙ alone (row_bytes (Word.letters l) (u ∷ v ∷ []))
 
 one-row : (w l : List ℕ) (a : Item) (u : Word) → word_text w ≡ l → field a ≡ 32 ∷ word_bytes u
     → row_text (brief w a Nothing) ≡ rows_bytes (record { first = Word.letters l; others = u ∷ [] } ∷ [])
@@ -119,20 +119,20 @@ module _ (y : Seen) where
       → row_text (views.row_of y 3 i)
       ≡ rows_bytes (pair_row (115 ∷ 101 ∷ 109 ∷ 97 ∷ 112 ∷ 104 ∷ 111 ∷ 114 ∷ 101 ∷ []) (Word.plain i) (signed_word ((found t).counter i)) ∷ [])
   unfolding rows word_text views.row_of table_row
-  semaphore-text i = pair_row _ _ (Number i) (Signed ((found t).counter i)) (Word.plain i) (signed_word ((found t).counter i)) refl refl (signed-field ((found t).counter i))
+  semaphore-text i = pair-row _ _ (Number i) (Signed ((found t).counter i)) (Word.plain i) (signed_word ((found t).counter i)) refl refl (signed-field ((found t).counter i))
 
   queue-text : (i : ℕ)
       → row_text (views.row_of y 4 i) ≡ rows_bytes (pair_row (113 ∷ 117 ∷ 101 ∷ 117 ∷ 101 ∷ []) (Word.plain i) (signed_word ((found t).counter (20 + i))) ∷ [])
   unfolding rows word_text views.row_of table_row
   queue-text i =
-      pair_row (113 ∷ 117 ∷ 101 ∷ 117 ∷ 101 ∷ 0 ∷ 0 ∷ 0 ∷ 0 ∷ []) _ (Number i) (Signed ((found t).counter (20 + i))) (Word.plain i) (signed_word ((found t).counter (20 + i))) refl refl
+      pair-row (113 ∷ 117 ∷ 101 ∷ 117 ∷ 101 ∷ 0 ∷ 0 ∷ 0 ∷ 0 ∷ []) _ (Number i) (Signed ((found t).counter (20 + i))) (Word.plain i) (signed_word ((found t).counter (20 + i))) refl refl
       (signed-field ((found t).counter (20 + i)))
 
   reference-text : (i : ℕ)
       → row_text (views.row_of y 5 i)
       ≡ rows_bytes (pair_row (114 ∷ 101 ∷ 102 ∷ 101 ∷ 114 ∷ 101 ∷ 110 ∷ 99 ∷ 101 ∷ []) (Word.plain i) (Word.plain ((found t).holder i)) ∷ [])
   unfolding rows word_text views.row_of table_row
-  reference-text i = pair_row (114 ∷ 101 ∷ 102 ∷ 101 ∷ 114 ∷ 101 ∷ 110 ∷ 99 ∷ 101 ∷ []) _ (Number i) (Number ((found t).holder i)) (Word.plain i) (Word.plain ((found t).holder i)) refl refl refl
+  reference-text i = pair-row (114 ∷ 101 ∷ 102 ∷ 101 ∷ 114 ∷ 101 ∷ 110 ∷ 99 ∷ 101 ∷ []) _ (Number i) (Number ((found t).holder i)) (Word.plain i) (Word.plain ((found t).holder i)) refl refl refl
 
   mailbox-text : (i : ℕ) → row_text (views.row_of y 6 i) ≡ rows_bytes (mailbox_row t i ∷ [])
   unfolding row_text views.row_of table_row tables.mailbox_row
@@ -189,7 +189,7 @@ module _ (y : Seen) where
   at_place : (p : ℕ) → row_text (brief (119 ∷ 97 ∷ 105 ∷ 116 ∷ 105 ∷ 110 ∷ 103 ∷ 0 ∷ 0 ∷ []) (place_item p) (Number (get_or t.kernel.words.waiting p 0))) ≡ rows_bytes (waiting_row t p ∷ [])
   unfolding rows word_text
   at_place p =
-      pair_row (119 ∷ 97 ∷ 105 ∷ 116 ∷ 105 ∷ 110 ∷ 103 ∷ 0 ∷ 0 ∷ []) _ (place_item p) (Number (get_or t.kernel.words.waiting p 0)) (place_word p)
+      pair-row (119 ∷ 97 ∷ 105 ∷ 116 ∷ 105 ∷ 110 ∷ 103 ∷ 0 ∷ 0 ∷ []) _ (place_item p) (Number (get_or t.kernel.words.waiting p 0)) (place_word p)
       (Word.plain (get_or t.kernel.words.waiting p 0)) refl (place_is p) refl
 
   semaphore-words : (i : ℕ) → row_text (views.row_of y 9 i) ≡ rows_bytes (waiting_row t i ∷ [])
@@ -223,13 +223,13 @@ module _ (y : Seen) where
   answer-text : row_text (views.row_of y 1 0) ≡ rows_bytes (pair_row (97 ∷ 110 ∷ 115 ∷ 119 ∷ 101 ∷ 114 ∷ []) (signed_word y.outcome.message) (Word.plain y.outcome.datum) ∷ [])
   unfolding rows word_text views.row_of step_row
   answer-text =
-      pair_row (97 ∷ 110 ∷ 115 ∷ 119 ∷ 101 ∷ 114 ∷ 0 ∷ 0 ∷ 0 ∷ []) _ (Signed y.outcome.message) (Number y.outcome.datum) (signed_word y.outcome.message)
+      pair-row (97 ∷ 110 ∷ 115 ∷ 119 ∷ 101 ∷ 114 ∷ 0 ∷ 0 ∷ 0 ∷ []) _ (Signed y.outcome.message) (Number y.outcome.datum) (signed_word y.outcome.message)
       (Word.plain y.outcome.datum) refl (signed-field y.outcome.message) refl
 
   clock-text : row_text (views.row_of y 13 0) ≡ rows_bytes (pair_row (99 ∷ 108 ∷ 111 ∷ 99 ∷ 107 ∷ []) (Word.plain y.clock.time.0) (Word.plain y.clock.frequency) ∷ [])
   unfolding rows word_text views.row_of step_row
   clock-text =
-      pair_row (99 ∷ 108 ∷ 111 ∷ 99 ∷ 107 ∷ 0 ∷ 0 ∷ 0 ∷ 0 ∷ []) _ (Number y.clock.time.0) (Number y.clock.frequency) (Word.plain y.clock.time.0)
+      pair-row (99 ∷ 108 ∷ 111 ∷ 99 ∷ 107 ∷ 0 ∷ 0 ∷ 0 ∷ 0 ∷ []) _ (Number y.clock.time.0) (Number y.clock.frequency) (Word.plain y.clock.time.0)
       (Word.plain y.clock.frequency) refl refl refl
 
   steps-text : row_text (views.row_of y 14 0) ≡ rows_bytes (record { first = Word.letters (115 ∷ 116 ∷ 101 ∷ 112 ∷ 115 ∷ []); others = Word.plain t.kernel.steps ∷ [] } ∷ [])

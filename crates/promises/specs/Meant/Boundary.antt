@@ -119,11 +119,11 @@ step_given (found.Stepped x) = StepGiven.step refl refl refl
 step_given found.Ended = StepGiven.none (λ e. omega arith) refl
 step_given (found.Refused c n) = StepGiven.none (λ e. omega arith) refl
 
-found_number : (f : Found) → found_number f ≡ (found_said f).gives
-found_number found.Opened = refl
-found_number (found.Stepped x) = refl
-found_number found.Ended = refl
-found_number (found.Refused c n) = refl
+found-number : (f : Found) → found_number f ≡ (found_said f).gives
+found-number found.Opened = refl
+found-number (found.Stepped x) = refl
+found-number found.Ended = refl
+found-number (found.Refused c n) = refl
 
 found-code : (f : Found) → found_code f ≡ (found_said f).code
 found-code found.Opened = refl
@@ -140,7 +140,7 @@ read-call-is s at =
       number = number_is at;
       step = step_given (next_read s at).found;
       sizes = refl;
-      found = found_number (next_read s at).found;
+      found = found-number (next_read s at).found;
       code = found-code (next_read s at).found;
     }
 

@@ -37,7 +37,7 @@ module _ (x : Step) (at : ℕ) (l k : List ℕ) (any : AnyStep x) (behind : 0 < 
 
   record-whole : (n : ℕ) → RecordBroken k at n → ⊥
   record-whole n (RecordBroken.in-length h) = omega arith
-  record-whole n (RecordBroken.in_Body h) = omega (arith, record-right)
+  record-whole n (RecordBroken.in-body h) = omega (arith, record-right)
   record-whole n (RecordBroken.wrong-length h) = h record-right
 
   -- a step's record, written behind other bytes, is read as the step, whatever its values
@@ -88,7 +88,7 @@ module _ (z : Sizes) (l k : List ℕ) (limits : SizesFit z) (room : 9 + z.mailbo
   head-whole n (HeadBroken.empty h) = omega arith
   head-whole n (HeadBroken.version h) = h written.version
   head-whole n (HeadBroken.in-length h) = omega arith
-  head-whole n (HeadBroken.in_Body h) = omega (arith, head-right, written.mailboxes)
+  head-whole n (HeadBroken.in-body h) = omega (arith, head-right, written.mailboxes)
   head-whole n (HeadBroken.wrong-length h) = h head-right
   head-whole n (HeadBroken.size h) = h (rw (head-held written) (held-limits z limits))
 

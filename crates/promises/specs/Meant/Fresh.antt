@@ -20,7 +20,7 @@ use Rattle.promises.specs.Paper.Fresh.{FreshTables, FreshClock, Legal, nothing, 
 use Rattle.promises.specs.Meant.Time.{same-rate, possible-fits, fits-possible}
 use Rattle.promises.specs.Meant.Sizes.{fit-limits, limits-fit, out-of-limits}
 
-fresh-tables : (z : Sizes) → z.threads ≤ 16 → FreshTables z (fresh_tables z)
+pub fresh-tables : (z : Sizes) → z.threads ≤ 16 → FreshTables z (fresh_tables z)
 fresh-tables z few =
     record {
       sizes = refl;
@@ -33,7 +33,7 @@ fresh-tables z few =
       pools = refl;
     }
 
-fresh-clock : (f : ℕ) → FreshClock f (fresh_clock f)
+pub fresh-clock : (f : ℕ) → FreshClock f (fresh_clock f)
 fresh-clock f = record { time = refl; frequency = refl }
 
 pub made-is : (z : Sizes) (rate : Rate) → MadeOf z rate (made z rate)
@@ -81,14 +81,14 @@ of_parts t c r w n b p z =
       sizes = z;
     }
 
-same_tables : {z : Sizes} {t u : Tables} → FreshTables z t → FreshTables z u → t ≡ u
+pub same_tables : {z : Sizes} {t u : Tables} → FreshTables z t → FreshTables z u → t ≡ u
 same_tables {z} {t} {u} a b =
     let parts : of_parts t.kernel.threads t.kernel.counters t.kernel.references t.kernel.words t.kernel.steps t.mailboxes t.pools t.sizes
     ≡ of_parts u.kernel.threads u.kernel.counters u.kernel.references u.kernel.words u.kernel.steps u.mailboxes u.pools u.sizes =
     rw (a.threads, a.counters, a.references, a.words, a.steps, a.mailboxes, a.pools, a.sizes, b.threads, b.counters, b.references, b.words, b.steps, b.mailboxes, b.pools, b.sizes) in
     parts
 
-same-clock : {f : ℕ} {c d : Clock} → FreshClock f c → FreshClock f d → c ≡ d
+pub same-clock : {f : ℕ} {c d : Clock} → FreshClock f c → FreshClock f d → c ≡ d
 same-clock {f} {c} {d} a b =
     let parts : ◌≡◌ {A = Clock} (record { time = record { 0 = c.time.0 }; frequency = c.frequency })
     (record { time = record { 0 = d.time.0 }; frequency = d.frequency }) = rw (a.time, a.frequency, b.time, b.frequency) in

@@ -1,6 +1,6 @@
 -- What the types of a host fix is what the kit knows of the arguments of these types: every field of `Host` is a length or a width that the
 -- declared structs have. So no field can be added to it that a call does not have.
-use Rattle.std.specs.Prelude.{ℕ, zero, suc, ◌<◌, ◌≡◌, List, [], ◌∷◌, map, length, get_or}
+use Rattle.std.specs.Prelude.{ℕ, zero, suc, ◌<◌, ◌≡◌, List, [], ◌∷◌, length, get_or}
 use Rattle.std.proofs.Common.{arith, sym, ap}
 use mir.Val.{Val}
 use contract.Lifetimes.{Lfts}
@@ -11,7 +11,7 @@ use denote.Laws.{Is}
 use borrow.Fn.Kinds.{Dens, GoodsP}
 use Rattle.kernel.specs.declared.clock.Clock.{Clock}
 use Rattle.kernel.proofs.Cases.{in-or-out}
-use Rattle.kernel.proofs.Lengths.{length-mapped, read_past}
+use Rattle.kernel.proofs.Lengths.{read_past}
 use Rattle.kernel.specs.contracts.clock.Clock as clock
 use Rattle.library.specs.declared.calls.Step.{Step}
 use Rattle.library.specs.declared.tables.Pool.{Pool}
@@ -33,12 +33,12 @@ use Rattle.promises.specs.Paper.Boundary.{asked}
 -- what its elements are; of a number `.1` is its width
 
 -- each element of an array is of its type
-element : (R : RattleType) {A : Type 0} (f : A → R.Denot) (l : List A) (us : List Val) → shadow (each R.Denot R.own (map f l) us)
-    → (i : ℕ) → i < length l → (d : A) → (u : Val) × Is R (f (get_or l i d)) (u ∷ [])
-element R f [] us all i l d = absurd (omega arith)
-element R f (x ∷ xs) [] all i l d = absurd all
-element R f (x ∷ xs) (u ∷ us) all zero l d = (u, all.0)
-element R f (x ∷ xs) (u ∷ us) all (suc i) l d = element R f xs us all.1 i (omega arith) d
+element : (R : RattleType) (l : List R.Denot) (us : List Val) → shadow (each R.Denot R.own_val l us)
+    → (i : ℕ) → i < length l → (d : R.Denot) → (u : Val) × Is R (get_or l i d) (u ∷ [])
+element R [] us all i l d = absurd (omega arith)
+element R (x ∷ xs) [] all i l d = absurd all
+element R (x ∷ xs) (u ∷ us) all zero l d = (u, all.0)
+element R (x ∷ xs) (u ∷ us) all (suc i) l d = element R xs us all.1 i (omega arith) d
 
 pub step_fits : (s : Step) (vs : List Val) → Is steps.the_row s vs → HostStep s
 step_fits s vs is = let x = is.1.1 in record { object = x.1.1.0.1; operand = x.1.1.1.0.1 }
@@ -53,28 +53,28 @@ pub tables-fit : (t : Tables) (vs : List Val) → Is tables.the_row t vs → Hos
 tables-fit t vs is =
     let x = is.1.1 in
     let k = x.0.1.1 in
-    let boxes = length-mapped _ t.mailboxes 4 x.1.0.1.0.1 in
-    let pools = length-mapped _ t.pools 4 x.1.1.0.1.0.1 in
+    let boxes = x.1.0.1.0.1 in
+    let pools = x.1.1.0.1.0.1 in
     let pool-at : (q : ℕ) → (length (get_or t.pools q no_pool).list ≡ 32) × (length (get_or t.pools q no_pool).marks ≡ 32) =
     λ q.
     in-or-out q 4
     (λ l.
-    let y = (element (pool.the_field).row _ t.pools x.1.1.0.0 x.1.1.0.1.1 q (omega (arith, pools)) no_pool).1.1.1 in (
-      length-mapped _ (get_or t.pools q no_pool).list 32 y.1.0.1.0.1,
-      length-mapped _ (get_or t.pools q no_pool).marks 32 y.1.1.0.1.0.1,
+    let y = (element pool.the_row t.pools x.1.1.0.0 x.1.1.0.1.1 q (omega (arith, pools)) no_pool).1.1.1 in (
+      y.1.0.1.0.1,
+      y.1.1.0.1.0.1,
     ))
     (λ l.
     let past : no_pool ≡ get_or t.pools q no_pool = read_past t.pools 4 q pools l no_pool in
     (ap (λ (p : Pool). length p.list) (sym past), ap (λ (p : Pool). length p.marks) (sym past))) in
     record {
-      threads = length-mapped _ t.kernel.threads 16 k.0.1.0.1;
-      counters = length-mapped _ t.kernel.counters 36 k.1.0.1.0.1;
-      references = length-mapped _ t.kernel.references 8 k.1.1.0.1.0.1;
-      waiting = length-mapped _ t.kernel.words.waiting 36 k.1.1.1.0.1.1.1.0.1.0.1;
+      threads = k.0.1.0.1;
+      counters = k.1.0.1.0.1;
+      references = k.1.1.0.1.0.1;
+      waiting = k.1.1.1.0.1.1.1.0.1.0.1;
       mailboxes = boxes;
       messages = λ m l.
-          let box = (element (mailbox.the_field).row _ t.mailboxes x.1.0.0 x.1.0.1.1 m (omega (arith, boxes)) no_box).1 in
-          length-mapped _ (get_or t.mailboxes m no_box).messages 16 box.1.1.1.1.0.1.0.1;
+          let box = (element mailbox.the_row t.mailboxes x.1.0.0 x.1.0.1.1 m (omega (arith, boxes)) no_box).1 in
+          box.1.1.1.1.0.1.0.1;
       pools = pools;
       lists = λ q l. (pool-at q).0;
       marks = λ q l. (pool-at q).1;

@@ -83,6 +83,7 @@ line-is n (m ∷ ns) = Line.more (in-decimal n) (line-is m ns)
 
 pub line-one : {n : ℕ} {ns l : List ℕ} → Line (n ∷ ns) l → l ≡ line_text n ns
 line-one (Line.last d) = ap (λ (a : List ℕ). a ++ (10 ∷ [])) (decimal-one d)
+line-one (Line.more {ns = []} d r) = elim r [ ]
 line-one (Line.more {n} {ns = m ∷ ns} {rest = rest} d r) =
     ap (λ (a : List ℕ). a ++ (32 ∷ rest)) (decimal-one d) ∙ ap (λ (a : List ℕ). decimal n ++ (32 ∷ a)) (line-one r)
 

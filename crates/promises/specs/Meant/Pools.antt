@@ -1,5 +1,5 @@
 -- A pool of tables that hang together has an object where its rows take one.
-use Rattle.std.specs.Prelude.{ℕ, ◌<◌, ◌≡◌, refl, true, length, pos}
+use Rattle.std.specs.Prelude.{ℕ, ◌<◌, ◌≡◌, refl, true, pos}
 use Rattle.std.specs.Int.Signed.{lt_z}
 use borrow.Author.Tests.{eq-eqb}
 use Rattle.kernel.specs.Numbers.{ready}

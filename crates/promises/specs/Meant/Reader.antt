@@ -153,13 +153,13 @@ numbers-head (HeadBroken.long a) = (omega arith, omega arith)
 numbers-head (HeadBroken.empty a) = (omega arith, omega arith)
 numbers-head (HeadBroken.version a) = (omega arith, omega arith)
 numbers-head (HeadBroken.in-length a) = (omega arith, omega arith)
-numbers-head (HeadBroken.in_Body a) = (omega arith, omega arith)
+numbers-head (HeadBroken.in-body a) = (omega arith, omega arith)
 numbers-head (HeadBroken.wrong-length a) = (omega arith, omega arith)
 numbers-head (HeadBroken.size a) = (omega arith, omega arith)
 
 numbers-record : {s : List ℕ} {at n : ℕ} → RecordBroken s at n → (11 ≤ n) × (n ≤ 15)
 numbers-record (RecordBroken.in-length a) = (omega arith, omega arith)
-numbers-record (RecordBroken.in_Body a) = (omega arith, omega arith)
+numbers-record (RecordBroken.in-body a) = (omega arith, omega arith)
 numbers-record (RecordBroken.wrong-length a) = (omega arith, omega arith)
 
 -- two numbers in the same place of the order are the same
@@ -188,10 +188,10 @@ module _ (Broken : ℕ → Type 0) (numbers : (n : ℕ) → Broken n → (11 ≤
 -- the input ends inside a length or body, as the code tests it
 ends-where : (s : List ℕ) (at : ℕ) {C : Type 0} → ends_inside s at ≡ true → (length s < at + 2 → C) → (length s < at + 2 + two s at → C) → C
 unfolding ends_inside
-ends-where s at e in-length in_Body =
+ends-where s at e in-length in-body =
     split (ltb (length s) (at + 2))
     (λ t. in-length (ltb-true (length s) (at + 2) t))
-    (λ f. in_Body (omega (arith, two_is s at, ltb-true (length s) (at + 2 + get_n 2 s at) (rw f at e))))
+    (λ f. in-body (omega (arith, two_is s at, ltb-true (length s) (at + 2 + get_n 2 s at) (rw f at e))))
 
 module _ (s : List ℕ) where
   -- what holds where no rule before n is broken
@@ -202,7 +202,7 @@ module _ (s : List ℕ) where
   none_of n a b c d e m l (HeadBroken.empty x) = omega (arith, b l, get_or-eq_default s 0 {n = 0} (omega arith))
   none_of n a b c d e m l (HeadBroken.version x) = x (b l)
   none_of n a b c d e m l (HeadBroken.in-length x) = omega (arith, c l)
-  none_of n a b c d e m l (HeadBroken.in_Body x) = omega (arith, c l)
+  none_of n a b c d e m l (HeadBroken.in-body x) = omega (arith, c l)
   none_of n a b c d e m l (HeadBroken.wrong-length x) = x (d l)
   none_of n a b c d e m l (HeadBroken.size x) = x (e l)
 
@@ -231,7 +231,7 @@ module _ (s : List ℕ) where
       head-refused 12 (rw (a, b, c)) (λ z. omega arith)
       (ends-where s 1 c
       (λ l. record { broken = HeadBroken.in-length l; none_before = before })
-      (λ l. record { broken = HeadBroken.in_Body l; none_before = before })))
+      (λ l. record { broken = HeadBroken.in-body l; none_before = before })))
       (λ c.
       let within : 3 + two s 1 ≤ length s = omega (arith, two_is s 1, whole s 1 c) in
       split (eqb (get_n 2 s 1) (6 + byte s 7))
@@ -267,7 +267,7 @@ module _ (s : List ℕ) (at : ℕ) where
   none_here : (n : ℕ) → (order 12 < order n → at + 2 + two s at ≤ length s) → (order 13 < order n → two s at ≡ 11)
       → (m : ℕ) → order m < order n → RecordBroken s at m → ⊥
   none_here n a b m l (RecordBroken.in-length x) = omega (arith, a l)
-  none_here n a b m l (RecordBroken.in_Body x) = omega (arith, a l)
+  none_here n a b m l (RecordBroken.in-body x) = omega (arith, a l)
   none_here n a b m l (RecordBroken.wrong-length x) = x (b l)
 
   record-refused : (n : ℕ) → at ≢ length s → step_refusal s at ≡ n → n ≢ 0 → FirstOf (RecordBroken s at) n → LaterRead s at (stepped_read s at)
@@ -289,7 +289,7 @@ module _ (s : List ℕ) (at : ℕ) where
       record-refused 12 here (rw a) (λ n. omega arith)
       (ends-where s at a
       (λ l. record { broken = RecordBroken.in-length l; none_before = before })
-      (λ l. record { broken = RecordBroken.in_Body l; none_before = before })))
+      (λ l. record { broken = RecordBroken.in-body l; none_before = before })))
       (λ a.
       let within : at + 2 + two s at ≤ length s = omega (arith, two_is s at, whole s at a) in
       split (eqb (get_n 2 s at) 11)
@@ -377,7 +377,7 @@ opened-stands {s} none e =
     in-or-out 4 (byte s 7) (λ l. absurd (none 14 (HeadBroken.size (λ (g : SizesFit (sizes_in s)). omega (arith, g.mailboxes))))) (λ l. l) in
     let sized : two s 1 ≡ 6 + byte s 7 = same_or (two s 1) (6 + byte s 7) (λ q. q) (λ q. absurd (none 13 (HeadBroken.wrong-length q))) in
     let body : 3 + two s 1 ≤ length s =
-    in-or-out (length s) (3 + two s 1) (λ l. absurd (none 12 (HeadBroken.in_Body l))) (λ l. l) in
+    in-or-out (length s) (3 + two s 1) (λ l. absurd (none 12 (HeadBroken.in-body l))) (λ l. l) in
     record { place = omega arith; few = few; short = short; within = omega arith }
 
 pub reached-stands : {s : List ℕ} {n at : ℕ} → Reached s (suc n) at → Stands s n at
@@ -392,7 +392,7 @@ reached-stands {s} (Reached.on {at = at} (Reached.on before q c given') r (ReadO
     let st : Stands s _ q.next = reached-stands (Reached.on before q c given') in
     let sized : two s q.next ≡ 11 = same_or (two s q.next) 11 (λ y. y) (λ y. absurd (none 13 (RecordBroken.wrong-length y))) in
     let body : q.next + 2 + two s q.next ≤ length s =
-    in-or-out (length s) (q.next + 2 + two s q.next) (λ l. absurd (none 12 (RecordBroken.in_Body l))) (λ l. l) in
+    in-or-out (length s) (q.next + 2 + two s q.next) (λ l. absurd (none 12 (RecordBroken.in-body l))) (λ l. l) in
     record {
       place = omega (arith, st.place, g.place);
       few = st.few;

@@ -85,32 +85,7 @@ use Rattle.promises.specs.Meant.Moves.{
   finish-world,
   sleep-world,
 }
-use Rattle.promises.specs.Meant.Calls.{
-  There,
-  InUse,
-  sized,
-  few,
-  good,
-  queue-join,
-  waits-is,
-  semaphore-wait-is,
-  signal-is,
-  binary-is,
-  release-is,
-  release-all-is,
-  resume-is,
-  event-signal-is,
-  event-wait-is,
-  writers,
-  readers,
-  told-writers,
-  post_is,
-  fetch-is,
-  pool-row,
-  pool-used,
-  at-pool,
-  alloc-is,
-}
+use Rattle.promises.specs.Meant.Calls.{There, InUse, queue-join, waits-is, semaphore-wait-is, signal-is, binary-is, release-is, release-all-is, resume-is, event-signal-is, event-wait-is, writers, readers, told-writers, post_is, fetch-is, pool-row, pool-used, at-pool, alloc-is}
 
 -- ---- 1: tick
 

@@ -5,7 +5,7 @@ use Rattle.std.proofs.Math.Path.{refl}
 use Rattle.std.proofs.Common.{sym, inl, inr, eqb-true, eq-eqb, ne_eqb}
 use Rattle.kernel.specs.declared.records.Thread.{Thread}
 use Rattle.kernel.specs.declared.records.Kernel.{Kernel}
-use Rattle.kernel.specs.Numbers.{nobody, ready}
+use Rattle.kernel.specs.Numbers.{ready}
 use Rattle.kernel.specs.Tables.{thread_at}
 use Rattle.kernel.specs.Waiters.{is_ready, running_free}
 use Rattle.kernel.proofs.Cases.{contrary}

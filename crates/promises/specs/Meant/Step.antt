@@ -4,9 +4,7 @@ use Rattle.std.proofs.Common.{arith, sym, ap, ◌∙◌, subst, inl, inr, append
 use Rattle.std.proofs.lemmas.Bool.{eqb-false}
 use Rattle.kernel.specs.declared.clock.Clock.{Clock}
 use Rattle.kernel.specs.declared.records.Thread.{Thread}
-use Rattle.kernel.specs.Numbers.{nobody}
 use Rattle.kernel.specs.Tables.{thread_at}
-use Rattle.kernel.specs.Moves.{finished}
 use Rattle.kernel.proofs.Cases.{split, same_or, in-or-out, contrary}
 use Rattle.kernel.proofs.TablesLaws.{thread-blank}
 use Rattle.library.specs.declared.calls.Step.{Step}

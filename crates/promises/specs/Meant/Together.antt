@@ -133,7 +133,7 @@ module _ (z : Sizes) (t : Thread) where
     call_fits =
         same_or kind 0
         (λ e.
-        let n = g.no_call e in
+        let n = g.no-call e in
         CallFits.none (λ x. record { kind = e x; object = n.0 x; operand = n.1.0 x; timeout = n.1.1 x }))
         (λ d.
         let h = g.timeout d in
@@ -339,7 +339,7 @@ module _ (z : Sizes) (t : Thread) where
         unready-state = λ n. (unready f.call s f.wait n).state;
         unready-place = λ n. (unready f.call s f.wait n).place;
         ready-place = rests f.wait;
-        no_call = fits-none f.call;
+        no-call = fits-none f.call;
         operand = fits-operand f.call;
         awaited = awaited f.awaited;
         none-pending = f.none-pending;

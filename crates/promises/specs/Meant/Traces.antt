@@ -297,7 +297,7 @@ stood {x = x} (ReadOf.later z (LaterRead.refused n m c d b g)) h e =
 stood {s} {at} {r} {x} (ReadOf.later z (LaterRead.stepped n b g)) h e =
     let right : two s at ≡ 11 = same_or (two s at) 11 (λ q. q) (λ q. absurd (b 13 (RecordBroken.wrong-length q))) in
     let whole : at + 2 + two s at ≤ length s =
-    in-or-out (length s) (at + 2 + two s at) (λ q. absurd (b 12 (RecordBroken.in_Body q))) (λ q. q) in
+    in-or-out (length s) (at + 2 + two s at) (λ q. absurd (b 12 (RecordBroken.in-body q))) (λ q. q) in
     record {
       place = g.place;
       right = right;
@@ -331,7 +331,7 @@ begun (ReadOf.head z (HeadRead.refused n b g)) e =
     apart (record { code = n; gives = 0; values = 0 ∷ [] }) sizes_read (sym g.found ∙ e) (λ q. omega arith)
 begun {s} (ReadOf.head z (HeadRead.opened b g)) e =
     let right : two s 1 ≡ 6 + byte s 7 = same_or (two s 1) (6 + byte s 7) (λ q. q) (λ q. absurd (b 13 (HeadBroken.wrong-length q))) in
-    let whole : 3 + two s 1 ≤ length s = in-or-out (length s) (3 + two s 1) (λ q. absurd (b 12 (HeadBroken.in_Body q))) (λ q. q) in
+    let whole : 3 + two s 1 ≤ length s = in-or-out (length s) (3 + two s 1) (λ q. absurd (b 12 (HeadBroken.in-body q))) (λ q. q) in
     record {
       place = g.place;
       is = g.sized;

@@ -72,7 +72,7 @@ pub data HeadBroken (s : List ℕ) : ℕ → Type 0 where
   version : byte s 0 ≢ 1 → HeadBroken s 11
   -- "12 the input ends inside a length or body, or before record 0"
   in-length : length s < 3 → HeadBroken s 12
-  in_body : length s < 3 + two s 1 → HeadBroken s 12
+  in-body : length s < 3 + two s 1 → HeadBroken s 12
   -- "13 wrong length": "Record 0's right length is 6 plus its M byte; below 6 is wrong"
   wrong-length : two s 1 ≢ 6 + byte s 7 → HeadBroken s 13
   -- "14 a size out of its limits"
@@ -83,7 +83,7 @@ pub data HeadBroken (s : List ℕ) : ℕ → Type 0 where
 -- answered there by 12 and 13 alone, in a trace above 60,000 bytes too
 pub data RecordBroken (s : List ℕ) (at : ℕ) : ℕ → Type 0 where
   in-length : length s < at + 2 → RecordBroken s at 12
-  in_body : length s < at + 2 + two s at → RecordBroken s at 12
+  in-body : length s < at + 2 + two s at → RecordBroken s at 12
   -- "Each later body is 11 bytes"
   wrong-length : two s at ≢ 11 → RecordBroken s at 13
 

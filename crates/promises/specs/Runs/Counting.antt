@@ -145,7 +145,7 @@ total-history f Few.none History.none = refl
 total-history f {n} (Few.more {m} {ms} few fs) (History.more is gs turns s o h) =
     let es = in_turn (shown_by n m) is in
     total-append f es gs
-    ∙ sym (total-append f (shown n m) (shown_in (suc n) ms) ∙ rw (sym (total-shown f n m es few s), sym (total-history f fs h)))
+    ∙ sym (total-append f (shown n m) (shown_in (suc n) ms) ∙ rw (sym (total-shown f n m es few s), sym (total-history f {n = suc n} fs h)))
 
 -- ---- each call once
 

@@ -81,7 +81,7 @@ own-state (OwnWait.reader e n) k = absurd (omega (arith, e, k))
 own-state (OwnWait.pool e n) k = absurd (omega (arith, e, k))
 
 module _ (t : Tables) (s : Step) (someone : s.caller ≢ 255) (was-ready : (row_of t s.caller).state ≡ 0)
-    (no-ticks : (row_of t s.caller).remaining ≡ 0) (no_call : (row_of t s.caller).call.kind ≡ 0) where
+    (no-ticks : (row_of t s.caller).remaining ≡ 0) (no-call : (row_of t s.caller).call.kind ≡ 0) where
   abbrev i : ℕ
   i = s.caller
 
@@ -111,7 +111,7 @@ module _ (t : Tables) (s : Step) (someone : s.caller ≢ 255) (was-ready : (row_
   -- nothing has happened to it yet
   passed : (w : World) → Passed t s i was-ready no-ticks w → Flags w
   passed w p =
-      Flagged.waits (ap (λ (u : Thread). u.pending) p.row) p.finished (inl (ap (λ (u : Thread). u.call.kind) p.row ∙ no_call))
+      Flagged.waits (ap (λ (u : Thread). u.pending) p.row) p.finished (inl (ap (λ (u : Thread). u.call.kind) p.row ∙ no-call))
 
   -- the step's own call ends, and it has taken no flags
   ended-with : (r : Thread) (m : ℤ) (d : ℕ) → OwnEnd t s m d → r.pending ≡ f → Flagged (call_ended r m d) true

@@ -52,13 +52,13 @@ module _ (i : ℕ) (someone : i ≢ 255) where
   -- who was first, and whose call ended, is first and has none
   record Goes (x : World) : Type 0 where
     pub first : First x i
-    pub no_call : (x.thread i).call.kind ≡ 0
+    pub no-call : (x.thread i).call.kind ≡ 0
 
   ended-goes : (w : World) (m : ℤ) (d : ℕ) → First w i → Goes (ended w i m d)
   ended-goes w m d f =
       record {
         first = first-stays w (ended w i m d) i refl (ended-state w i m d) f;
-        no_call = ap (λ (u : Thread). u.call.kind) (ended-own w i m d someone);
+        no-call = ap (λ (u : Thread). u.call.kind) (ended-own w i m d someone);
       }
 
   took-goes : (w : World) (a : ℕ) → First w i → Goes (took_flags w i a)
@@ -138,7 +138,7 @@ module _ (i : ℕ) (someone : i ≢ 255) where
       same_or i j
       (λ y.
       let o = own-goes g.kind (subst (First w) (sym y) f) (subst (λ (k : ℕ). Continued w k v) (sym y) c) in
-      subst (λ (u : World). First u i) (sym (settled-there i l o.first o.no_call)) o.first)
+      subst (λ (u : World). First u i) (sym (settled-there i l o.first o.no-call)) o.first)
       (λ d. settles-running l (other-waiting j d c g) q)
 
 -- ---- after the step's own act
@@ -228,7 +228,7 @@ module _ (t : Tables) (c : Clock) (s : Step) (host : Host t c s) (e : (stepped t
     own_first : s.caller ≡ i → s.kind ≡ 14 → First x i
     own_first z k =
         elim (own-act t s i me z (first-caller z) (subst (Act t c.time s w) k act)) [
-          | inl g ↦ subst (λ (u : World). First u i) (sym (settled-there i settles g.first g.no_call)) g.first
+          | inl g ↦ subst (λ (u : World). First u i) (sym (settled-there i settles g.first g.no-call)) g.first
           | inr g ↦ settles-running i me settles g finished
         ]
 

@@ -111,13 +111,17 @@ numbered-stays n (m ∷ ms) l h =
     (λ e. rw e (let more : 4294967295 ≤ n + (0 + how_many is_accepted ms) = rw e at h in numbered-stays n ms l (omega (arith, more)))))
 
 -- who is in no woken mask keeps what its record said
+unwoken-last : {i : ℕ} {last y : Why} {n : ℕ} {ms : List Moment} → LastWaking i last n y ms → any_of (λ m. in_mask i m.result.woken) ms ≡ false
+    → last ≡ y
+unwoken-last (LastWaking.ends e) z = e
+unwoken-last {i} (LastWaking.passes {m = m} {ms = ms} w l) z =
+    unwoken-last l (neither-means (in_mask i m.result.woken) (any_of (λ m. in_mask i m.result.woken) ms) z).1
+unwoken-last {i} (LastWaking.wakes {m = m} {ms = ms} x c w e b l) z =
+    contrary w (neither-means (in_mask i m.result.woken) (any_of (λ m. in_mask i m.result.woken) ms) z).0
+
 pub unwoken-same : {i n : ℕ} {last y : Why} {ms : List Moment} → LastWaking i last n y ms → any_of (λ m. in_mask i m.result.woken) ms ≡ false
     → last ≡ y
-unwoken-same (LastWaking.ends e) z = e
-unwoken-same {i} (LastWaking.passes {m = m} {ms = ms} w l) z =
-    unwoken-same l (neither-means (in_mask i m.result.woken) (any_of (λ m. in_mask i m.result.woken) ms) z).1
-unwoken-same {i} (LastWaking.wakes {m = m} {ms = ms} x c w e b l) z =
-    contrary w (neither-means (in_mask i m.result.woken) (any_of (λ m. in_mask i m.result.woken) ms) z).0
+unwoken-same l z = unwoken-last l z
 
 -- fresh records say that nobody was woken yet
 pub fresh-why : (z : Sizes) (t : Tables) → FreshTables z t → (i : ℕ) → why_of (row_of t i) ≡ not_yet

@@ -32,7 +32,7 @@ use Rattle.promises.specs.Runs.Closed.{Closed, closed-act, closed_on}
 use Rattle.promises.specs.Runs.OneRow.{Steady, RowOn, row_on, step_kept}
 use Rattle.promises.specs.Runs.Sleepers.{life-keeps}
 use Rattle.promises.specs.Runs.Wakers.{calm-keeps, calm-after}
-use Rattle.promises.specs.Runs.Ready.{ready-act, acted-after, ready_on}
+use Rattle.promises.specs.Runs.Ready.{ready-act, acted-after, ready-on}
 use Rattle.promises.specs.Runs.Causes.{sleeper-why, why-on, why-act}
 use Rattle.promises.specs.Runs.Flags.{ready-flags, sleeper-flags, flags-keep, caller-flags}
 use Rattle.promises.specs.Meant.Pools.{promise-stocked}
@@ -218,8 +218,8 @@ module _ (t : Tables) (c : Clock) (s : Step) (host : Host t c s) (e : (stepped t
         (step_keeps _ (calm-keeps t s i is-thread z (no-ticks z))).1)
 
     -- whoever calls has no call to be continued
-    no_call : s.caller ≡ i → (row_of t i).call.kind ≡ 0
-    no_call z = (together t c s host e).running i (subst (First (found t)) z (caller-first t c s host e (rw z is-thread)))
+    no-call : s.caller ≡ i → (row_of t i).call.kind ≡ 0
+    no-call z = (together t c s host e).running i (subst (First (found t)) z (caller-first t c s host e (rw z is-thread)))
 
     no_place : (row_of t i).state ≡ 0 → (row_of t i).place ≡ 0
     no_place z = nowhere its-fit.wait
@@ -242,12 +242,12 @@ module _ (t : Tables) (c : Clock) (s : Step) (host : Host t c s) (e : (stepped t
         told (ReadyAfter t s i)
         (act-settles _ _ (ready-act t s i is-thread n z (no-ticks z) (no_place z) its-fit.awaited)
         (acted-after t s i is-thread n z (no-ticks z) (no_place z) its-fit.awaited)
-        (ready_on t s i is-thread n z (no-ticks z) (no_place z) its-fit.awaited)).1
+        (ready-on t s i is-thread n z (no-ticks z) (no_place z) its-fit.awaited)).1
 
     -- a thread that was woken before, and not continued yet
     pub woken-after : (row_of t i).state ≡ 0 → (row_of t i).call.kind ≢ 0
         → ReadyAfter t s i (row_of u i) (in_mask i (stepped t c s).outcome.woken) (in_mask i (stepped t c s).outcome.finished)
-    woken-after z k = ready-after z (λ e. k (no_call (sym e)))
+    woken-after z k = ready-after z (λ e. k (no-call (sym e)))
 
     -- the caller
     own-flags : i ≡ s.caller → FlagsAfter t s i (row_of u i) (in_mask i (stepped t c s).outcome.finished)
@@ -257,7 +257,7 @@ module _ (t : Tables) (c : Clock) (s : Step) (host : Host t c s) (e : (stepped t
         let me : s.caller ≢ 255 = rw x at is-thread in
         let is-ready : (row_of t s.caller).state ≡ 0 = rw x at z in
         let ticks : (row_of t s.caller).remaining ≡ 0 = rw x at (no-ticks z) in
-        let call : (row_of t s.caller).call.kind ≡ 0 = rw x at (no_call (sym x)) in
+        let call : (row_of t s.caller).call.kind ≡ 0 = rw x at (no-call (sym x)) in
         told (λ b w f. FlagsAfter t s i b f)
         (subst (λ (j : ℕ). FlagsAfter t s j (v.thread j) (v.finished j)) (sym x)
         (caller-flags t s me is-ready ticks call (step_keeps _ (flags-keep t s me is-ready ticks call)).1))

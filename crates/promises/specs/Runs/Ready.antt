@@ -152,7 +152,7 @@ module _ (t : Tables) (s : Step) (i : ℕ) (someone : i ≢ 255) (apart : i ≢ 
   pub acted-after : (w : World) → Steady t s i someone Acted w → Steady t s i someone (ReadyAfter t s i) w
   acted-after w h = (h.0, ReadyAfter.on h.1.0 h.1.1 h.1.2)
 
-  pub ready_on : KeepsOn t s (Steady t s i someone (ReadyAfter t s i))
-  ready_on =
+  pub ready-on : KeepsOn t s (Steady t s i someone (ReadyAfter t s i))
+  ready-on =
       row_on t s i someone (ReadyAfter t s i)
       (record { wakes = woken-own; ends_on = ends-own; takes-on = takes-own; sleeps-on = sleeps-own })

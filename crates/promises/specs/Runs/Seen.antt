@@ -12,7 +12,6 @@ use Rattle.promises.specs.Paper.World.{World, found, kept}
 use Rattle.promises.specs.Paper.Together.{is_zero}
 use Rattle.promises.specs.Paper.Waking.{row_of}
 use Rattle.promises.specs.Paper.History.{Event, is_counted, events_of, those, is_of, is_among, in_turn}
-use Rattle.promises.specs.Meant.Step.{own}
 use Rattle.promises.specs.Runs.Dealing.{those-append}
 use Rattle.promises.specs.Runs.Deeds.{answer_of, Own, Did}
 

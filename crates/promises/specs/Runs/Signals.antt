@@ -141,7 +141,7 @@ module _ (t : Tables) (c : Clock) (s : Step) (host : Host t c s) (e : (stepped t
   -- of the record and the bits of a thread whose call has ended with a
   record Done (a : Answer) (r : Thread) (w f : Bool) : Type 0 where
     is-ready : r.state ≡ 0
-    no_call : r.call.kind ≡ 0
+    no-call : r.call.kind ≡ 0
     answer : r.answer ≡ a
     finished : f ≡ true
 
@@ -151,9 +151,9 @@ module _ (t : Tables) (c : Clock) (s : Step) (host : Host t c s) (e : (stepped t
     done_on z =
         record {
           wakes = λ m o n b d. absurd (n d.is-ready);
-          ends_on = λ m b r n g d. absurd (n d.no_call);
-          takes-on = λ r k m d. absurd (omega (arith, k, d.no_call));
-          sleeps-on = λ q r b m g u d. absurd ((mail-other b).1 d.no_call);
+          ends_on = λ m b r n g d. absurd (n d.no-call);
+          takes-on = λ r k m d. absurd (omega (arith, k, d.no-call));
+          sleeps-on = λ q r b m g u d. absurd ((mail-other b).1 d.no-call);
         }
 
     -- an interrupt's answer stays too
@@ -202,7 +202,7 @@ module _ (t : Tables) (c : Clock) (s : Step) (host : Host t c s) (e : (stepped t
           begun : (z : j ≢ 255) → Stands t s j z (Done a) (ended v j m 0)
           begun z =
               rw (ended-own v j m 0 z, ended-finished v j m 0 z)
-              (record { is-ready = is-ready z; no_call = refl; answer = refl; finished = refl })
+              (record { is-ready = is-ready z; no-call = refl; answer = refl; finished = refl })
 
   -- ---- at the top
 
@@ -262,18 +262,18 @@ module _ (t : Tables) (c : Clock) (s : Step) (host : Host t c s) (e : (stepped t
             rw (z, thread-blank (acted (started t s) c.time s).kernel 255 (omega (arith, (sized (acted (started t s) c.time s) whole).threads)))
 
     -- a calling thread has no call, and awaits nothing
-    no_call : j ≢ 255 → ((row_of t j).call ≡ no_call) × ((row_of t j).awaited ≡ 0)
-    no_call z =
+    no-call : j ≢ 255 → ((row_of t j).call ≡ no_call) × ((row_of t j).awaited ≡ 0)
+    no-call z =
         let f = caller-first t c s host e z in
         let none = (together t c s host e).running j f in
         let g = (hangs t c s host (accepted t c s host e)).together.good.threads j f.thread in
-        let n = g.no_call none in
+        let n = g.no-call none in
         (λ x. record { kind = none x; object = n.0 x; operand = n.1.0 x; timeout = n.1.1 x }, g.awaited ∙ rw none)
 
     left-thread : j ≢ 255 → closed left ≡ answered_in t j (pos 1)
     unfolding finished
     left-thread z =
-        let q = no_call z in
+        let q = no-call z in
         rw (ne_eqb j 255 z, q.0, q.1)
 
     left-interrupt : j ≡ 255 → closed left ≡ risen_in t

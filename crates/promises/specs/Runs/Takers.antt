@@ -321,7 +321,7 @@ module _ (q o : ℕ) (pool : q < 4) (object : o < 32) where
       let mid : y ≢ Standing.mistaken = λ z. right (standing-append q o x es fs ∙ ap (λ (w : Standing). standing q o w fs) z ∙ mistaken-stays q o fs) in
       let now = step-has es (shown n m) x a (λ f. total-shown f n m es few s) (own_first es x p mid) size h in
       rw (standing-append q o x es fs, entered-append a (shown n m) (shown_in (suc n) ms))
-      (run-has rest hist y (entered_all a (shown n m)) (all-sized (shown n m) a size) now (λ z. right (standing-append q o x es fs ∙ z)))
+      (run-has {n = suc n} rest hist y (entered_all a (shown n m)) (all-sized (shown n m) a size) now (λ z. right (standing-append q o x es fs ∙ z)))
 
 -- WHAT IS PRINTED of a run with these events
 pub printed : (ss : List Step) → HostSteps ss → (t : Tables) (c : Clock) → Going t c → (st : ℕ → ℕ → Standing)

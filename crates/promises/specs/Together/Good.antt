@@ -63,7 +63,7 @@ pub record GoodThread (z : Sizes) (t : Thread) : Type 0 where
   -- "where it waits (nowhere if ready)"
   pub ready-place : t.state ≡ ready → t.place ≡ nowhere
   -- "call fields": "all 0 without one"
-  pub no_call : t.call.kind ≡ 0 → (t.call.object ≡ 0) × ((t.call.operand ≡ 0) × (t.call.timeout ≡ 0))
+  pub no-call : t.call.kind ≡ 0 → (t.call.object ≡ 0) × ((t.call.operand ≡ 0) × (t.call.timeout ≡ 0))
   -- "keeps 0 for unused fields"
   pub operand : t.call.kind ≢ 0 → keeps_operand t.call.kind ≡ false → t.call.operand ≡ 0
   -- "awaited flags (an unfinished 14's mask, else 0)"

@@ -118,8 +118,8 @@ module _ (z : Sizes) (t : Thread) where
 
   -- ---- the record
 
-  object_of : call_sound t.call z ≡ true → t.call.object < call_limit z t.call.kind
-  object_of e =
+  object-of : call_sound t.call z ≡ true → t.call.object < call_limit z t.call.kind
+  object-of e =
       ltb-true t.call.object (call_limit z t.call.kind) (both-means (ltb t.call.object (call_limit z t.call.kind)) _ e).0
 
   rest_of : call_sound t.call z ≡ true
@@ -151,17 +151,17 @@ module _ (z : Sizes) (t : Thread) where
       let x = parts e in
       let f = flags_of x.1.1.1.0 in
       record {
-        object = λ n. object_of (sound-of x.0 n);
+        object = λ n. object-of (sound-of x.0 n);
         ready-ticks = λ h. no-ticks-of x.1.1.0 (either_first (eqb t.call.timeout infinite) (eq-eqb t.state ready h));
         infinite-ticks = λ h. no-ticks-of x.1.1.0 (either_second (is_ready t) (eq-eqb t.call.timeout infinite h));
         ticks = λ n h. ticks-of x.1.1.0 (neither n h);
-        kind = λ n. kind-listed z t.call.kind t.call.object (object_of (sound-of x.0 n));
+        kind = λ n. kind-listed z t.call.kind t.call.object (object-of (sound-of x.0 n));
         timeout = λ n. leb-true 1 t.call.timeout (rest_of (sound-of x.0 n)).0;
         unready-call = λ n h. n ((waits-of x.1.0 n).0 ∙ ap wait_state h);
         unready-state = λ n. (waits-of x.1.0 n).0;
         unready-place = λ n. (waits-of x.1.0 n).1;
         ready-place = nowhere-of x.1.0;
-        no_call = λ h. cleared (clear_of x.0 h);
+        no-call = λ h. cleared (clear_of x.0 h);
         operand = λ n. operand-of (rest_of (sound-of x.0 n)).1;
         awaited = eqb-true t.awaited (awaited_by t.call) f.0;
         none-pending = none-pending-of f.1;
@@ -175,7 +175,7 @@ module _ (z : Sizes) (t : Thread) where
   of-call g =
       chosen (λ v. v ≡ true) (eqb t.call.kind 0)
       (λ e.
-      let x = g.no_call (eqb-true t.call.kind 0 e) in
+      let x = g.no-call (eqb-true t.call.kind 0 e) in
       both_true (eq-eqb t.call.object 0 x.0)
       (both_true (eq-eqb t.call.operand 0 x.1.0) (eq-eqb t.call.timeout 0 x.1.1)))
       (λ e.

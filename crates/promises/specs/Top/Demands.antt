@@ -16,18 +16,18 @@ use Rattle.steps.specs.Stepping.{stepped}
 use Rattle.host.specs.Screen.{ready_count, ready_first, waiters_at}
 use Rattle.promises.specs.Paper.World.{found}
 use Rattle.promises.specs.Paper.Together.{TicksFit, WordsAgree, HangTogether}
-use Rattle.promises.specs.Paper.Host.{Host, HostSteps, Going, HostStep}
+use Rattle.promises.specs.Paper.Host.{Host, HostSteps, Going}
 use Rattle.promises.specs.Paper.Refusals.{Broken, RefusedWith, Answered}
 use Rattle.promises.specs.Paper.Step.{StepOf}
 use Rattle.promises.specs.Paper.Waking.{row_of, in_mask}
 use Rattle.promises.specs.Paper.Boundary.{ScreenOf}
-use Rattle.promises.specs.Paper.Run.{ticks_in, signals_in, joins_in, higher, WokenIn, WakingOf, TurnAt, begun_with}
+use Rattle.promises.specs.Paper.Run.{ticks_in, signals_in, joins_in, higher, WokenIn, WakingOf, TurnAt}
 use Rattle.promises.specs.Paper.Flags.{answered_in, Account}
 use Rattle.promises.specs.Paper.EachThread.{EachThread, Throughout}
 use Rattle.promises.specs.Paper.Fresh.{Legal}
 use Rattle.promises.specs.Code.Steps.{ran, moments, fresh_ran}
 use Rattle.promises.specs.Kept.Steps.{made-hang}
-use Rattle.promises.specs.Runs.Moments.{going_on, sleeps-end, turn-comes, each_step, begun}
+use Rattle.promises.specs.Runs.Moments.{going_on, sleeps-end, turn-comes, each_step}
 use Rattle.promises.specs.Runs.Accounts.{flag-account, signalled-kept}
 use Rattle.promises.specs.Meant.Together.{rules-together}
 use Rattle.promises.specs.Meant.Screen.{screen-is}
@@ -108,7 +108,7 @@ module _ (t : Tables) (c : Clock) (s : Step) (host : Host t c s) where
   pub demand-2 : StepOf t c s (stepped t c s) × ((r : Stepped) → StepOf t c s r → r ≡ stepped t c s)
   demand-2 = demand-two t c s host
 
--- ---- DEMAND 3, from any tables that hang together
+-- ---- DEMAND 3, from any tables that hang together. What rests on `sleep-ends` is in proofs/Sleeps.antt
 
 -- a timed call's remaining ticks are at most its timeout
 ticks-left : {a : Thread} → TicksFit a → a.call.timeout ≤ 4294967294 → a.remaining ≤ a.call.timeout
@@ -139,21 +139,6 @@ module _ (t : Tables) (c : Clock) (g : Going t c) (ss : List Step) (hs : HostSte
       → WokenIn i (TurnAt (16 + q) i) (moments t c ss)
   turn-of-pool i q l there st pl none r =
       turn-comes (16 + q) (omega (arith, there, g.together.sizes.pools)) ss hs t c g i l st pl none r
-
--- a, from the step in which a sleep begins: its caller's own, with that step's timeout (12's interval), or a mailbox call's that sleeps again, with
--- its full one
-module _ (t : Tables) (c : Clock) (g : Going t c) (s : Step) (h : HostStep s) (accepted : (stepped t c s).outcome.code ≡ 0) (ss : List Step) (hs : HostSteps ss) where
-  abbrev pub u : Tables
-  u = (stepped t c s).tables
-
-  abbrev pub d : Clock
-  d = (stepped t c s).clock
-
-  pub begun-ends : (i : ℕ) → i < t.sizes.threads → (row_of t i).state ≡ 0 → (row_of u i).state ≢ 0 → begun_with t c s i ≤ 4294967294
-      → begun_with t c s i ≤ ticks_in (moments u d ss) → WokenIn i (WakingOf i) (moments u d ss)
-  begun-ends i l z n m r =
-      let x = begun t c g s h accepted i l z n in
-      sleep-ends u d (going_on t c g s h) ss hs i x.0 n (rw x.1 m) (rw x.1 r)
 
 -- ---- "Fresh tables pass, and accepted steps keep it so"
 
@@ -226,18 +211,6 @@ module _ (y : Sizes) (r : Rate) (legal : Legal y r) (xs : List Step) (hx : HostS
   words-always = going.together.words
 
   module _ (ss : List Step) (hs : HostSteps ss) (i : ℕ) (within : i < t₁.sizes.threads) where
-    -- "a sleep with timeout t ends by its t-th later accepted tick"
-    pub demand-3a : (row_of t₁ i).state ≢ 0 → (row_of t₁ i).call.timeout ≤ 4294967294 → (row_of t₁ i).call.timeout ≤ ticks_in (moments t₁ c₁ ss)
-        → WokenIn i (WakingOf i) (moments t₁ c₁ ss)
-    demand-3a = sleep-ends t₁ c₁ going ss hs i within
-
-    -- the same from the step in which it begins, which leaves s the tables u and the clock d
-    pub demand-3a-begun : (s : Step) → HostStep s → (stepped t₁ c₁ s).outcome.code ≡ 0 → (row_of t₁ i).state ≡ 0
-        → (row_of (stepped t₁ c₁ s).tables i).state ≢ 0 → begun_with t₁ c₁ s i ≤ 4294967294
-        → begun_with t₁ c₁ s i ≤ ticks_in (moments (stepped t₁ c₁ s).tables (stepped t₁ c₁ s).clock ss)
-        → WokenIn i (WakingOf i) (moments (stepped t₁ c₁ s).tables (stepped t₁ c₁ s).clock ss)
-    demand-3a-begun s h e = begun-ends t₁ c₁ going s h e ss hs i within
-
     -- "each sleep ends at most once, at its first waking, with that waking's message"
     pub demand-3b : Throughout EachThread (moments t₁ c₁ ss)
     demand-3b = one-waking t₁ c₁ going ss hs

@@ -34,18 +34,18 @@ use Rattle.steps.specs.Stepping.{mask_of, outcome_of, done_with, refused_with, s
 use Rattle.host.specs.Screen.{ready_count, ready_first, waiters_at}
 use Rattle.promises.specs.Paper.Host.{HostSteps}
 use Rattle.promises.specs.Paper.Waking.{row_of}
-use Rattle.promises.specs.Paper.Run.{WokenIn, WakingOf, TurnAt}
+use Rattle.promises.specs.Paper.Run.{WokenIn, TurnAt}
 use Rattle.promises.specs.Paper.EachThread.{EachThread, Throughout}
 use Rattle.promises.specs.Paper.Fresh.{Legal}
 use Rattle.promises.specs.Paper.Frequency.{ran_at}
 use Rattle.promises.specs.Meant.Fresh.{code-legal}
 use Rattle.promises.specs.Code.Steps.{moments, fresh_ran}
 use Rattle.promises.specs.Top.ShownSteps.{by, typed}
-use Rattle.promises.specs.Top.Demands.{demand-3a, demand-3a-begun, demand-3b, demand-3c, demand-3c-pools}
+use Rattle.promises.specs.Top.Demands.{demand-3b, demand-3c, demand-3c-pools}
 use Rattle.promises.specs.Top.Frequency.{any-frequency-fresh}
 
 -- two threads, one semaphore, one pool
-abbrev two : Sizes
+abbrev pub two : Sizes
 two = record { threads = 2; semaphores = 1; queues = 0; references = 0; mailboxes = 0; pools = 1; slots = 0 ∷ 0 ∷ 0 ∷ 0 ∷ [] }
 
 -- such tables are made
@@ -53,7 +53,7 @@ pub made-shown : Legal two Standard
 unfolding all_from sizes_fit made
 made-shown = code-legal two Standard refl
 
-abbrev alone : Step → List Step
+abbrev pub alone : Step → List Step
 alone s = s ∷ []
 
 pub one : (i kind a timeout : ℕ) → a < 4294967296 → HostSteps (alone (by i kind a timeout))
@@ -61,31 +61,14 @@ one i kind a timeout h = HostSteps.more (typed i kind a timeout h) HostSteps.non
 
 -- ---- a, b: thread 0 waits at the semaphore for one tick, and the tick comes
 
-abbrev waits : ℕ → ℕ → Step
+abbrev pub waits : ℕ → ℕ → Step
 waits i timeout = by i 2 0 timeout
 
-abbrev tick : Step
+abbrev pub tick : Step
 tick = by 255 1 0 0
 
 pub waits-typed : (timeout : ℕ) → HostSteps (alone (waits 0 timeout))
 waits-typed timeout = one 0 2 0 timeout (omega arith)
-
-pub demand-3a-shown :
-    WokenIn 0 (WakingOf 0)
-    (moments (fresh_ran two Standard (alone (waits 0 1))).tables (fresh_ran two Standard (alone (waits 0 1))).clock (alone tick))
-unfolding first_from all_from count_of word_of first_of first_ready first_waiter taken_off put_on woken slept finished blocked enqueued released_first released_all taken waited signalled ticked sizes_fit made signal_acted call_made effected acted_on_kernel acted went_on settled call_fits wait_fits ticks_fit flags_fit row_fits rows_fit queued_count counters_fit ready_word waiting_word ready_fits waiting_fits words_fit holder_fits references_fit positions_fit mailboxes_fit promised_count occurrences entries_fit objects_fit pool_fits pools_fit hangs_together refusal_of mask_of outcome_of done_with refused_with stepped
-demand-3a-shown =
-    demand-3a two Standard made-shown (alone (waits 0 1)) (waits-typed 1) (alone tick) (one 255 1 0 0 (omega arith)) 0 (omega arith)
-    (λ z. omega (arith, z)) (omega arith) (omega arith)
-
--- the same from the step in which it begins to wait
-pub demand-3a-begun-shown :
-    WokenIn 0 (WakingOf 0) (moments (stepped (fresh_ran two Standard []).tables (fresh_ran two Standard []).clock (waits 0 1)).tables
-    (stepped (fresh_ran two Standard []).tables (fresh_ran two Standard []).clock (waits 0 1)).clock (alone tick))
-unfolding first_from all_from count_of word_of first_of first_ready first_waiter taken_off put_on woken slept finished blocked enqueued released_first released_all taken waited signalled ticked sizes_fit made signal_acted call_made effected acted_on_kernel acted went_on settled call_fits wait_fits ticks_fit flags_fit row_fits rows_fit queued_count counters_fit ready_word waiting_word ready_fits waiting_fits words_fit holder_fits references_fit positions_fit mailboxes_fit promised_count occurrences entries_fit objects_fit pool_fits pools_fit hangs_together refusal_of mask_of outcome_of done_with refused_with stepped
-demand-3a-begun-shown =
-    demand-3a-begun two Standard made-shown [] HostSteps.none (alone tick) (one 255 1 0 0 (omega arith)) 0 (omega arith) (waits 0 1)
-    (typed 0 2 0 1 (omega arith)) refl refl (λ z. omega (arith, z)) (omega arith) (omega arith)
 
 pub demand-3b-shown :
     Throughout EachThread

@@ -34,14 +34,13 @@ use Rattle.library.specs.declared.calls.Step.{Step}
 use Rattle.library.specs.declared.sizes.Sizes.{Sizes}
 use Rattle.promises.specs.Paper.Host.{HostSteps}
 use Rattle.promises.specs.Paper.Waking.{row_of}
-use Rattle.promises.specs.Paper.Run.{WokenIn, WakingOf, begun_with}
+use Rattle.promises.specs.Paper.Run.{begun_with}
 use Rattle.promises.specs.Paper.Fresh.{Legal}
-use Rattle.promises.specs.Code.Steps.{moments, fresh_ran}
+use Rattle.promises.specs.Code.Steps.{fresh_ran}
 use Rattle.promises.specs.Meant.Fresh.{code-legal}
-use Rattle.promises.specs.Top.ShownSteps.{by, more, typed}
-use Rattle.promises.specs.Top.Demands.{demand-3a-begun}
+use Rattle.promises.specs.Top.ShownSteps.{by, more}
 
-abbrev narrow : Sizes
+abbrev pub narrow : Sizes
 narrow = record { threads = 2; semaphores = 0; queues = 0; references = 0; mailboxes = 1; pools = 0; slots = 1 ∷ 0 ∷ 0 ∷ 0 ∷ [] }
 
 pub made-narrow : Legal narrow Standard
@@ -49,7 +48,7 @@ unfolding all_from sizes_fit made
 made-narrow = code-legal narrow Standard refl
 
 -- thread 0 sleeps for a tick, and thread 1 waits for a message, for at most two; thread 0 posts one, which wakes thread 1, and fetches it itself
-abbrev taken_away : List Step
+abbrev pub taken_away : List Step
 taken_away = by 0 11 0 1 ∷ by 1 17 0 2 ∷ by 255 1 0 0 ∷ by 0 15 5 0 ∷ by 0 17 0 0 ∷ []
 
 pub taken-typed : HostSteps taken_away
@@ -58,10 +57,10 @@ taken-typed =
     (more 1 17 0 2 _ (omega arith) (more 255 1 0 0 _ (omega arith) (more 0 15 5 0 _ (omega arith) (more 0 17 0 0 _ (omega arith) HostSteps.none))))
 
 -- then it sleeps: thread 1's fetch is tried again, and finds nothing
-abbrev leaves : Step
+abbrev pub leaves : Step
 leaves = by 0 11 0 100
 
-abbrev ticks : List Step
+abbrev pub ticks : List Step
 ticks = by 255 1 0 0 ∷ by 255 1 0 0 ∷ []
 
 -- the state of thread 1 before and after that step, the timeout that it begins with, its remaining ticks then, and its wake message at the end
@@ -74,13 +73,3 @@ pub again-shown :
     ≡ 0 ∷ 3 ∷ 2 ∷ 2 ∷ []
 unfolding first_from all_from count_of word_of first_of first_ready first_waiter taken_off put_on woken slept finished blocked enqueued released_first released_all taken waited signalled reset_to suspended_on resumed slept_for slept_until took_flags event_signalled event_waited ticked binary_signalled ring_posted posted_ahead ring_fetched emptied post_done post_tried fetch_done fetch_tried both_released mailbox_reset mailbox_resumed popped pushed handed_over alloc_tried put_back sizes_fit made signal_acted call_made effected acted_on_kernel box_effected acted_on_box acted went_on settled call_fits wait_fits ticks_fit flags_fit row_fits rows_fit queued_count counters_fit ready_word waiting_word ready_fits waiting_fits words_fit holder_fits references_fit positions_fit mailboxes_fit promised_count occurrences entries_fit objects_fit pool_fits pools_fit hangs_together refusal_of mask_of outcome_of done_with refused_with stepped
 again-shown = refl
-
--- the promise speaks of it
-pub begun-again-shown :
-    WokenIn 1 (WakingOf 1)
-    (moments (stepped (fresh_ran narrow Standard taken_away).tables (fresh_ran narrow Standard taken_away).clock leaves).tables
-    (stepped (fresh_ran narrow Standard taken_away).tables (fresh_ran narrow Standard taken_away).clock leaves).clock ticks)
-unfolding first_from all_from count_of word_of first_of first_ready first_waiter taken_off put_on woken slept finished blocked enqueued released_first released_all taken waited signalled reset_to suspended_on resumed slept_for slept_until took_flags event_signalled event_waited ticked binary_signalled ring_posted posted_ahead ring_fetched emptied post_done post_tried fetch_done fetch_tried both_released mailbox_reset mailbox_resumed popped pushed handed_over alloc_tried put_back sizes_fit made signal_acted call_made effected acted_on_kernel box_effected acted_on_box acted went_on settled call_fits wait_fits ticks_fit flags_fit row_fits rows_fit queued_count counters_fit ready_word waiting_word ready_fits waiting_fits words_fit holder_fits references_fit positions_fit mailboxes_fit promised_count occurrences entries_fit objects_fit pool_fits pools_fit hangs_together refusal_of mask_of outcome_of done_with refused_with stepped
-begun-again-shown =
-    demand-3a-begun narrow Standard made-narrow taken_away taken-typed ticks (more 255 1 0 0 _ (omega arith) (more 255 1 0 0 _ (omega arith) HostSteps.none))
-    1 (omega arith) leaves (typed 0 11 0 100 (omega arith)) refl refl (λ z. omega (arith, z)) (omega arith) (omega arith)

@@ -1,0 +1,3 @@
+-- The meanings that the contracts cite, in the order in which they build on each other.
+pub mod Put
+pub mod Decimal

@@ -1,0 +1,21 @@
+-- A number is at most 4 bytes wide, so a place is at most 65535 + 4 * 65535 bytes behind the start.
+use Rattle.std.proofs.Common.{refl, arith}
+use Rattle.compare.specs.Laid.{offset_of, places_put}
+use Rattle.compare.proofs.LaidLaws.{width-le, offset-le, offset-next, put_next}
+use Rattle.compare.proofs.laying.put_places.Goals as goal
+
+pub loop-i-init : goal.loop-i-init
+unfolding offset_of places_put
+loop-i-init c = record { in_range = omega arith; place = omega arith; put = refl }
+
+pub overflow_add-at : goal.overflow_add-at
+overflow_add-at c = omega (arith, c.loop-i.invariant.place, offset-le c.loop-i.i, c.width_of-at.ensures, width-le c.loop-i.i)
+
+pub loop-i-preserved : goal.loop-i-preserved
+loop-i-preserved c =
+    let loop = c.loop-i in
+    record {
+      in_range = omega arith;
+      place = omega (arith, loop.invariant.place, c.width_of-at.ensures, offset-next loop.i);
+      put = put_next _ _ _ _ _ _ _ _ loop.invariant.place loop.invariant.put c.cell_at.ensures c.put_number.ensures;
+    }

@@ -1,0 +1,8 @@
+-- What the proofs share.
+pub mod ReadingLaws
+pub mod LinesLaws
+pub mod NumberLaws
+pub mod WordLaws
+pub mod EntryLaws
+pub mod BackLaws
+pub mod Unique

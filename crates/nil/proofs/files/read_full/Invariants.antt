@@ -1,0 +1,9 @@
+-- Each turn puts bytes behind those that stand in the buffer, within it.
+use Rattle.std.proofs.Common.{◌-◌, ◌≤◌, length}
+use Rattle.nil.proofs.files.read_full.Given as goal
+
+abbrev pub invariant-loop-done : goal.invariant-loop-done
+invariant-loop-done g l = l.done ≤ length l.buf
+
+abbrev pub decreases-loop-done : goal.decreases-loop-done
+decreases-loop-done g l = length l.buf - l.done

@@ -1,0 +1,2 @@
+-- The meanings that the contracts cite.
+pub mod Replaying

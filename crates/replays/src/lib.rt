@@ -1,0 +1,4 @@
+// The tables that a trace leaves.
+#![tactic(auto)]
+
+pub mod replaying;
