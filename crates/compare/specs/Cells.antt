@@ -177,7 +177,7 @@ clock_with c f v =
 
 -- ---- one number of all that is kept
 
--- the tables' parts, as they lie
+-- the number at the place i: of the tables' parts as they lie, then of the clock
 unfoldable pub cell_at : Kept → ℕ → ℕ
 cell_at a i =
     cond (ltb i counters_at) (thread_cell (row_in a.tables.kernel.threads (i / 14)) (i % 14))

@@ -10,7 +10,7 @@ use Rattle.compare.specs.Changes.{Change, differs, changes}
 use Rattle.compare.specs.Cells.{size_cell}
 use Rattle.compare.specs.Order.{fields, named, reading_of}
 
--- of the first n fields
+-- what differs among the first n fields
 unfoldable pub changed : Kept → Kept → ℕ → List Change
 changed a b n = changes (reading_of a) (reading_of b) n
 

@@ -24,7 +24,7 @@ use Rattle.compare.specs.Cells.{
   sizes_head,
 }
 
--- the numbers that 8, 16 and 32 bits have
+-- how many numbers 8, 16 and 32 bits have
 abbrev pub bytes : ℕ
 bytes = 256
 
@@ -62,7 +62,7 @@ box_limit f = cond (ltb f 4) halves words
 abbrev pub pool_limit : ℕ → ℕ
 pool_limit f = cond (eqb f 0) halves bytes
 
--- the width of the place i
+-- how many numbers the place i has room for
 unfoldable pub limit_of : ℕ → ℕ
 limit_of i =
     cond (ltb i counters_at) (thread_limit (i % 14))

@@ -44,7 +44,7 @@ saved a l = cond (ltb (length l) file_length) l (file_of a ++ drop file_length l
 abbrev pub body_in : List ℕ → List ℕ
 body_in l = take body_length (drop head_length l)
 
--- 11 another layout, 12 too few bytes, 13 too many, 6 a checksum that is not the bytes' own
+-- 11 fewer than 4 bytes or another layout, 12 too few bytes, 13 too many, 6 a checksum that is not the bytes' own
 unfoldable pub load_code : List ℕ → ℕ
 load_code l =
     cond (ltb (length l) 4) 11

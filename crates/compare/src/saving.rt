@@ -40,7 +40,8 @@ pub fn save(a: Kept, file: &mut [u8]) -> u16
     0
 }
 
-// Why a file is refused, or 0: 11 another layout, 12 too few bytes, 13 too many, 6 a checksum that is not the bytes' own.
+// Why a file is refused, or 0: 11 fewer than 4 bytes or another layout, 12 too few bytes, 13 too many, 6 a checksum that is not the
+// bytes' own.
 #[tactic(auto, unfolding(crate::specs::Saved::load_code))]
 fn judge_file(file: &[u8]) -> u16
     ensures { result ≡ load_code file.now }

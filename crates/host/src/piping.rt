@@ -24,7 +24,7 @@ fn put_bytes(t: Pipes, pipe: u32, buffer: &mut [u8], offered: &[u8], moved: &mut
     }
 }
 
-// A read likewise. The slice that is written to stands before the other in both, so that one walk serves both.
+// A read likewise. In both the slice that is written to stands before the other.
 fn get_bytes(t: Pipes, pipe: u32, target: &mut [u8], buffer: &[u8], moved: &mut i32) -> Opened
     ensures { (result ≡ answered (read_answer t pipe (length buffer.now) (length target.old)))
         × (target.new ≡ target_read t pipe buffer.now target.old)

@@ -1,5 +1,4 @@
--- Past a table's end a read gives the default and a write changes nothing. An array of structs is known by the length of its list
--- mapped to machine values, an array of numbers by its own.
+-- Past a table's end a read gives the default and a write changes nothing.
 use Rattle.std.proofs.Common.{◌≡◌, ℕ, zero, suc, ◌<◌, ◌≤◌, List, [], ◌∷◌, map, length, get_or, set, sym, refl, ◌∙◌, subst, arith}
 use lib.ListN.{length-map, get_or-eq_default}
 use lib.Seq.{set_out}

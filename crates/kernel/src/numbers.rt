@@ -54,7 +54,7 @@ pub const LAST_STEP: u32 = 4294967295;
 pub const TOP: i32 = 2147483647;
 
 // Ticks a second where no frequency is given. Two frequencies of 1000 are not this one, and stay where it changes: the one that the
-// programs which print a trace give (`text`, `LISTED_FREQUENCY`), and that of a settings file of version 1 (document 02, 11/13).
+// programs which read a trace give (`LISTED_FREQUENCY`, in `text` and `replays`), and that of a settings file of version 1 (document 02, 11/13).
 pub const USUAL_FREQUENCY: u32 = 10000;
 
 // Intervals: TIME_IMMEDIATE and TIME_INFINITE, with document 01's numbers.

@@ -1,5 +1,5 @@
 // A reader of each table, which is handed that table alone, and writers. Past a table's end a read gives the blank, and a write changes
-// nothing; so no caller ever meets a length. Outside this file only loops over rows and the moves index a table.
+// nothing; so no caller ever meets a length. A step indexes a table elsewhere only in loops over rows, in the moves and in `is_free`.
 ghost use Rattle.std.specs.Prelude.{◌≡◌};
 ghost use Rattle.kernel.specs.Tables.{used_rows, row_in, counter_in, holder_in, with_thread, with_counter};
 

@@ -1,5 +1,5 @@
 // Words beside the records: bit i of a word stands for thread i. One word says who is ready, and one for each place who waits there.
-// The two moves keep them, by `note_ready` and `note_asleep`; nothing else writes a word.
+// The two moves keep them, by `note_ready` and `note_asleep`; no step writes a word otherwise.
 ghost use Rattle.std.specs.Prelude.{◌≡◌};
 ghost use Rattle.kernel.specs.Words.{has_bit, ones_of, first_of, bit_value, with_bit, without_bit, all_ready, fresh_words, waiting_at, noted_ready, noted_asleep};
 

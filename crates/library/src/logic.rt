@@ -1,5 +1,4 @@
-// Both and either of two tests that are made already. Used where a test has many parts: it has no branches,
-// so what it answers is read off as it stands.
+// Both and either of two tests that are made already: neither is left out, whatever the other says.
 ghost use Rattle.std.specs.Prelude.{◌≡◌, ◌&&◌, ◌||◌};
 
 pub fn both(a: bool, b: bool) -> bool

@@ -20,11 +20,11 @@ no_part at = part false 0 at
 unfoldable pub begins : List ℕ → List ℕ → Bool
 begins l w = leb (length w) (length l) && all_from (λ i. eqb (get_or l i 0) (get_or w i 0)) 0 (length w)
 
--- the word of the number k
+-- the word w, which stands for k, if the text begins with it; the place is the one behind it
 unfoldable pub word_part : List ℕ → ℕ → ℕ → List ℕ → Part
 word_part l at k w = cond (begins l w) (part true k (at + length w)) (no_part at)
 
--- no word has 32 letters
+-- the same; one of 32 letters or more would not be tried, and there is none
 unfoldable pub tried_word : List ℕ → ℕ → ℕ → List ℕ → Part
 tried_word l at k w = cond (ltb (length w) 32) (word_part l at k w) (no_part at)
 

@@ -76,7 +76,7 @@ struct Wanted {
     most: u8,
 }
 
-// Help takes no notice of a file, and of a second word behind one that is not in the table the later is refused.
+// Help passes over one file. A word that is not in the table is refused with one word behind it or none; with more, the second behind it is.
 fn wanted_by(asked: Asked) -> Wanted {
     match asked {
         Asked::Print(_) => Wanted { least: 0, most: 1 },

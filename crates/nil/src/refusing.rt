@@ -1,4 +1,4 @@
-// Refusals in words: on standard error which file, and why; on standard output a line `refused` with the number.
+// Refusals in words: on standard error which file, and why; on standard output a line `refused`, with the number where there is one.
 use crate::files::{say, say_number};
 use compare::cells::Kept;
 use compare::saving::{FILE_LENGTH, LAYOUT};

@@ -1,4 +1,4 @@
--- What is promised, room by room, in the order in which it builds on itself.
+-- What is promised, room by room.
 pub mod Paper
 pub mod Code
 pub mod Runs

@@ -1,4 +1,4 @@
--- Document 01, as statements. No proof stands here, and no meaning that a contract cites.
+-- Documents 01 and 02, as statements. No proof stands here, and no meaning that a contract cites.
 pub mod World
 pub mod Rows
 pub mod Settling

@@ -85,7 +85,7 @@ none-fails f i (suc n) h =
     split (f i) (λ e. rw e (none-fails f (suc i) n (omega arith)))
     (λ e. rw e (ne_eqb i nobody (λ q. omega arith)))
 
--- r is what a search gave, and the code has compared it with nobody
+-- what such a search gives, r, is nobody exactly if all of the n pass
 pub none-bad : (f : ℕ → Bool) (n r : ℕ) → n ≤ 255 → r ≡ first_bad f n → eqb r nobody ≡ all_from f 0 n
 none-bad f n r h e = rw e (none-fails f 0 n (omega arith))
 

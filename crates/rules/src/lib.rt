@@ -1,5 +1,5 @@
 // Tables that hang together: document 01's section of that name, a module for each subject and a function for each sentence.
-// Only rows within the sizes are read.
+// Only rows within the sizes are judged.
 #![tactic(auto)]
 
 pub mod finding;

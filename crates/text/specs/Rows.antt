@@ -17,10 +17,11 @@ unfoldable pub rows : ℕ → (ℕ → List ℕ) → List ℕ
 rows zero f = []
 rows (suc n) f = rows n f ++ f n
 
--- a word of at most 9 letters, filled up with zeros
+-- a letter of a word, or nothing for a zero
 abbrev pub letter : ℕ → List ℕ
 letter b = cond (b == 0) [] (b ∷ [])
 
+-- a word: its 9 bytes, without the zeros with which it is filled up
 unfoldable pub word_text : List ℕ → List ℕ
 word_text w = rows 9 (λ i. letter (slice_index w i))
 

@@ -69,7 +69,7 @@ pub put_some : (k : ℕ) (l : List ℕ) (at x : ℕ) → at + k ≤ length l →
 unfolding put_n
 put_some k l at x h = simp (le-leb (at + k) (length l) h)
 
--- ---- the two widths, in the form in which code meets them: a, b, c, d are the bytes that the callees gave
+-- ---- the two widths, written out: a, b, c, d are the bytes from the place on
 module _ (l : List ℕ) (at a b : ℕ) (ea : a ≡ get_or l at 0) (eb : b ≡ get_or l (at + 1) 0) where
   first : get_or l (at + 0) 0 ≡ a
   first = rw add-zero (sym ea)

@@ -59,7 +59,7 @@ alone s = s ∷ []
 pub one : (i kind a timeout : ℕ) → a < 4294967296 → HostSteps (alone (by i kind a timeout))
 one i kind a timeout h = HostSteps.more (typed i kind a timeout h) HostSteps.none
 
--- ---- a, b: thread 0 waits at the semaphore for one tick, and the tick comes
+-- ---- b: thread 0 waits at the semaphore for one tick, and the tick comes; a, of the same run, is in proofs/ShownSleeps.antt
 
 abbrev pub waits : ℕ → ℕ → Step
 waits i timeout = by i 2 0 timeout

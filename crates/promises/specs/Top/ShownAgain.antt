@@ -1,5 +1,5 @@
--- A mailbox call that was woken by an earlier step, is tried again and sleeps again, by computation: it has its FULL timeout then, and ends by its last
--- tick. Two threads, a mailbox of one slot.
+-- A mailbox call that was woken by an earlier step, is tried again and sleeps again, by computation: it has its FULL timeout then. That it ends by its
+-- last tick is in proofs/ShownSleeps.antt. Two threads, a mailbox of one slot.
 use Rattle.std.proofs.Common.{arith}
 use Rattle.std.specs.Prelude.{◌≡◌, refl, List, [], ◌∷◌, ◌++◌}
 use Rattle.kernel.specs.declared.units.Rate.TheVariants.{Standard}
@@ -63,7 +63,7 @@ leaves = by 0 11 0 100
 abbrev pub ticks : List Step
 ticks = by 255 1 0 0 ∷ by 255 1 0 0 ∷ []
 
--- the state of thread 1 before and after that step, the timeout that it begins with, its remaining ticks then, and its wake message at the end
+-- the state of thread 1 before and after that step, the timeout that it begins with, and its remaining ticks then
 pub again-shown :
     (row_of (fresh_ran narrow Standard taken_away).tables 1).state
     ∷ (row_of (fresh_ran narrow Standard (taken_away ++ (leaves ∷ []))).tables 1).state

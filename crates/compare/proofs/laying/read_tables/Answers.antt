@@ -1,4 +1,4 @@
--- A number is at most 4 bytes wide, so no place is beyond 4 * 661.
+-- A number is at most 4 bytes wide, so no place is beyond 4 times their number.
 use Rattle.std.proofs.Common.{refl, arith}
 use Rattle.compare.specs.Laid.{offset_of, places_read}
 use Rattle.compare.proofs.LaidLaws.{width-le, offset-le, offset-next, read_next}
