@@ -1,7 +1,7 @@
 //! The Rust wrapper at work: document 01's own six steps are written as a trace, read back and made, with the listing's lines
 //! as what is expected; then what each function refuses. It ends with status 0, or panics at the first surprise.
 //!
-//! It has C's `main`: what Rust does before its own reads /proc/self/maps, at which the kit's emulator ends.
+//! It has C's `main`: nothing of Rust's own runs before it.
 #![no_main]
 
 #[path = "nil.rs"]
