@@ -1,12 +1,13 @@
 // An account, and what one finished call changes in it. Sums wrap; an object that is not there changes nothing.
-ghost use Rattle.std.specs.Prelude.{◌≡◌};
-ghost use Rattle.accounts.specs.Account.{fresh_account, is_post, object_place, raised_if, set_if, entered};
+ghost use Rattle.std.specs.Prelude.{◌≡◌, true};
+ghost use Rattle.accounts.specs.Account.{fresh_account, is_post, object_place, raised_if, entered};
 
-use kernel::kinds::{ADD, KEPT_ALLOC, KEPT_FETCH, KEPT_POST, KEPT_POST_AHEAD, MAILBOX_RESET};
-use library::logic::either;
+use kernel::kinds::Kind;
+use kernel::tables::put;
 
 // For each mailbox messages posted, fetched and lost, for each pool objects added; and for each object of each pool, at 32 times the
 // pool's number plus its own, who was handed it last, and in which step.
+// The last two are arrays apart and not one of pairs, as Paper's statements of what is printed read them.
 #[derive(Clone, Copy)]
 pub struct Account {
     pub posted: [u32; 4],
@@ -17,7 +18,7 @@ pub struct Account {
     pub steps: [u32; 128],
 }
 
-// A call that finished with message 0, or kind 0 for none: who called, NOBODY for an interrupt; its kind and object; and its value,
+// A call that finished with message 0: who called, NOBODY for an interrupt; its kind and object; and its value,
 // which is its datum for a fetch and an alloc, for a reset how many messages there were, else its operand.
 #[derive(Clone, Copy)]
 pub struct Entry {
@@ -31,23 +32,20 @@ pub struct Entry {
 pub fn fresh_account() -> Account
     ensures { result ≡ fresh_account }
 {
-    let none = [0; 4];
-    let takers = [0; 128];
-    let steps = [0; 128];
     Account {
-        posted: none,
-        fetched: none,
-        lost: none,
-        added: none,
-        takers: takers,
-        steps: steps,
+        posted: [0; 4],
+        fetched: [0; 4],
+        lost: [0; 4],
+        added: [0; 4],
+        takers: [0; 128],
+        steps: [0; 128],
     }
 }
 
 fn is_post(kind: u16) -> bool
     ensures { result ≡ is_post kind }
 {
-    either(kind == KEPT_POST, kind == KEPT_POST_AHEAD)
+    kind == Kind::Post as u16 || kind == Kind::PostAhead as u16
 }
 
 // Where an object of a pool stands; past the table for none.
@@ -61,44 +59,15 @@ fn object_place(pool: u16, object: u32) -> u32
     }
 }
 
-// The sums, with n more at i where `so`.
-fn raise_if(so: bool, sums: [u32; 4], i: u16, n: u32) -> [u32; 4]
-    ensures { result ≡ raised_if so sums i n }
+// Stays a test of the index: with `get_mut` the line is no shorter, `if let Some(sum) = sums.get_mut(at) { *sum = .. }`.
+// Adds n to the sum at i; past the sums nothing changes.
+fn raise_at(sums: &mut [u32; 4], i: u16, n: u32)
+    ensures { sums.new ≡ raised_if true sums.old i n }
 {
     let at = i as usize;
-    let mut r = sums;
-    if so {
-        if at < 4 {
-            r[at] = std::num::wrapping_add_u32(sums[at], n);
-        }
+    if at < 4 {
+        sums[at] = sums[at].wrapping_add(n);
     }
-    r
-}
-
-fn set_taker_if(so: bool, takers: [u16; 128], place: u32, who: u16) -> [u16; 128]
-    ensures { result ≡ set_if so takers place who }
-{
-    let at = place as usize;
-    let mut r = takers;
-    if so {
-        if at < 128 {
-            r[at] = who;
-        }
-    }
-    r
-}
-
-fn set_step_if(so: bool, steps: [u32; 128], place: u32, number: u32) -> [u32; 128]
-    ensures { result ≡ set_if so steps place number }
-{
-    let at = place as usize;
-    let mut r = steps;
-    if so {
-        if at < 128 {
-            r[at] = number;
-        }
-    }
-    r
 }
 
 // The account with an entry of a step of this number.
@@ -106,26 +75,19 @@ fn set_step_if(so: bool, steps: [u32; 128], place: u32, number: u32) -> [u32; 12
 pub fn enter(a: Account, number: u32, e: Entry) -> Account
     ensures { result ≡ entered a number e }
 {
-    let kind = e.kind;
-    let place = object_place(e.object, e.value);
-    let posts = a.posted;
-    let posted = raise_if(is_post(kind), posts, e.object, 1);
-    let fetches = a.fetched;
-    let fetched = raise_if(kind == KEPT_FETCH, fetches, e.object, 1);
-    let losses = a.lost;
-    let lost = raise_if(kind == MAILBOX_RESET as u16, losses, e.object, e.value);
-    let adds = a.added;
-    let added = raise_if(kind == ADD as u16, adds, e.object, 1);
-    let people = a.takers;
-    let takers = set_taker_if(kind == KEPT_ALLOC, people, place, e.who);
-    let times = a.steps;
-    let steps = set_step_if(kind == KEPT_ALLOC, times, place, number);
-    Account {
-        posted: posted,
-        fetched: fetched,
-        lost: lost,
-        added: added,
-        takers: takers,
-        steps: steps,
+    let mut r = a;
+    if is_post(e.kind) {
+        raise_at(&mut r.posted, e.object, 1);
+    } else if e.kind == Kind::Fetch as u16 {
+        raise_at(&mut r.fetched, e.object, 1);
+    } else if e.kind == Kind::MailboxReset as u16 {
+        raise_at(&mut r.lost, e.object, e.value);
+    } else if e.kind == Kind::Add as u16 {
+        raise_at(&mut r.added, e.object, 1);
+    } else if e.kind == Kind::Alloc as u16 {
+        let place = object_place(e.object, e.value) as usize;
+        put(&mut r.takers, place, e.who);
+        put(&mut r.steps, place, number);
     }
+    r
 }

@@ -1,19 +1,19 @@
 // What a step enters into an account: an interrupt's own call, then the threads' calls that finished, in index order.
 // A call that finished is read from the step, its result and the tables before and after it.
 ghost use Rattle.std.specs.Prelude.{◌≡◌};
-ghost use Rattle.accounts.specs.Accounting.{value_of, kind_of, entry_of, own_call, call_by, entered_if, answer_in, interrupt_entered, threads_entered, accounted_step};
+ghost use Rattle.accounts.specs.Account.{entered};
+ghost use Rattle.accounts.specs.Accounting.{value_of, entry_of, own_call, call_by, answer_in, interrupt_entered, threads_entered, accounted_step};
 
 use crate::account::{Account, Entry, enter};
-use kernel::kinds::{KEPT_ALLOC, KEPT_FETCH, KEPT_NONE, MAILBOX_RESET};
+use kernel::kinds::Kind;
 use kernel::numbers::{NOBODY, OK};
 use kernel::records::{Answer, Call, Thread};
 use kernel::words::has_bit;
 use library::calls::Step;
-use library::logic::either;
-use library::signs::is_same;
 use library::tables::{Mailbox, Tables, mailbox_at};
 
 // What a step's result reports of finished calls: its code, whose calls finished, and an interrupt's answer.
+// A code and no option: these are fields of a step's result as it goes to C, and the account's theorem (`account-printed`) is about them.
 #[derive(Clone, Copy)]
 pub struct Report {
     pub code: u8,
@@ -26,37 +26,13 @@ pub struct Report {
 fn value_of(mailboxes: [Mailbox; 4], call: Call, datum: u32) -> u32
     ensures { result ≡ value_of mailboxes call datum }
 {
-    if either(call.kind == KEPT_FETCH, call.kind == KEPT_ALLOC) {
-        return datum;
-    }
-    if call.kind == MAILBOX_RESET as u16 {
+    if call.kind == Kind::Fetch as u16 || call.kind == Kind::Alloc as u16 {
+        datum
+    } else if call.kind == Kind::MailboxReset as u16 {
         let b = mailbox_at(mailboxes, call.object);
-        return b.positions.count as u32;
-    }
-    call.operand
-}
-
-// Its kind, if it finished with message 0.
-fn kind_of(call: Call, answer: Answer) -> u16
-    ensures { result ≡ kind_of call answer }
-{
-    if is_same(answer.message, OK) {
-        call.kind
+        b.positions.count as u32
     } else {
-        KEPT_NONE
-    }
-}
-
-fn entry_of(mailboxes: [Mailbox; 4], who: u8, call: Call, answer: Answer) -> Entry
-    ensures { result ≡ entry_of mailboxes who call answer }
-{
-    let kind = kind_of(call, answer);
-    let value = value_of(mailboxes, call, answer.datum);
-    Entry {
-        who: who as u16,
-        kind: kind,
-        object: call.object,
-        value: value,
+        call.operand
     }
 }
 
@@ -79,10 +55,30 @@ pub fn call_by(s: Step, i: u8, kept: Call) -> Call
     if s.caller == i { own_call(s) } else { kept }
 }
 
-fn enter_if(so: bool, a: Account, number: u32, e: Entry) -> Account
-    ensures { result ≡ entered_if so a number e }
+// The account with the call of a thread or an interrupt that finished with this answer. Only one that finished with 0 is entered.
+#[tactic(auto, using(crate::proofs::AccountLaws::entered_none))]
+fn enter_answered(
+    a: Account,
+    number: u32,
+    mailboxes: [Mailbox; 4],
+    who: u8,
+    call: Call,
+    answer: Answer,
+) -> Account
+    ensures { result ≡ entered a number (entry_of mailboxes who call answer) }
 {
-    if so { enter(a, number, e) } else { a }
+    if answer.message == OK {
+        let value = value_of(mailboxes, call, answer.datum);
+        let e = Entry {
+            who: who as u16,
+            kind: call.kind,
+            object: call.object,
+            value,
+        };
+        enter(a, number, e)
+    } else {
+        a
+    }
 }
 
 // The answer in a step's result.
@@ -99,8 +95,11 @@ fn answer_in(o: Report) -> Answer
 fn enter_interrupt(a: Account, number: u32, mailboxes: [Mailbox; 4], s: Step, o: Report) -> Account
     ensures { result ≡ interrupt_entered a number mailboxes s o }
 {
-    let e = entry_of(mailboxes, NOBODY, own_call(s), answer_in(o));
-    enter_if(s.caller == NOBODY, a, number, e)
+    if s.caller == NOBODY {
+        enter_answered(a, number, mailboxes, NOBODY, own_call(s), answer_in(o))
+    } else {
+        a
+    }
 }
 
 // The threads' calls, where the rows were as `old` before the step and are as `new` after it.
@@ -117,15 +116,11 @@ fn enter_threads(
     ensures { result ≡ threads_entered a number mailboxes old s finished new }
 {
     let mut r = a;
-    let mut i: u8 = 0;
-    while i < 16 {
-        let at = i as usize;
-        let was = old[at];
-        let is = new[at];
-        let call = call_by(s, i, was.call);
-        let e = entry_of(mailboxes, i, call, is.answer);
-        r = enter_if(has_bit(finished, i), r, number, e);
-        i += 1;
+    for i in 0..16u8 {
+        if has_bit(finished, i) {
+            let call = call_by(s, i, old[i as usize].call);
+            r = enter_answered(r, number, mailboxes, i, call, new[i as usize].answer);
+        }
     }
     r
 }

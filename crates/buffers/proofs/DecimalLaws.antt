@@ -1,14 +1,12 @@
 -- The digits of a number: those before its last, and that; as the code meets them.
 use Prim.Native.Nat.{ℕ, zero, suc, ◌+◌, ◌/◌, ◌%◌, ◌≤◌, ◌<◌}
 use native.Mathlib.Omega.{arith}
-use mathlib.Core.Path.{◌≡◌, ap, subst, ◌∙◌}
+use mathlib.Core.Path.{◌≡◌, ap}
 use mathlib.Core.List.{List, [], ◌∷◌, ◌++◌}
 use lib.Dec.{ltb}
 use borrow.Author.Tests.{lt-ltb, le-ltb, ltb-false}
 use Rattle.kernel.proofs.Cases.{split}
-use Rattle.buffers.specs.Put.{Put}
 use Rattle.buffers.specs.Decimal.{digits_n, decimal}
-use Rattle.buffers.proofs.PutLaws.{then}
 
 -- more digits than the number has are no more
 enough : (f g n : ℕ) → n < f → n < g → digits_n f n ≡ digits_n g n
@@ -31,11 +29,3 @@ pub more-digits : (n : ℕ) → 10 ≤ n → decimal (n / 10) ++ ((48 + n % 10) 
 unfolding decimal digits_n
 more-digits n h =
     rw (le-ltb n 10 h) (ap (λ (l : List ℕ). l ++ ((48 + n % 10) ∷ [])) (enough (suc (n / 10)) n (n / 10) (omega arith) (omega arith)))
-
--- a number in the buffer, as the code meets it
-pub put_one : {l m : List ℕ} {at r d : ℕ} (n : ℕ) → n < 10 → d ≡ 48 + n % 10 → Put l m at r (d ∷ []) → Put l m at r (decimal n)
-put_one {l} {m} {at} {r} {d} n h e p = subst (λ (x : List ℕ). Put l m at r x) (ap (λ (k : ℕ). k ∷ []) e ∙ one-digit n h) p
-
-pub put-more : {l m k : List ℕ} {at r t d : ℕ} (n : ℕ) → 10 ≤ n → d ≡ 48 + n % 10 → Put l m at r (decimal (n / 10)) → Put m k r t (d ∷ []) → Put l k at t (decimal n)
-put-more {l} {m} {k} {at} {r} {t} {d} n h e p q =
-    subst (λ (x : List ℕ). Put l k at t x) (ap (λ (b : ℕ). decimal (n / 10) ++ (b ∷ [])) e ∙ more-digits n h) (then p q)

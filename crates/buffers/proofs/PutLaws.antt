@@ -6,11 +6,11 @@ use mathlib.Core.Path.{◌≡◌, refl, sym, ap, subst, ◌∙◌}
 use mathlib.Core.Bool.{cond}
 use mathlib.Core.List.{List, [], ◌∷◌, ◌++◌}
 use lib.Dec.{ltb}
-use lib.ListN.{length, get_or, take, drop, set, length-set}
-use lib.Seq.{sets, set_out, sets-eq, length-sets, take-suc, take_all, take_at}
+use lib.ListN.{length, take, drop, set, length-set}
+use lib.Seq.{sets, set_out, sets-eq, length-sets, take_at}
 use borrow.Author.Tests.{lt-ltb, le-ltb, ltb-true, ltb-false}
 use Rattle.kernel.proofs.Cases.{split, in-or-out}
-use Rattle.buffers.specs.Put.{after, Put, rows}
+use Rattle.buffers.specs.Put.{after, Put}
 
 -- past the buffer's end nothing is written
 pub sets-out : (bs l : List ℕ) (at : ℕ) → length l ≤ at → sets l at bs ≡ l
@@ -76,29 +76,13 @@ pub full : (l : List ℕ) (at b : ℕ) → length l ≤ at → Put l l at at (b 
 unfolding after
 full l at b h = record { buffer = sym (set_out l at b h); end = rw (le-ltb at (length l) h) }
 
--- a text that fits stands between what stood before it and what stood behind it
+-- the place behind a text that fits
 after-fits : (n at k : ℕ) → at + k ≤ n → after n at k ≡ at + k
 unfolding after
 after-fits n at zero h = omega arith
 after-fits n at (suc k) h =
     let less : at < n = omega arith in
     rw (lt-ltb at n less) (after-fits n (at + 1) k (omega arith) ∙ (let e : at + 1 + k ≡ at + suc k = omega arith in e))
-
-pub fits : {l l' : List ℕ} {at r : ℕ} {bs : List ℕ} → Put l l' at r bs → at + length bs ≤ length l
-    → (l' ≡ take at l ++ bs ++ drop (at + length bs) l) × (r ≡ at + length bs)
-fits {l} {l'} {at} {r} {bs} p h = (p.buffer ∙ sets-eq bs l at h, p.end ∙ after-fits (length l) at (length bs) h)
-
--- the buffer keeps its length
-pub same_size : {l l' : List ℕ} {at r : ℕ} {bs : List ℕ} → Put l l' at r bs → length l' ≡ length l
-same_size {l} {l'} {at} {r} {bs} p = ap length p.buffer ∙ length-sets l at bs
-
--- one byte more of a word
-pub one_more : {l m k : List ℕ} {at r t : ℕ} (w : List ℕ) (i : ℕ) → i < length w → Put l m at r (take i w) → Put m k r t (get_or w i 0 ∷ []) → Put l k at t (take (i + 1) w)
-one_more w i h p q = rw (add-one i, take-suc w i 0 h) (then p q)
-
--- a whole word
-pub whole : {l m : List ℕ} {at r : ℕ} (w : List ℕ) (i : ℕ) → length w ≤ i → Put l m at r (take i w) → Put l m at r w
-whole {l} {m} {at} {r} w i h p = rw (take_all i w h) at p
 
 -- a place before the buffer's end says that all of the text fitted
 room : (n at k : ℕ) → after n at k < n → at + k ≤ n
@@ -140,18 +124,3 @@ too_long {l} {l'} {r} {bs} p h =
 -- one text leaves one buffer and one place
 pub put-one-way : {l a b : List ℕ} {at r t : ℕ} {bs : List ℕ} → Put l a at r bs → Put l b at t bs → (a ≡ b) × (r ≡ t)
 put-one-way p q = (p.buffer ∙ sym q.buffer, p.end ∙ sym q.end)
-
--- ---- texts one behind the other
-
--- one text more
-pub rows_more : {l m k : List ℕ} {at r t : ℕ} (f : ℕ → List ℕ) (i : ℕ) → Put l m at r (rows i f) → Put m k r t (f i) → Put l k at t (rows (i + 1) f)
-unfolding rows
-rows_more f i p q = rw (add-one i) (then p q)
-
-pub rows_none : (l : List ℕ) (at : ℕ) (f : ℕ → List ℕ) → Put l l at at (rows 0 f)
-unfolding rows
-rows_none l at f = nothing l at
-
--- all of them
-pub rows_all : {l m : List ℕ} {at r : ℕ} (f : ℕ → List ℕ) (i n : ℕ) → i ≤ n → n ≤ i → Put l m at r (rows i f) → Put l m at r (rows n f)
-rows_all {l} {m} {at} {r} f i n h k p = let e : i ≡ n = omega arith in subst (λ (j : ℕ). Put l m at r (rows j f)) e p

@@ -1,7 +1,6 @@
 -- Numbers as bytes, at any width w: by induction on w, since a number is its lowest byte and the number of the others.
 use Prim.Native.Nat.{ℕ, zero, suc, ◌+◌, ◌-◌, ◌*◌, ◌/◌, ◌%◌, ◌^◌, ◌≤◌, ◌<◌}
 use native.Mathlib.Nat.{add-zero, div-lt_iff_lt-mul, zero-lt-suc, pow-suc}
-use native.Mathlib.Numerals.{add-one}
 use native.Mathlib.Omega.{arith}
 use mathlib.Core.Path.{◌≡◌, refl, sym, ap, ap₂, ◌∙◌, subst⁻¹}
 use mathlib.Core.List.{List, [], ◌∷◌, ◌++◌}
@@ -139,7 +138,7 @@ put-pair l x y h =
     ∙ ap (λ (n : ℕ). sets (written one l) n two) (sym four)
     ∙ write-more one two l (omega arith)
 
--- ---- the three widths, in the form in which code meets them: a, b, c, d are the bytes that the callees gave
+-- ---- the three widths: a, b, c, d are the bytes at a place
 
 pub get-one : (l : List ℕ) (at : ℕ) → get_or l at 0 ≡ number_at 1 l at
 unfolding number_at
@@ -158,19 +157,26 @@ module _ (l : List ℕ) (at a b : ℕ) (ea : a ≡ get_or l at 0) (eb : b ≡ ge
       let e₃ : at + 3 ≡ suc (suc (suc at)) = omega arith in
       rw (ea, eb, ec, ed, e₁, e₂, e₃) (omega arith)
 
-pub put_one : (l : List ℕ) (at x : ℕ) → at + 1 ≤ length l → set l at (x % 256) ≡ number_put 1 l at x
-unfolding bytes_of
-put_one l at x h = put-fits 1 l at x h
+-- ---- a byte more, in the form in which code meets it
 
-pub put_two : (l : List ℕ) (at x : ℕ) → at + 2 ≤ length l → set (set l at (x % 256)) (at + 1) (x / 256 % 256) ≡ number_put 2 l at x
-unfolding bytes_of
-put_two l at x h = rw add-one (put-fits 2 l at x h)
+-- before the last of four bytes there is room for one
+pub byte-more : (i x b : ℕ) → i < 4 → x < 256 ^ i → b < 256 → x * 256 + b < 4294967296
+byte-more zero x b h small byte = omega arith
+byte-more (suc zero) x b h small byte = omega arith
+byte-more (suc (suc zero)) x b h small byte = omega arith
+byte-more (suc (suc (suc zero))) x b h small byte = omega arith
+byte-more (suc (suc (suc (suc i)))) x b h small byte = absurd (omega arith)
 
-pub put_four : (l : List ℕ) (at x : ℕ) → at + 4 ≤ length l
-    → set (set (set (set l at (x % 256)) (at + 1) (x / 256 % 256)) (at + 2) (x / 256 / 256 % 256)) (at + 3) (x / 256 / 256 / 256 % 256) ≡ number_put 4 l at x
-unfolding bytes_of
-put_four l at x h =
-    let e₁ : at + 1 ≡ suc at = omega arith in
-    let e₂ : at + 2 ≡ suc (suc at) = omega arith in
-    let e₃ : at + 3 ≡ suc (suc (suc at)) = omega arith in
-    rw (e₁, e₂, e₃) (put-fits 4 l at x h)
+module _ (w i p x : ℕ) (l : List ℕ) where
+  -- what is still to be put of a number goes on behind its lowest byte
+  pub put-turn : i < w → sets (set l (p + i) (x % 256)) (p + (i + 1)) (bytes_of (w - (i + 1)) (x / 256)) ≡ sets l (p + i) (bytes_of (w - i) x)
+  unfolding bytes_of
+  put-turn h =
+      let more : w - i ≡ suc (w - (i + 1)) = omega arith in
+      let next : p + (i + 1) ≡ suc (p + i) = omega arith in
+      rw (more, next)
+
+  -- of its last byte nothing is left
+  pub put_done : w ≤ i → l ≡ sets l (p + i) (bytes_of (w - i) x)
+  unfolding bytes_of
+  put_done h = let none : w - i ≡ 0 = omega arith in rw none

@@ -7,10 +7,10 @@ pub mod ListLaws
 pub mod AppliedLaws
 pub mod ComparedLaws
 pub mod ReadBackLaws
+pub mod AnswerLaws
 pub mod BytesLaws
 pub mod LaidLaws
 pub mod ToldLaws
 pub mod KeptLaws
 pub mod SavedLaws
-pub mod CodeLaws
 pub mod Unique

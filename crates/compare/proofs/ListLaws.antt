@@ -7,7 +7,7 @@ use mathlib.Core.Path.{◌≡◌, refl, sym, ap, ◌∙◌}
 use mathlib.Core.Bool.{Bool, true, false, cond}
 use mathlib.Core.List.{List, [], ◌∷◌, ◌++◌, append_assoc, append-nil}
 use lib.Dec.{leb}
-use lib.ListN.{length, drop, set, length-append, length-drop}
+use lib.ListN.{length, drop, length-append, length-drop}
 use lib.Seq.{sets, sets-eq, take-append_seam, drop-append-add, drop-drop}
 use borrow.Author.Tests.{le-leb, lt-leb, eq-eqb, ne_eqb}
 use Rattle.kernel.specs.Walk.{count_of}
@@ -38,25 +38,6 @@ count-grows f k (suc j) = rw (add-suc k j) (omega (arith, count-grows f k j))
 pub written-length : (l room : List ℕ) → length l ≤ length room → length (written l room) ≡ length room
 written-length l room h =
     length-append l (drop (length l) room) ∙ ap (λ (n : ℕ). length l + n) (length-drop (length l) room) ∙ omega arith
-
--- five stores in a row
-pub five-stores : (l : List ℕ) (p a b c d e : ℕ)
-    → set (set (set (set (set l p a) (p + 1) b) (p + 2) c) (p + 3) d) (p + 4) e ≡ sets l p (a ∷ b ∷ c ∷ d ∷ e ∷ [])
-five-stores l p a b c d e =
-    let one : p + 1 ≡ suc p = omega arith in
-    let two : p + 2 ≡ suc (suc p) = omega arith in
-    let three : p + 3 ≡ suc (suc (suc p)) = omega arith in
-    let four : p + 4 ≡ suc (suc (suc (suc p))) = omega arith in
-    rw (one, two, three, four)
-
--- one field more is counted, or not
-pub count-one : (f : ℕ → Bool) (k c : ℕ) → c ≡ count_of f k → f k ≡ true → c + 1 ≡ count_of f (k + 1)
-unfolding count_of
-count-one f k c e t = rw (add-one k, t) (omega arith)
-
-pub count_same : (f : ℕ → Bool) (k c : ℕ) → c ≡ count_of f k → f k ≡ false → c ≡ count_of f (k + 1)
-unfolding count_of
-count_same f k c e t = rw (add-one k, t) (omega arith)
 
 -- numbers behind a list in a room
 pub write-more : (l vs room : List ℕ) → length l + length vs ≤ length room → sets (written l room) (length l) vs ≡ written (l ++ vs) room
@@ -168,27 +149,6 @@ module _ (a b : Kept) (n : ℕ) (room : List ℕ) where
           so_far = o.so_far ∙ ap (λ (v : List ℕ). written v room) (sym (next-skipped a b k t));
           ends = o.ends ∙ ap (λ (c : ℕ). c * 5) (sym (no_more t));
         }
-
-  pub list_length : (k at : ℕ) (e : List ℕ) → OnList a b n k room e at → length e ≡ length room
-  list_length k at e o =
-      let on : k + (n - k) ≡ n = omega (arith, o.upto) in
-      let few : change_count a b k ≤ change_count a b n = rw on at (count-grows (differs (reading_of a) (reading_of b)) k (n - k)) in
-      ap length o.so_far ∙ written-length (numbers (changed a b k)) room (omega (arith, o.enough, numbers-length a b k))
-
-  pub list_done : (k at : ℕ) (e : List ℕ) → OnList a b n k room e at → n ≤ k → e ≡ listed a b n room
-  unfolding listed
-  list_done k at e o l =
-      let end : k ≡ n = omega (arith, o.upto) in
-      rw (le-leb (change_count a b n * 5) (length room) o.enough, ← end) o.so_far
-
--- the room stays as long as it was
-pub listed-length : (a b : Kept) (n : ℕ) (room : List ℕ) → length (listed a b n room) ≡ length room
-unfolding listed
-listed-length a b n room =
-    in-or-out (length room) (change_count a b n * 5)
-    (λ l. rw (lt-leb (change_count a b n * 5) (length room) l))
-    (λ l. rw (le-leb (change_count a b n * 5) (length room) l)
-    (written-length (numbers (changed a b n)) room (omega (arith, numbers-length a b n))))
 
 -- what a comparison that was not refused comes to
 pub compare-accepted : (a b : Kept) (l : List ℕ) → (compared a b (length l)).code ≡ 0

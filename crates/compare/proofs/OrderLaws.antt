@@ -1,7 +1,7 @@
 -- The order arm by arm, and by names; and that each field lies at a place of its own and its name is its own, which is checked by
 -- computing all of them, once.
 use Prim.Native.Nat.{ℕ, zero, suc, ◌+◌, ◌-◌, ◌*◌, ◌/◌, ◌%◌, ◌≤◌, ◌<◌}
-use native.Mathlib.Nat.{mul-le-mul, lt_trans}
+use native.Mathlib.Nat.{lt_trans}
 use native.Mathlib.Omega.{arith}
 use mathlib.Core.Path.{◌≡◌, refl, sym, ap, ◌∙◌, subst}
 use mathlib.Core.Logic.{◌≢◌}
@@ -97,25 +97,6 @@ module _ (k : ℕ) where
   pub cell-steps : steps_from ≤ k → cell_of k ≡ steps_at
   unfolding cell_of
   cell-steps g = rw (le-ltb k references_from (omega arith), le-ltb k queues_from (omega arith), le-ltb k semaphores_from (omega arith), le-ltb k mailboxes_from (omega arith), le-ltb k pools_from (omega arith), le-ltb k clock_from (omega arith), le-ltb k steps_from (omega arith))
-
--- ---- names in the form in which code meets them
-
--- what is counted to find a row's field fits 32 bits
-pub row_small : (first rows width n f : ℕ) → first < 65536 → rows < 65536 → width < 65536 → n < rows → f < width
-    → (n * width < 4294836225) × ((first + n * width < 4294901761) × (first + n * width + f < 4294967296))
-row_small first rows width n f a b c h l =
-    let most : n * width ≤ 65534 * 65535 = mul-le-mul {n₁ = n} {m₁ = width} {n₂ = 65534} {m₂ = 65535} (omega arith) (omega arith) in
-    (omega arith, (omega arith, omega arith))
-
-module _ (first rows width n f : ℕ) where
-  pub row-there : n < rows → f < width → first + n * width + f ≡ row_at first rows width n f
-  row-there h l = rw (lt-ltb n rows h, lt-ltb f width l)
-
-  pub row-past : rows ≤ n → fields ≡ row_at first rows width n f
-  row-past h = rw (le-ltb n rows h)
-
-  pub row-short : n < rows → width ≤ f → fields ≡ row_at first rows width n f
-  row-short h l = rw (lt-ltb n rows h, le-ltb f width l)
 
 -- ---- the field of a name, by object and number
 

@@ -7,9 +7,9 @@ use lib.Dec.{eqb, ltb}
 use lib.ListN.{length, take, drop, length-append, length-drop, take-append-drop}
 use lib.Seq.{length-take-le, take_at, drop_at, take_all, take-add, drop-drop}
 use borrow.Author.Tests.{le-ltb, eq-eqb, eqb-true, ltb-false}
-use Rattle.kernel.proofs.Cases.{split, chosen}
+use Rattle.kernel.proofs.Cases.{split}
 use Rattle.compare.specs.declared.cells.Kept.{Kept}
-use Rattle.compare.specs.declared.saving.Loaded.{Loaded}
+use Rattle.compare.specs.Told.{Loaded}
 use Rattle.compare.specs.Cells.{cell_count}
 use Rattle.compare.specs.Held.{Held, AllWithin}
 use Rattle.compare.specs.Bytes.{Bytes, bytes_of, number_at, number_put}
@@ -32,7 +32,7 @@ use Rattle.compare.specs.Saved.{
 }
 use Rattle.compare.proofs.BytesLaws.{length-bytes, number-left, number-right, number-bytes, bytes-number, bytes_left, bytes-right, bytes-part, put-pair}
 use Rattle.compare.proofs.LaidLaws.{length-image, all_end, image-put, length-places}
-use Rattle.compare.proofs.KeptLaws.{blank-held, blank-within, kept-held, kept-within, kept_again, image-again}
+use Rattle.compare.proofs.KeptLaws.{kept_again, image-again}
 
 body-long : (a : Kept) → length (body_of a) ≡ body_length
 body-long a = length-image a cell_count ∙ all_end
@@ -236,11 +236,3 @@ module _ (l : List ℕ) (b : Bytes l) where
 
   clock-bytes : Bytes (take clock_length (drop (head_length + tables_length) l))
   clock-bytes = bytes-part clock_length (head_length + tables_length) l b
-
-  pub anyway-held : Held (read_anyway l)
-  unfolding read_anyway
-  anyway-held = chosen Held (ltb (length l) file_length) (λ t. blank-held) (λ t. kept-held _ _ tables-bytes clock-bytes)
-
-  pub anyway-within : AllWithin (read_anyway l)
-  unfolding read_anyway
-  anyway-within = chosen AllWithin (ltb (length l) file_length) (λ t. blank-within) (λ t. kept-within _ _ tables-bytes clock-bytes)

@@ -5,6 +5,9 @@ use contract.Lifetimes.{Lfts}
 use denote.Triple.Clauses.{AtExit}
 use borrow.Fn.Kinds.{Dens, res_t, ended_of}
 use Rattle.kernel.proofs.Unique.{coincide, Fixes}
+use Rattle.compare.specs.Laid.{blank_kept}
+use Rattle.kernel.proofs.ToldLaws.{code-one}
+use Rattle.compare.proofs.AnswerLaws.{told-compared-one, told-loaded-one}
 use Rattle.compare.proofs.cells.bits.Reads as cells-bits
 use Rattle.compare.proofs.cells.bits.Kinds as cells-bits-kinds
 use Rattle.compare.proofs.cells.cell_at.Reads as cells-cell-at
@@ -80,13 +83,13 @@ pub saving-read-anyway-one : Fixes 1 saving-read-anyway-kinds.ps saving-read-any
 saving-read-anyway-one κs a e x y = coincide
 
 pub saving-load-one : Fixes 1 saving-load-kinds.ps saving-load-kinds.r saving-load.Post
-saving-load-one κs a e x y = coincide
+saving-load-one κs a e x y p q = told-loaded-one blank_kept (coincide p q)
 
 module _ (κs : Lfts 1) (a : Dens κs comparing-list-changes-kinds.ps) (x y : (res_t comparing-list-changes-kinds.r κs).Denot)
     (e f : AtExit (ended_of 1 comparing-list-changes-kinds.ps comparing-list-changes-kinds.r) κs) where
   -- and what the list holds in the end
   pub comparing-list-changes-one : comparing-list-changes.Post κs a x e → comparing-list-changes.Post κs a y f → (x ≡ y) × (e.1.1.1.0.now ≡ f.1.1.1.0.now)
-  comparing-list-changes-one p q = (coincide p.0 q.0, coincide p.1 q.1)
+  comparing-list-changes-one p q = (told-compared-one (coincide p.0 q.0), coincide p.1 q.1)
 
 module _ (κs : Lfts 2) (a : Dens κs laying-put-kept-kinds.ps) (x y : (res_t laying-put-kept-kinds.r κs).Denot)
     (e f : AtExit (ended_of 2 laying-put-kept-kinds.ps laying-put-kept-kinds.r) κs) where
@@ -98,7 +101,7 @@ module _ (κs : Lfts 1) (a : Dens κs saving-save-kinds.ps) (x y : (res_t saving
     (e f : AtExit (ended_of 1 saving-save-kinds.ps saving-save-kinds.r) κs) where
   -- and what the lent slice holds in the end
   pub saving-save-one : saving-save.Post κs a x e → saving-save.Post κs a y f → (x ≡ y) × (e.1.0.now ≡ f.1.0.now)
-  saving-save-one p q = (coincide p.0 q.0, coincide p.1 q.1)
+  saving-save-one p q = (code-one (coincide p.0 q.0), coincide p.1 q.1)
 
 pub renewing-renew-words-one : Fixes 0 renewing-renew-words-kinds.ps renewing-renew-words-kinds.r renewing-renew-words.Post
 renewing-renew-words-one κs a e x y = coincide
@@ -116,4 +119,4 @@ module _ (κs : Lfts 1) (a : Dens κs comparing-compare-kinds.ps) (x y : (res_t 
     (e f : AtExit (ended_of 1 comparing-compare-kinds.ps comparing-compare-kinds.r) κs) where
   -- and what the list holds in the end
   pub comparing-compare-one : comparing-compare.Post κs a x e → comparing-compare.Post κs a y f → (x ≡ y) × (e.1.1.0.now ≡ f.1.1.0.now)
-  comparing-compare-one p q = (coincide p.0 q.0, coincide p.1 q.1)
+  comparing-compare-one p q = (told-compared-one (coincide p.0 q.0), coincide p.1 q.1)

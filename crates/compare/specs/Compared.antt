@@ -5,7 +5,7 @@ use Rattle.library.specs.declared.sizes.Sizes.{Sizes}
 use Rattle.library.specs.Tables.{opened}
 use Rattle.rules.specs.Hanging.{hangs_together}
 use Rattle.compare.specs.declared.cells.Kept.{Kept}
-use Rattle.compare.specs.declared.comparing.Compared.{Compared}
+use Rattle.compare.specs.Told.{Compared}
 use Rattle.compare.specs.Changes.{Change, differs, changes}
 use Rattle.compare.specs.Cells.{size_cell}
 use Rattle.compare.specs.Order.{fields, named, reading_of}

@@ -1,4 +1,5 @@
 -- The meanings that the contracts cite, in the order in which they build on each other.
+pub mod Told
 pub mod Changes
 pub mod Cells
 pub mod Held

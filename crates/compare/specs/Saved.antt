@@ -1,7 +1,7 @@
 -- A file of what is kept: the layout's number, the checksum of the bytes behind it, and these bytes, the tables' and the clock's.
 use Rattle.std.specs.Prelude.{ℕ, ◌+◌, cond, List, ◌++◌, eqb, ltb, length, take, drop}
 use Rattle.compare.specs.declared.cells.Kept.{Kept}
-use Rattle.compare.specs.declared.saving.Loaded.{Loaded}
+use Rattle.compare.specs.Told.{Loaded}
 use Rattle.compare.specs.Cells.{cell_count}
 use Rattle.compare.specs.Bytes.{bytes_of, number_at}
 use Rattle.compare.specs.Laid.{tables_length, clock_length, image_of, blank_kept, kept_of}

@@ -60,17 +60,12 @@ pub fn apply(a: Kept, list: &[u32]) -> Applied
     let n = list.len() / 5;
     let mut r = a;
     let mut passed: usize = 0;
-    let mut i: usize = 0;
-    while i < n {
+    for i in 0..n {
         let at = i * 5;
         let k = place_of(list[at], list[at + 1], list[at + 2]);
         r = store_named(r, k, list[at + 4]);
         passed += one_passed(k);
-        i += 1;
     }
     let kept = renew_words(r);
-    Applied {
-        kept: kept,
-        passed: passed,
-    }
+    Applied { kept, passed }
 }

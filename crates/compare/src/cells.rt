@@ -1,5 +1,5 @@
 // The numbers of what a host keeps, as they lie: each has a place, and is read by it. A row is an array of numbers.
-ghost use Rattle.std.specs.Prelude.{◌≡◌};
+ghost use Rattle.std.specs.Prelude.{◌≡◌, get_or};
 ghost use Rattle.std.specs.Int.{w32};
 ghost use Rattle.std.proofs.Common.{of_z};
 ghost use Rattle.library.specs.Pool.{mark_at};
@@ -11,7 +11,6 @@ use kernel::tables::{counter_at, holder_at, thread_at};
 use kernel::words::waiting_at;
 use library::mailbox::message_at;
 use library::pool::listed_at;
-use library::signs::magnitude;
 use library::sizes::{Sizes, slots_at};
 use library::tables::{Mailbox, Pool, Tables, mailbox_at, pool_at};
 
@@ -46,43 +45,32 @@ pub struct Kept {
 pub fn bits(m: i32) -> u32
     ensures { result ≡ of_z w32 m }
 {
-    let n = magnitude(m);
-    if m < 0 { 4294967295 - (n - 1) } else { n }
+    m.cast_unsigned()
 }
 
-fn message_bits(t: Thread) -> u32
-    ensures { result ≡ of_z w32 t.message }
+// Number f of a row; 0 past its numbers.
+fn number_in(row: &[u32], f: u16) -> u32
+    ensures { result ≡ get_or row.now f 0 }
 {
-    bits(t.message)
-}
-
-fn answer_bits(t: Thread) -> u32
-    ensures { result ≡ of_z w32 t.answer.message }
-{
-    let answer = t.answer;
-    bits(answer.message)
+    row.get(f as usize).copied().unwrap_or(0)
 }
 
 pub(crate) fn thread_cells(t: Thread) -> [u32; 14]
     ensures { result ≡ thread_cells t }
 {
-    let call = t.call;
-    let answer = t.answer;
-    let message = message_bits(t);
-    let last = answer_bits(t);
     [
         t.state as u32,
         t.place as u32,
         t.remaining,
         t.pending,
         t.awaited,
-        message,
-        call.kind as u32,
-        call.object as u32,
-        call.operand,
-        call.timeout,
-        last,
-        answer.datum,
+        bits(t.message),
+        t.call.kind as u32,
+        t.call.object as u32,
+        t.call.operand,
+        t.call.timeout,
+        bits(t.answer.message),
+        t.answer.datum,
         t.cause,
         t.step,
     ]
@@ -92,19 +80,16 @@ pub(crate) fn thread_cells(t: Thread) -> [u32; 14]
 fn thread_cell(t: Thread, f: u16) -> u32
     ensures { result ≡ thread_cell t f }
 {
-    let v = thread_cells(t);
-    let at = f as usize;
-    if at < 14 { v[at] } else { 0 }
+    number_in(&thread_cells(t), f)
 }
 
 pub(crate) fn box_head(b: Mailbox) -> [u32; 4]
     ensures { result ≡ box_head b }
 {
-    let q = b.positions;
     [
-        q.read as u32,
-        q.write as u32,
-        q.count as u32,
+        b.positions.read as u32,
+        b.positions.write as u32,
+        b.positions.count as u32,
         b.reset as u32,
     ]
 }
@@ -114,8 +99,7 @@ fn box_cell(b: Mailbox, f: u16) -> u32
     ensures { result ≡ box_cell b f }
 {
     if f < 4 {
-        let v = box_head(b);
-        v[f as usize]
+        number_in(&box_head(b), f)
     } else {
         message_at(b, f - 4)
     }
@@ -125,8 +109,7 @@ fn box_cell(b: Mailbox, f: u16) -> u32
 fn mark_in(x: Pool, o: u16) -> u8
     ensures { result ≡ mark_at x o }
 {
-    let at = o as usize;
-    if at < 32 { x.marks[at] } else { 0 }
+    x.marks.get(o as usize).copied().unwrap_or(0)
 }
 
 #[tactic(auto, unfolding(crate::specs::Cells::pool_cell))]
@@ -174,8 +157,7 @@ pub fn size_cell(z: Sizes, f: u16) -> u32
     ensures { result ≡ size_cell z f }
 {
     if f < 6 {
-        let v = sizes_head(z);
-        v[f as usize]
+        number_in(&sizes_head(z), f)
     } else {
         slots_at(z, f - 6) as u32
     }
@@ -185,8 +167,7 @@ pub fn size_cell(z: Sizes, f: u16) -> u32
 fn clock_cell(c: Clock, f: u16) -> u32
     ensures { result ≡ clock_cell c f }
 {
-    let time = c.time;
-    if f == 0 { time.0 } else { c.frequency }
+    if f == 0 { c.time.0 } else { c.frequency }
 }
 
 // The number at a place.
@@ -197,33 +178,25 @@ pub fn cell_at(a: Kept, i: u16) -> u32
     let t = a.tables;
     let k = t.kernel;
     if i < COUNTERS_AT {
-        let threads = k.threads;
-        thread_cell(thread_at(threads, (i / 14) as u8), i % 14)
+        thread_cell(thread_at(k.threads, (i / 14) as u8), i % 14)
     } else if i < REFERENCES_AT {
-        let counters = k.counters;
-        bits(counter_at(counters, i - COUNTERS_AT))
+        bits(counter_at(k.counters, i - COUNTERS_AT))
     } else if i < WORDS_AT {
-        let references = k.references;
-        holder_at(references, i - REFERENCES_AT) as u32
+        holder_at(k.references, i - REFERENCES_AT) as u32
     } else if i < STEPS_AT {
-        let words = k.words;
-        word_cell(words, i - WORDS_AT)
+        word_cell(k.words, i - WORDS_AT)
     } else if i < MAILBOXES_AT {
         k.steps
     } else if i < POOLS_AT {
-        let boxes = t.mailboxes;
         box_cell(
-            mailbox_at(boxes, (i - MAILBOXES_AT) / 20),
+            mailbox_at(t.mailboxes, (i - MAILBOXES_AT) / 20),
             (i - MAILBOXES_AT) % 20,
         )
     } else if i < SIZES_AT {
-        let pools = t.pools;
-        pool_cell(pool_at(pools, (i - POOLS_AT) / 65), (i - POOLS_AT) % 65)
+        pool_cell(pool_at(t.pools, (i - POOLS_AT) / 65), (i - POOLS_AT) % 65)
     } else if i < CLOCK_AT {
-        let sizes = t.sizes;
-        size_cell(sizes, i - SIZES_AT)
+        size_cell(t.sizes, i - SIZES_AT)
     } else {
-        let clock = a.clock;
-        clock_cell(clock, i - CLOCK_AT)
+        clock_cell(a.clock, i - CLOCK_AT)
     }
 }

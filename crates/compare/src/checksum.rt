@@ -27,10 +27,8 @@ pub fn checksum(bytes: &[u8]) -> u32
     ensures { result ≡ checksum_of bytes.now }
 {
     let mut s = Sums { low: 1, high: 0 };
-    let mut i: usize = 0;
-    while i < bytes.len() {
-        s = add_byte(s, bytes[i]);
-        i += 1;
+    for b in bytes {
+        s = add_byte(s, *b);
     }
     s.high as u32 * 65536 + s.low as u32
 }

@@ -15,7 +15,7 @@ ghost use Rattle.compare.specs.Laid.{
   clock_put,
 };
 
-use crate::bytes::{get_byte, get_half, get_word, put_byte, put_half, put_word};
+use crate::bytes::{get_number, put_number};
 use crate::cells::{
     CLOCK_AT, COUNTERS_AT, Kept, MAILBOXES_AT, POOLS_AT, REFERENCES_AT, SIZES_AT, STEPS_AT,
     WORDS_AT, cell_at,
@@ -30,8 +30,7 @@ fn thread_width(f: u16) -> u32
     ensures { result ≡ thread_width f }
 {
     let widths: [u32; 14] = [2, 2, 4, 4, 4, 4, 2, 2, 4, 4, 4, 4, 4, 4];
-    let at = f as usize;
-    if at < 14 { widths[at] } else { 4 }
+    widths.get(f as usize).copied().unwrap_or(4)
 }
 
 fn box_width(f: u16) -> u32
@@ -80,25 +79,7 @@ pub fn blank_kept() -> Kept
 {
     let tables = tables_of(no_sizes());
     let clock = clock_of(0);
-    Kept {
-        tables: tables,
-        clock: clock,
-    }
-}
-
-// The number that lies at `at`, as wide as place i is.
-#[tactic(auto, unfolding(crate::specs::Bytes::number_at, crate::specs::Laid::width_of))]
-fn get_number(s: &[u8], at: u32, i: u16) -> u32
-    ensures { result ≡ number_at (width_of i) s.now at }
-{
-    let w = width_of(i);
-    if w == 1 {
-        get_byte(s, at)
-    } else if w == 2 {
-        get_half(s, at)
-    } else {
-        get_word(s, at)
-    }
+    Kept { tables, clock }
 }
 
 #[tactic(auto, unfolding(crate::specs::Laid::places_read))]
@@ -107,11 +88,10 @@ fn read_tables(s: &[u8]) -> Kept
 {
     let mut a = blank_kept();
     let mut at: u32 = 0;
-    let mut i: u16 = 0;
-    while i < CLOCK_AT {
-        a = with_cell(a, i, get_number(s, at, i));
-        at += width_of(i);
-        i += 1;
+    for i in 0..CLOCK_AT {
+        let w = width_of(i);
+        a = with_cell(a, i, get_number(s, at, w));
+        at += w;
     }
     a
 }
@@ -122,26 +102,12 @@ pub fn kept_of(tables: &[u8], clock: &[u8]) -> Kept
     ensures { result ≡ kept_of tables.now clock.now }
 {
     let mut a = read_tables(tables);
-    a = with_cell(a, CLOCK_AT, get_word(clock, 0));
-    a = with_cell(a, CLOCK_AT + 1, get_word(clock, 4));
+    a = with_cell(a, CLOCK_AT, get_number(clock, 0, 4));
+    a = with_cell(a, CLOCK_AT + 1, get_number(clock, 4, 4));
     a
 }
 
 // ---- written
-
-#[tactic(auto, unfolding(crate::specs::Bytes::number_put, crate::specs::Laid::width_of))]
-fn put_number(s: &mut [u8], at: u32, i: u16, x: u32)
-    ensures { s.new ≡ number_put (width_of i) s.old at x }
-{
-    let w = width_of(i);
-    if w == 1 {
-        put_byte(s, at, x);
-    } else if w == 2 {
-        put_half(s, at, x);
-    } else {
-        put_word(s, at, x);
-    }
-}
 
 // The numbers of the first n places, from a place of the slice on.
 #[tactic(auto, unfolding(crate::specs::Laid::places_put))]
@@ -149,11 +115,10 @@ pub(crate) fn put_places(a: Kept, n: u16, s: &mut [u8], from: u16)
     ensures { s.new ≡ places_put a n s.old from }
 {
     let mut at = from as u32;
-    let mut i: u16 = 0;
-    while i < n {
-        put_number(s, at, i, cell_at(a, i));
-        at += width_of(i);
-        i += 1;
+    for i in 0..n {
+        let w = width_of(i);
+        put_number(s, at, w, cell_at(a, i));
+        at += w;
     }
 }
 
@@ -161,8 +126,8 @@ pub(crate) fn put_places(a: Kept, n: u16, s: &mut [u8], from: u16)
 fn put_clock(a: Kept, s: &mut [u8])
     ensures { s.new ≡ clock_put a s.old }
 {
-    put_word(s, 0, cell_at(a, CLOCK_AT));
-    put_word(s, 4, cell_at(a, CLOCK_AT + 1));
+    put_number(s, 0, 4, cell_at(a, CLOCK_AT));
+    put_number(s, 4, 4, cell_at(a, CLOCK_AT + 1));
 }
 
 // The bytes of tables and of a clock; a number that passes the end of its slice is left out.

@@ -28,6 +28,7 @@ pub const FIELDS: u16 = STEPS_FROM + 1;
 
 // A field is named by its object (0 thread, 1 reference, 2 queue, 3 semaphore, 4 mailbox, 5 pool, 6 clock, 7 step number), the object's
 // number, and the field.
+// The object stays a number: C reads it in an entry of five, and `place_of` answers for any number.
 #[derive(Clone, Copy)]
 pub struct Name {
     pub object: u16,
@@ -39,9 +40,9 @@ fn call(object: u16, number: u16, field: u16) -> Name
     ensures { result ≡ called object number field }
 {
     Name {
-        object: object,
-        number: number,
-        field: field,
+        object,
+        number,
+        field,
     }
 }
 
@@ -105,24 +106,12 @@ pub fn cell_of(k: u16) -> u16
     }
 }
 
-// m - n, or 0.
-fn less(m: u16, n: u16) -> u16
-    ensures { result ≡ m - n }
-{
-    if n <= m { m - n } else { 0 }
-}
-
 // Whether slot s of a ring is used.
 #[tactic(auto, unfolding(crate::specs::Order::slot_used))]
 fn slot_used(q: Positions, slots: u16, s: u16) -> bool
     ensures { result ≡ slot_used q slots s }
 {
-    if s < slots {
-        let back = less(slots, q.read);
-        (s as u32 + back as u32) % (slots as u32) < q.count as u32
-    } else {
-        false
-    }
+    s < slots && (s as u32 + slots.saturating_sub(q.read) as u32) % (slots as u32) < q.count as u32
 }
 
 #[tactic(auto, unfolding(crate::specs::Order::box_counts))]
@@ -130,19 +119,13 @@ fn box_counts(a: Kept, x: Name) -> bool
     ensures { result ≡ box_counts a x }
 {
     let t = a.tables;
-    let z = t.sizes;
-    let boxes = t.mailboxes;
-    if x.number < z.mailboxes {
-        if x.field < 6 {
-            true
-        } else {
-            let b = mailbox_at(boxes, x.number);
-            let q = b.positions;
-            slot_used(q, slots_at(z, x.number), x.field - 6)
-        }
-    } else {
-        false
-    }
+    x.number < t.sizes.mailboxes
+        && (x.field < 6
+            || slot_used(
+                mailbox_at(t.mailboxes, x.number).positions,
+                slots_at(t.sizes, x.number),
+                x.field - 6,
+            ))
 }
 
 #[tactic(auto, unfolding(crate::specs::Order::pool_counts))]
@@ -150,20 +133,8 @@ fn pool_counts(a: Kept, x: Name) -> bool
     ensures { result ≡ pool_counts a x }
 {
     let t = a.tables;
-    let z = t.sizes;
-    let pools = t.pools;
-    if x.number < z.pools {
-        if x.field < 2 {
-            true
-        } else if 34 <= x.field {
-            true
-        } else {
-            let p = pool_at(pools, x.number);
-            x.field - 2 < p.length
-        }
-    } else {
-        false
-    }
+    x.number < t.sizes.pools
+        && (x.field < 2 || 34 <= x.field || x.field - 2 < pool_at(t.pools, x.number).length)
 }
 
 // Whether a field counts: its row is in use, and of a mailbox the slot, of a free list the place.
@@ -173,21 +144,14 @@ pub fn counts(a: Kept, x: Name) -> bool
 {
     let t = a.tables;
     let z = t.sizes;
-    let o = x.object;
-    if o == 0 {
-        x.number < z.threads
-    } else if o == 1 {
-        x.number < z.references
-    } else if o == 2 {
-        x.number < z.queues
-    } else if o == 3 {
-        x.number < z.semaphores
-    } else if o == 4 {
-        box_counts(a, x)
-    } else if o == 5 {
-        pool_counts(a, x)
-    } else {
-        true
+    match x.object {
+        0 => x.number < z.threads,
+        1 => x.number < z.references,
+        2 => x.number < z.queues,
+        3 => x.number < z.semaphores,
+        4 => box_counts(a, x),
+        5 => pool_counts(a, x),
+        _ => true,
     }
 }
 
@@ -195,12 +159,8 @@ pub fn counts(a: Kept, x: Name) -> bool
 fn row_place(first: u16, rows: u16, width: u16, n: u32, f: u32) -> u32
     ensures { result ≡ row_at first rows width n f }
 {
-    if n < rows as u32 {
-        if f < width as u32 {
-            first as u32 + n * width as u32 + f
-        } else {
-            FIELDS as u32
-        }
+    if n < rows as u32 && f < width as u32 {
+        first as u32 + n * width as u32 + f
     } else {
         FIELDS as u32
     }

@@ -27,10 +27,8 @@ fn renew_waiting(z: Sizes, right: [u16; 36], words: Words) -> Words
     ensures { result ≡ waiting_anew z right words }
 {
     let mut r = words;
-    let mut p: u16 = 0;
-    while p < 36 {
+    for p in 0..36 {
         r = renew_word(z, right, p, r);
-        p += 1;
     }
     r
 }
@@ -39,18 +37,11 @@ fn renew_waiting(z: Sizes, right: [u16; 36], words: Words) -> Words
 pub fn renew_words(a: Kept) -> Kept
     ensures { result ≡ renewed a }
 {
-    let mut r = a;
-    let mut t = r.tables;
-    let mut k = t.kernel;
-    let threads = k.threads;
-    let z = t.sizes;
-    let w = walk(threads, z);
-    let right = w.waiting;
-    let mut words = k.words;
+    let z = a.tables.sizes;
+    let w = walk(a.tables.kernel.threads, z);
+    let mut words = a.tables.kernel.words;
     words.ready = w.ready;
-    let anew = renew_waiting(z, right, words);
-    k.words = anew;
-    t.kernel = k;
-    r.tables = t;
+    let mut r = a;
+    r.tables.kernel.words = renew_waiting(z, w.waiting, words);
     r
 }

@@ -1,41 +1,52 @@
 -- What loading a file comes to, in the form in which code meets it: refused, no room, done.
-use Prim.Native.Nat.{ℕ, ◌<◌}
+use Rattle.std.proofs.Common.{arith, Ok, Err}
+use Prim.Native.Nat.{ℕ, ◌<◌, ◌≤◌}
 use mathlib.Core.Path.{◌≡◌, sym, ap, ◌∙◌}
-use mathlib.Core.Logic.{◌≢◌}
 use mathlib.Core.Bool.{true, false}
 use mathlib.Core.List.{List}
-use borrow.Author.Tests.{eq-eqb, ne_eqb}
-use Rattle.compare.specs.declared.saving.Loaded.{Loaded}
-use Rattle.compare.specs.Laid.{tables_put, clock_put}
+use lib.ListN.{length}
+use borrow.Author.Tests.{eq-eqb, ne_eqb, lt-ltb, le-ltb}
+use Rattle.kernel.specs.declared.refusals.Refusal.{Refusal}
+use Rattle.kernel.specs.Told.{number}
+use Rattle.kernel.proofs.Cases.{in-or-out}
+use Rattle.compare.specs.declared.cells.Kept.{Kept}
+use Rattle.compare.specs.Told.{Loaded, told_loaded}
+use Rattle.compare.specs.Laid.{tables_length, clock_length, blank_kept, tables_put, clock_put}
 use Rattle.compare.specs.Saved.{load_code, loaded}
-use Rattle.compare.proofs.CodeLaws.{load_byte}
+use Rattle.kernel.proofs.ToldLaws.{number-some}
 use Rattle.host.specs.Comparing.{is_short, load_answer, loaded_tables, loaded_clock}
 
-module _ (f t c : List ℕ) (x : Loaded) (e : x ≡ loaded f) where
-  abbrev Load : ℕ → List ℕ → List ℕ → Type 0
-  Load code u d = (code ≡ load_answer f t c) × ((u ≡ loaded_tables f t c) × (d ≡ loaded_clock f t c))
+abbrev pub Load : List ℕ → List ℕ → List ℕ → ℕ → List ℕ → List ℕ → Type 0
+Load f t c code u d = (code ≡ load_answer f t c) × ((u ≡ loaded_tables f t c) × (d ≡ loaded_clock f t c))
 
-  code_is : x.code ≡ load_code f
+module _ (f t c : List ℕ) (why : Refusal) (e : told_loaded blank_kept (Err why) ≡ loaded f) where
+  pub load-refused : Load f t c (number why) t c
+  unfolding loaded load_answer loaded_tables loaded_clock
+  load-refused =
+      let code : number why ≡ load_code f = ap (λ (y : Loaded). y.code) e in
+      let n = ne_eqb (load_code f) 0 (λ z. absurd (omega (arith, number-some why, code, z))) in
+      (code ∙ rw n, (rw (n, n), rw (n, n)))
+
+module _ (f t c : List ℕ) (a : Kept) (e : told_loaded blank_kept (Ok a) ≡ loaded f) where
+  accepted : 0 ≡ load_code f
   unfolding loaded
-  code_is = ap (λ (y : Loaded). y.code) e
+  accepted = ap (λ (y : Loaded). y.code) e
 
-  pub load_fits : x.code < 256
-  load_fits = rw code_is (load_byte f)
-
-  pub load-refused : x.code ≢ 0 → Load x.code t c
+  no-room : is_short t c ≡ true → Load f t c 16 t c
   unfolding load_answer loaded_tables loaded_clock
-  load-refused d =
-      let n = ne_eqb (load_code f) 0 (λ z. d (code_is ∙ z)) in
-      (code_is ∙ rw n, (rw (n, n), rw (n, n)))
+  no-room s = let n = eq-eqb (load_code f) 0 (sym accepted) in (rw (n, s), (rw (n, s), rw (n, s)))
 
-  pub load-short : x.code ≡ 0 → is_short t c ≡ true → Load 16 t c
-  unfolding load_answer loaded_tables loaded_clock
-  load-short z s =
-      let n = eq-eqb (load_code f) 0 (sym code_is ∙ z) in
-      (rw (n, s), (rw (n, s), rw (n, s)))
+  pub load-short : length t < 1572 → Load f t c 16 t c
+  load-short h = no-room (rw (lt-ltb (length t) tables_length h))
 
-  pub load-done : x.code ≡ 0 → is_short t c ≡ false → (u d : List ℕ) → u ≡ tables_put x.kept t → d ≡ clock_put x.kept c → Load 0 u d
+  pub load-short-clock : length c < 8 → Load f t c 16 t c
+  load-short-clock h =
+      in-or-out (length t) 1572 load-short
+      (λ g. no-room (rw (le-ltb (length t) tables_length g, lt-ltb (length c) clock_length h)))
+
+  pub load-done : 1572 ≤ length t → 8 ≤ length c → (u d : List ℕ) → u ≡ tables_put a t → d ≡ clock_put a c → Load f t c 0 u d
   unfolding load_answer loaded_tables loaded_clock
-  load-done z s u d p q =
-      let n = eq-eqb (load_code f) 0 (sym code_is ∙ z) in
+  load-done h g u d p q =
+      let n = eq-eqb (load_code f) 0 (sym accepted) in
+      let s : is_short t c ≡ false = rw (le-ltb (length t) tables_length h, le-ltb (length c) clock_length g) in
       (rw (n, s), (rw (n, s) (p ∙ ap (λ (y : Loaded). tables_put y.kept t) e), rw (n, s) (q ∙ ap (λ (y : Loaded). clock_put y.kept c) e)))

@@ -1,6 +1,6 @@
 -- What a comparison, a list and a file of saved tables come to for a host, which lends tables and clocks as the bytes in which they lie.
 use Rattle.std.specs.Prelude.{ℕ, Bool, cond, ◌||◌, List, eqb, ltb, length}
-use Rattle.compare.specs.declared.comparing.Compared.{Compared}
+use Rattle.compare.specs.Told.{Compared}
 use Rattle.compare.specs.declared.applying.Applied.{Applied}
 use Rattle.compare.specs.Laid.{tables_length, clock_length, kept_of, tables_put, clock_put}
 use Rattle.compare.specs.Compared.{compared, compared_list}

@@ -1,5 +1,6 @@
 -- The meanings that the contracts cite.
 pub mod Request
+pub mod Told
 pub mod Setup
 pub mod Reads
 pub mod Writes
@@ -7,5 +8,4 @@ pub mod Broken
 pub mod Screen
 pub mod Times
 pub mod Layout
-pub mod Piping
 pub mod Comparing

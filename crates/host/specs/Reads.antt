@@ -1,8 +1,7 @@
 -- A read of a trace as a host gets it.
 use Rattle.std.specs.Prelude.{ℕ, List}
 use Rattle.library.specs.declared.calls.Step.{Step}
-use Rattle.trace.specs.declared.decoding.Found.{Found}
-use Rattle.trace.specs.declared.decoding.Found.TheVariants.{Opened, Stepped, Ended, Refused}
+use Rattle.trace.specs.Told.{Found}
 use Rattle.trace.specs.Decoding.{found_code, number_at, next_read}
 use Rattle.host.specs.declared.request.Request.{Request}
 use Rattle.host.specs.declared.reads.ReadResult.{ReadResult}
@@ -18,17 +17,17 @@ request_of s =
 
 -- "A refused read gives .. no step"
 abbrev pub request_in : Found → Request
-request_in Opened = no_request
-request_in (Stepped s) = request_of s
-request_in Ended = no_request
-request_in (Refused code number) = no_request
+request_in Found.Opened = no_request
+request_in (Found.Stepped s) = request_of s
+request_in Found.Ended = no_request
+request_in (Found.Refused code number) = no_request
 
 -- 1 for sizes, 2 for a step, 0 for neither
 abbrev pub found_number : Found → ℕ
-found_number Opened = 1
-found_number (Stepped s) = 2
-found_number Ended = 0
-found_number (Refused code number) = 0
+found_number Found.Opened = 1
+found_number (Found.Stepped s) = 2
+found_number Found.Ended = 0
+found_number (Found.Refused code number) = 0
 
 -- "the number, the record's number and no step, and moves no reader", or what stands at the place
 abbrev pub read_at : List ℕ → ℕ → ReadResult

@@ -1,16 +1,15 @@
 -- Fresh tables and their clock where a host keeps them.
-use Rattle.std.specs.Prelude.{ℕ, cond, eqb}
+use Rattle.std.specs.Prelude.{ℕ, cond, eqb, Some}
 use Rattle.kernel.specs.declared.clock.Clock.{Clock}
-use Rattle.kernel.specs.declared.units.Rate.TheVariants.{Given}
 use Rattle.library.specs.declared.sizes.Sizes.{Sizes}
 use Rattle.library.specs.declared.tables.Tables.{Tables}
-use Rattle.library.specs.declared.fresh.Made.{Made}
+use Rattle.library.specs.Told.{Made}
 use Rattle.library.specs.Fresh.{made}
-use Rattle.host.specs.declared.setup.Prepared.{Prepared}
+use Rattle.host.specs.Told.{Prepared}
 
 -- "Fresh .. frequency as given"
 abbrev pub made_for : Sizes → ℕ → Made
-made_for z f = made z (Given f)
+made_for z f = made z (Some f)
 
 -- what is made, and whether it was
 abbrev pub prepared : Sizes → ℕ → Prepared

@@ -1,7 +1,6 @@
 -- System time and intervals as a host has them, plain numbers.
-use Rattle.std.specs.Prelude.{ℕ, cond}
+use Rattle.std.specs.Prelude.{ℕ, cond, Some}
 use Rattle.kernel.specs.declared.units.Unit.{Unit}
-use Rattle.kernel.specs.declared.units.Rate.TheVariants.{Given}
 use Rattle.kernel.specs.Time.{added, differed, in_range}
 use Rattle.kernel.specs.Units.{in_ticks, of_ticks}
 
@@ -19,14 +18,14 @@ in_range_number time start end = cond (in_range (record { 0 = time }) (record { 
 
 -- "Seconds, milliseconds and microseconds (32-bit) become ticks rounded upward"; "A refused conversion returns 6 and value 0"
 abbrev pub ticks_code : Unit → ℕ → ℕ → ℕ
-ticks_code u x frequency = (in_ticks u x (Given frequency)).code
+ticks_code u x frequency = (in_ticks u x (Some frequency)).code
 
 abbrev pub ticks_in : Unit → ℕ → ℕ → ℕ
-ticks_in u x frequency = (in_ticks u x (Given frequency)).interval.0
+ticks_in u x frequency = (in_ticks u x (Some frequency)).interval.0
 
 -- "Ticks become the other units rounded upward as 64-bit numbers"
 abbrev pub units_code : Unit → ℕ → ℕ → ℕ
-units_code u ticks frequency = (of_ticks u (record { 0 = ticks }) (Given frequency)).code
+units_code u ticks frequency = (of_ticks u (record { 0 = ticks }) (Some frequency)).code
 
 abbrev pub units_of : Unit → ℕ → ℕ → ℕ
-units_of u ticks frequency = (of_ticks u (record { 0 = ticks }) (Given frequency)).value
+units_of u ticks frequency = (of_ticks u (record { 0 = ticks }) (Some frequency)).value

@@ -10,8 +10,10 @@ use rules::finding::find_broken;
 fn number_broken(tables: Tables, clock: Clock) -> u32
     ensures { result ≡ broken_number tables clock }
 {
-    let found = find_broken(tables, clock);
-    found.rule as u32 * 256 + found.row as u32
+    match find_broken(tables, clock) {
+        Some(found) => found.rule as u32 * 256 + found.row as u32,
+        None => 0,
+    }
 }
 
 // Says which rule is broken first, and in which row.

@@ -1,6 +1,7 @@
 // Tables compared, a list applied, tables saved and read back. A host lends tables and clocks as the bytes in which they lie, little-endian,
 // without a gap; bytes that are missing read as 0, and nothing is written past an end.
 ghost use Rattle.std.specs.Prelude.{◌≡◌, length};
+ghost use Rattle.kernel.specs.Told.{code_of};
 ghost use Rattle.compare.specs.Laid.{kept_of, tables_put, clock_put};
 ghost use Rattle.compare.specs.Saved.{save_code, saved};
 ghost use Rattle.host.specs.Comparing.{compared_bytes, list_bytes, entries_kept, applied_bytes, load_answer, loaded_tables, loaded_clock};
@@ -9,7 +10,7 @@ use compare::applying::apply;
 use compare::comparing::compare;
 use compare::laying::{kept_of, put_kept};
 use compare::saving::{load, save};
-use library::logic::either;
+use kernel::refusals::Refusal;
 
 // The list of what differs, from its beginning on, and how many entries it has; at a refusal nothing is written.
 #[unsafe(no_mangle)]
@@ -27,12 +28,12 @@ pub extern "C" fn nil_compare_bytes(
 {
     let a = kept_of(first, first_clock);
     let b = kept_of(second, second_clock);
-    let done = compare(a, b, list);
-    if done.code == 0 {
-        *entries = done.entries as usize;
-        0
-    } else {
-        done.code as u8
+    match compare(a, b, list) {
+        Ok(count) => {
+            *entries = count as usize;
+            0
+        }
+        Err(why) => why as u8,
     }
 }
 
@@ -56,8 +57,24 @@ pub extern "C" fn nil_save_bytes(tables: &[u8], clock: &[u8], file: &mut [u8]) -
     ensures file { file.new ≡ saved (kept_of tables.now clock.now) file.old }
 {
     let a = kept_of(tables, clock);
-    let code = save(a, file);
-    code as u8
+    match save(a, file) {
+        Ok(()) => 0,
+        Err(why) => why as u8,
+    }
+}
+
+// What a file of saved tables has, put where it is asked for; or a refusal and nothing written.
+fn load_into(file: &[u8], tables: &mut [u8], clock: &mut [u8]) -> Result<(), Refusal>
+    ensures code { code_of result ≡ load_answer file.now tables.old clock.old }
+    ensures tables { tables.new ≡ loaded_tables file.now tables.old clock.old }
+    ensures clock { clock.new ≡ loaded_clock file.now tables.old clock.old }
+{
+    let kept = load(file)?;
+    if tables.len() < 1572 || clock.len() < 8 {
+        return Err(Refusal::Room);
+    }
+    put_kept(kept, tables, clock);
+    Ok(())
 }
 
 // What a file of saved tables has: 0; or a refusal and nothing written.
@@ -67,15 +84,8 @@ pub extern "C" fn nil_load_bytes(file: &[u8], tables: &mut [u8], clock: &mut [u8
     ensures tables { tables.new ≡ loaded_tables file.now tables.old clock.old }
     ensures clock { clock.new ≡ loaded_clock file.now tables.old clock.old }
 {
-    let found = load(file);
-    if found.code == 0 {
-        if either(tables.len() < 1572, clock.len() < 8) {
-            16
-        } else {
-            put_kept(found.kept, tables, clock);
-            0
-        }
-    } else {
-        found.code as u8
+    match load_into(file, tables, clock) {
+        Ok(()) => 0,
+        Err(why) => why as u8,
     }
 }

@@ -3,7 +3,7 @@
 ghost use Rattle.std.specs.Prelude.{◌≡◌};
 ghost use Rattle.host.specs.Layout.{layout};
 
-pub const LAYOUT: u32 = 3;
+pub const LAYOUT: u32 = compare::saving::LAYOUT;
 
 #[unsafe(no_mangle)]
 pub extern "C" fn nil_layout() -> u32

@@ -2,41 +2,43 @@
 ghost use Rattle.std.specs.Prelude.{◌≡◌, length};
 ghost use Rattle.pipes.specs.Opening.{pipes_fresh, pipe_reset, pipe_resumed};
 ghost use Rattle.pipes.specs.Transfer.{write_answer, buffer_written, read_answer, target_read};
-ghost use Rattle.host.specs.Piping.{answered};
+ghost use Rattle.pipes.specs.Told.{told_opened, told_moved};
 
-use pipes::opening::{Opened, make_pipes, reset_pipe, resume_pipe};
+use kernel::refusals::Refusal;
+use pipes::opening::{make_pipes, reset_pipe, resume_pipe};
 use pipes::table::Pipes;
-use pipes::transfer::{read_pipe, write_pipe};
+use pipes::transfer::{Transferred, read_pipe, write_pipe};
 
-// A write with the table by value; the rest is lent on, and the number moved is stored.
-fn put_bytes(t: Pipes, pipe: u32, buffer: &mut [u8], offered: &[u8], moved: &mut i32) -> Opened
-    ensures { (result ≡ answered (write_answer t pipe (length buffer.old) (length offered.now)))
-        × (buffer.new ≡ buffer_written t pipe buffer.old offered.now)
-        × (moved.new ≡ (write_answer t pipe (length buffer.old) (length offered.now)).moved) }
+// Keeps the table that a call leaves, with code 0; or gives the refusal's number, and nothing changes.
+fn keep_table(pipes: &mut Pipes, done: Result<Pipes, Refusal>) -> u8
+    ensures { (result ≡ (told_opened pipes.old done).code)
+        × (pipes.new ≡ (told_opened pipes.old done).pipes) }
 {
-    let written = write_pipe(t, pipe, buffer, offered);
-    let filled = written.pipes;
-    let taken = written.moved;
-    *moved = taken;
-    Opened {
-        pipes: filled,
-        code: written.code,
+    match done {
+        Ok(after) => {
+            *pipes = after;
+            0
+        }
+        Err(why) => why as u8,
     }
 }
 
-// A read likewise. In both the slice that is written to stands before the other.
-fn get_bytes(t: Pipes, pipe: u32, target: &mut [u8], buffer: &[u8], moved: &mut i32) -> Opened
-    ensures { (result ≡ answered (read_answer t pipe (length buffer.now) (length target.old)))
-        × (target.new ≡ target_read t pipe buffer.now target.old)
-        × (moved.new ≡ (read_answer t pipe (length buffer.now) (length target.old)).moved) }
+// Keeps the table and the number moved that a transfer leaves, with code 0; or gives the refusal's number, with 0 moved.
+fn keep_transfer(pipes: &mut Pipes, moved: &mut i32, done: Result<Transferred, Refusal>) -> u8
+    ensures { (result ≡ (told_moved pipes.old done).code)
+        × (pipes.new ≡ (told_moved pipes.old done).pipes)
+        × (moved.new ≡ (told_moved pipes.old done).moved) }
 {
-    let read = read_pipe(t, pipe, buffer, target);
-    let drained = read.pipes;
-    let given = read.moved;
-    *moved = given;
-    Opened {
-        pipes: drained,
-        code: read.code,
+    match done {
+        Ok(x) => {
+            *pipes = x.pipes;
+            *moved = x.moved;
+            0
+        }
+        Err(why) => {
+            *moved = 0;
+            why as u8
+        }
     }
 }
 
@@ -46,12 +48,10 @@ pub extern "C" fn nil_pipe_fresh(pipes: &mut Pipes, number: u32) -> u8
     ensures { (result ≡ (pipes_fresh pipes.old number).code)
         × (pipes.new ≡ (pipes_fresh pipes.old number).pipes) }
 {
-    let t = *pipes;
-    let done = make_pipes(t, number);
-    *pipes = done.pipes;
-    done.code
+    keep_table(pipes, make_pipes(number))
 }
 
+// The next two differ in one call: C calls each by its own name, and `keep_table` has what they share.
 // Empties a pipe and sets its reset state, with code 0; or refuses with 5 or 6, and nothing changes.
 #[unsafe(no_mangle)]
 pub extern "C" fn nil_pipe_reset(pipes: &mut Pipes, pipe: u32, length: usize) -> u8
@@ -59,9 +59,7 @@ pub extern "C" fn nil_pipe_reset(pipes: &mut Pipes, pipe: u32, length: usize) ->
         × (pipes.new ≡ (pipe_reset pipes.old pipe length).pipes) }
 {
     let t = *pipes;
-    let done = reset_pipe(t, pipe, length);
-    *pipes = done.pipes;
-    done.code
+    keep_table(pipes, reset_pipe(t, pipe, length))
 }
 
 // Ends a pipe's reset state, with code 0; or refuses with 5 or 6, and nothing changes.
@@ -71,9 +69,7 @@ pub extern "C" fn nil_pipe_resume(pipes: &mut Pipes, pipe: u32, length: usize) -
         × (pipes.new ≡ (pipe_resumed pipes.old pipe length).pipes) }
 {
     let t = *pipes;
-    let done = resume_pipe(t, pipe, length);
-    *pipes = done.pipes;
-    done.code
+    keep_table(pipes, resume_pipe(t, pipe, length))
 }
 
 // Writes what is offered into a pipe, as far as there is room, and the number of bytes moved to `moved`, with code 0: -2 in the reset
@@ -92,9 +88,8 @@ pub extern "C" fn nil_pipe_write(
         × (moved.new ≡ (write_answer pipes.old pipe (length buffer.old) (length offered.now)).moved) }
 {
     let t = *pipes;
-    let done = put_bytes(t, pipe, buffer, offered, moved);
-    *pipes = done.pipes;
-    done.code
+    let written = write_pipe(t, pipe, buffer, offered);
+    keep_transfer(pipes, moved, written)
 }
 
 // Reads out of a pipe, as much as is there and the target holds, and stores the number of bytes moved at `moved`, with code 0: -2 in
@@ -113,7 +108,6 @@ pub extern "C" fn nil_pipe_read(
         × (moved.new ≡ (read_answer pipes.old pipe (length buffer.now) (length target.old)).moved) }
 {
     let t = *pipes;
-    let done = get_bytes(t, pipe, target, buffer, moved);
-    *pipes = done.pipes;
-    done.code
+    let read = read_pipe(t, pipe, buffer, target);
+    keep_transfer(pipes, moved, read)
 }

@@ -1,13 +1,12 @@
 // The trace reader for a host: the trace is lent, and the place in it is the host's number.
 ghost use Rattle.std.specs.Prelude.{◌≡◌};
-ghost use Rattle.trace.specs.Decoding.{found_code};
-ghost use Rattle.host.specs.Reads.{no_request, request_of, request_in, found_number, read_at};
+ghost use Rattle.host.specs.Reads.{no_request, request_of, read_at};
 
 use crate::request::Request;
 use library::calls::Step;
-use library::sizes::Sizes;
+use library::sizes::{Sizes, no_sizes};
 use trace::cursor::read_at;
-use trace::decoding::{Found, number_at};
+use trace::decoding::{Record, number_at};
 
 // What a read found: no step and no sizes at a refusal and at the trace's end.
 pub const NOTHING: u32 = 0;
@@ -25,6 +24,7 @@ pub struct ReadResult {
     pub number: usize,
     pub step: Request,
     pub sizes: Sizes,
+    // Stays a number beside the values: C reads this struct as nil.h lays it out.
     pub found: u32,
     pub code: u32,
 }
@@ -43,49 +43,18 @@ fn no_request() -> Request
 }
 
 // A step in the form in which a host has one.
-fn request_of(s: Step) -> Request
-    ensures { result ≡ request_of s }
-{
-    Request {
-        kind: s.kind,
-        caller: s.caller,
-        object: s.object,
-        unused: 0,
-        a: s.a,
-        timeout: s.timeout,
-    }
-}
+impl From<Step> for Request {
+    ghost from_gives = { λ s q. q ≡ request_of s };
 
-fn request_in(found: Found) -> Request
-    ensures { result ≡ request_in found }
-{
-    match found {
-        Found::Opened => no_request(),
-        Found::Stepped(s) => request_of(s),
-        Found::Ended => no_request(),
-        Found::Refused(_, _) => no_request(),
-    }
-}
-
-fn found_number(found: Found) -> u32
-    ensures { result ≡ found_number found }
-{
-    match found {
-        Found::Opened => SIZES,
-        Found::Stepped(_) => STEP,
-        Found::Ended => NOTHING,
-        Found::Refused(_, _) => NOTHING,
-    }
-}
-
-fn found_code(found: Found) -> u32
-    ensures { result ≡ found_code found }
-{
-    match found {
-        Found::Opened => 0,
-        Found::Stepped(_) => 0,
-        Found::Ended => 0,
-        Found::Refused(code, _) => code as u32,
+    fn from(s: Step) -> Request {
+        Request {
+            kind: s.kind,
+            caller: s.caller,
+            object: s.object,
+            unused: 0,
+            a: s.a,
+            timeout: s.timeout,
+        }
     }
 }
 
@@ -94,20 +63,27 @@ fn find(s: &[u8], at: usize) -> ReadResult
     ensures { result ≡ read_at s.now at }
 {
     let read = read_at(s, at);
-    let what = read.found;
-    let sizes = read.sizes;
-    let number = number_at(at);
-    let step = request_in(what);
-    let found = found_number(what);
-    let code = found_code(what);
-    ReadResult {
+    let mut done = ReadResult {
         next: read.next,
-        number: number,
-        step: step,
-        sizes: sizes,
-        found: found,
-        code: code,
+        number: number_at(at),
+        step: no_request(),
+        sizes: no_sizes(),
+        found: NOTHING,
+        code: 0,
+    };
+    match read.found {
+        Ok(Some(Record::Sizes(z))) => {
+            done.sizes = z;
+            done.found = SIZES;
+        }
+        Ok(Some(Record::Step(x))) => {
+            done.step = Request::from(x);
+            done.found = STEP;
+        }
+        Ok(None) => {}
+        Err(bad) => done.code = bad.why as u32,
     }
+    done
 }
 
 // Reads the record at a place of the trace.

@@ -4,9 +4,8 @@ ghost use Rattle.steps.specs.Stepping.{stepped};
 ghost use Rattle.host.specs.Request.{step_of, result_of, step_answered};
 
 use kernel::clock::{Clock, tick};
-use kernel::kinds::TICK;
+use kernel::kinds::Kind;
 use library::calls::Step;
-use library::logic::both;
 use library::tables::Tables;
 use steps::stepping::{Outcome, step};
 
@@ -26,6 +25,7 @@ pub struct Request {
 #[repr(C)]
 #[derive(Clone, Copy)]
 pub struct StepResult {
+    // Stays a number, 0 where the step was accepted: C reads this struct as nil.h lays it out.
     pub code: u16,
     pub running: u16,
     pub woken: u16,
@@ -35,6 +35,7 @@ pub struct StepResult {
 }
 
 // A step made by value: the tables that it leaves, its result, whether it was accepted, and whether it advances the clock.
+// Flags beside the tables: an `Option` of them copies them once more, which took 6 per cent of a step's instructions (docs/DESIGN-PASS.md).
 #[derive(Clone, Copy)]
 struct Answered {
     pub tables: Tables,
@@ -43,6 +44,7 @@ struct Answered {
     pub ticks: bool,
 }
 
+// Stays a function: docs/FUNCTIONS.md names its law `request-step-of-one`.
 pub fn step_of(q: Request) -> Step
     ensures { result ≡ step_of q }
 {
@@ -55,16 +57,18 @@ pub fn step_of(q: Request) -> Step
     }
 }
 
-fn result_of(o: Outcome) -> StepResult
-    ensures { result ≡ result_of o }
-{
-    StepResult {
-        code: o.code as u16,
-        running: o.running as u16,
-        woken: o.woken,
-        finished: o.finished,
-        message: o.message,
-        datum: o.datum,
+impl From<Outcome> for StepResult {
+    ghost from_gives = { λ o r. r ≡ result_of o };
+
+    fn from(o: Outcome) -> StepResult {
+        StepResult {
+            code: o.code as u16,
+            running: o.running as u16,
+            woken: o.woken,
+            finished: o.finished,
+            message: o.message,
+            datum: o.datum,
+        }
     }
 }
 
@@ -77,14 +81,14 @@ fn answer(tables: Tables, clock: Clock, q: Request) -> Answered
     let done = step(tables, clock, s);
     let after = done.tables;
     let outcome = done.outcome;
-    let result = result_of(outcome);
+    let result = StepResult::from(outcome);
     let accepted = outcome.code == 0;
-    let is_tick = q.kind == TICK;
+    let is_tick = q.kind == Kind::Tick as u8;
     Answered {
         tables: after,
         result: result,
         accepted: accepted,
-        ticks: both(accepted, is_tick),
+        ticks: accepted && is_tick,
     }
 }
 

@@ -5,6 +5,7 @@ ghost use Rattle.host.specs.Screen.{ready_count, ready_first, waiters_at};
 use kernel::words::{count_in, first_in, waiting_at};
 use library::tables::Tables;
 
+// Three functions that differ in the reader of the words that they call: a closure for it is no plainer, since each is those few lines.
 // How many threads are ready, by value.
 fn count_ready(t: Tables) -> u32
     ensures { result ≡ ready_count t }

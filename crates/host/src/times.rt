@@ -5,7 +5,7 @@ ghost use Rattle.kernel.specs.declared.units.Unit.TheVariants.{Seconds, Millisec
 ghost use Rattle.host.specs.Times.{added_time, differed_time, in_range_number, ticks_in, ticks_code, units_of, units_code};
 
 use kernel::time::{Interval, SystemTime, add, difference, in_range};
-use kernel::units::{Rate, Unit, from_ticks, to_ticks};
+use kernel::units::{Unit, from_ticks, to_ticks};
 
 // The time that lies an interval after a time.
 #[unsafe(no_mangle)]
@@ -41,21 +41,35 @@ pub extern "C" fn nil_time_in_range(time: u32, start: u32, end: u32) -> u8
 fn put_ticks(u: Unit, x: u32, frequency: u32, ticks: &mut u32) -> u8
     ensures { (result ≡ ticks_code u x frequency) × (ticks.new ≡ ticks_in u x frequency) }
 {
-    let done = to_ticks(u, x, Rate::Given(frequency));
-    let interval = done.interval;
-    *ticks = interval.0;
-    done.code
+    match to_ticks(u, x, Some(frequency)) {
+        Ok(interval) => {
+            *ticks = interval.0;
+            0
+        }
+        Err(why) => {
+            *ticks = 0;
+            why as u8
+        }
+    }
 }
 
 // So many ticks in a unit, with code 0; or 0 with code 6.
 fn put_units(u: Unit, ticks: u32, frequency: u32, value: &mut u64) -> u8
     ensures { (result ≡ units_code u ticks frequency) × (value.new ≡ units_of u ticks frequency) }
 {
-    let done = from_ticks(u, Interval(ticks), Rate::Given(frequency));
-    *value = done.value;
-    done.code
+    match from_ticks(u, Interval(ticks), Some(frequency)) {
+        Ok(n) => {
+            *value = n;
+            0
+        }
+        Err(why) => {
+            *value = 0;
+            why as u8
+        }
+    }
 }
 
+// Six functions that differ in the unit: C calls each by its own name, and `put_ticks` and `put_units` have what they share.
 #[unsafe(no_mangle)]
 pub extern "C" fn nil_s2i(seconds: u32, frequency: u32, ticks: &mut u32) -> u8
     ensures { (result ≡ ticks_code Seconds seconds frequency) × (ticks.new ≡ ticks_in Seconds seconds frequency) }

@@ -1,10 +1,7 @@
 -- Past a table's end a read gives the default and a write changes nothing.
-use Rattle.std.proofs.Common.{◌≡◌, ℕ, zero, suc, ◌<◌, ◌≤◌, List, [], ◌∷◌, map, length, get_or, set, sym, refl, ◌∙◌, subst, arith}
-use lib.ListN.{length-map, get_or-eq_default}
+use Rattle.std.proofs.Common.{◌≡◌, ℕ, zero, suc, ◌<◌, ◌≤◌, List, [], ◌∷◌, length, get_or, set, sym, refl, subst, arith}
+use lib.ListN.{get_or-eq_default}
 use lib.Seq.{set_out}
-
-pub length-mapped : {A B : Type 0} (f : A → B) (l : List A) (n : ℕ) → length (map f l) ≡ n → length l ≡ n
-length-mapped f l n e = sym (length-map l f) ∙ e
 
 module _ {A : Type 0} (l : List A) (n i : ℕ) (sized : length l ≡ n) (past : n ≤ i) where
   beyond : length l ≤ i

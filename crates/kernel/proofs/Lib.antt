@@ -1,14 +1,15 @@
 -- What the proofs share, and the laws that the crates above cite.
-pub mod Mirror
 pub mod Lengths
 pub mod Signed
 pub mod Loops
-pub mod Products
 pub mod Cases
+pub mod KindsLaws
+pub mod CausesLaws
 pub mod WalkLaws
 pub mod WordsLaws
 pub mod TimeLaws
 pub mod UnitsLaws
+pub mod ToldLaws
 pub mod TablesLaws
 pub mod CountersLaws
 pub mod MovesLaws

@@ -8,12 +8,19 @@ use prog.Routine.{Routine}
 use types.Logic.{Logic}
 use contract.Lifetimes.{Lfts}
 use contract.Monad.{Fun, fact, fact_i, fact_use}
+use Rattle.std.specs.declared.clone.Clone.{Ghosts as CloneGhosts}
+use denote.Param.Laws.{Laws, IsCopy}
+use denote.RattleType.{RattleType}
 use denote.Triple.Clauses.{AtExit}
 use denote.Triple.Entry.{Args}
+use mir.Syntax.{Dict}
 use borrow.Fn.Kinds.{ParamKind, ResultKind, Out, Dens, res_t, ended_of}
+use Rattle.kernel.proofs.ToldLaws.{told-ticks-one, told-units-one}
 use Rattle.kernel.proofs.clock.advance.Reads as clock-advance
 use Rattle.kernel.proofs.clock.advance.Kinds as clock-advance-kinds
 use Rattle.kernel.specs.contracts.clock.tick as clock-tick
+use Rattle.kernel.proofs.causes.Cause.number.Reads as causes-Cause-number
+use Rattle.kernel.proofs.causes.Cause.number.Kinds as causes-Cause-number-kinds
 use Rattle.kernel.proofs.counters.count_up.Reads as counters-count-up
 use Rattle.kernel.proofs.counters.count_up.Kinds as counters-count-up-kinds
 use Rattle.kernel.proofs.counters.count_down.Reads as counters-count-down
@@ -76,6 +83,10 @@ use Rattle.kernel.proofs.semaphore.signal.Reads as semaphore-signal
 use Rattle.kernel.proofs.semaphore.signal.Kinds as semaphore-signal-kinds
 use Rattle.kernel.proofs.semaphore.reset.Reads as semaphore-reset
 use Rattle.kernel.proofs.semaphore.reset.Kinds as semaphore-reset-kinds
+use Rattle.kernel.proofs.tables.at.Reads as tables-at
+use Rattle.kernel.proofs.tables.at.Kinds as tables-at-kinds
+use Rattle.kernel.proofs.tables.put.Reads as tables-put
+use Rattle.kernel.proofs.tables.put.Kinds as tables-put-kinds
 use Rattle.kernel.proofs.tables.used_rows.Reads as tables-used-rows
 use Rattle.kernel.proofs.tables.used_rows.Kinds as tables-used-rows-kinds
 use Rattle.kernel.proofs.tables.thread_at.Reads as tables-thread-at
@@ -141,6 +152,9 @@ coincide p q = p ∙ sym q
 abbrev pub Fixes : (n : ℕ) (ps : List (ParamKind n)) (r : ResultKind n) → Out n ps r → Type 0
 Fixes n ps r P =
     (κs : Lfts n) (a : Dens κs ps) (e : AtExit (ended_of n ps r) κs) (x y : (res_t r κs).Denot) → P κs a x e → P κs a y e → x ≡ y
+
+pub causes-Cause-number-one : Fixes 0 causes-Cause-number-kinds.ps causes-Cause-number-kinds.r causes-Cause-number.Post
+causes-Cause-number-one κs a e x y = coincide
 
 pub clock-advance-one : Fixes 0 clock-advance-kinds.ps clock-advance-kinds.r clock-advance.Post
 clock-advance-one κs a e x y = coincide
@@ -253,6 +267,18 @@ semaphore-signal-one κs a e x y = coincide
 pub semaphore-reset-one : Fixes 0 semaphore-reset-kinds.ps semaphore-reset-kinds.r semaphore-reset.Post
 semaphore-reset-one κs a e x y = coincide
 
+-- of rows of every type
+module _ (T : RattleType) (t : Laws T) (c : IsCopy T) (clone : CloneGhosts T.Denot) (cd : Dict) where
+  pub tables-at-one : Fixes 2 (tables-at-kinds.ps T t c) (tables-at-kinds.r T t c) (tables-at.Post T t c clone cd)
+  tables-at-one κs a e x y = coincide
+
+  -- what the lent table holds in the end
+  pub tables-put-one : (κs : Lfts 2) (a : Dens κs (tables-put-kinds.ps T t c))
+      (e f : AtExit (ended_of 2 (tables-put-kinds.ps T t c) (tables-put-kinds.r T t c)) κs)
+      (x y : (res_t (tables-put-kinds.r T t c) κs).Denot)
+      → tables-put.Post T t c clone cd κs a x e → tables-put.Post T t c clone cd κs a y f → e.0.now ≡ f.0.now
+  tables-put-one κs a e f x y = coincide
+
 pub tables-used-rows-one : Fixes 0 tables-used-rows-kinds.ps tables-used-rows-kinds.r tables-used-rows.Post
 tables-used-rows-one κs a e x y = coincide
 
@@ -293,10 +319,10 @@ pub units-frequency-fits-one : Fixes 0 units-frequency-fits-kinds.ps units-frequ
 units-frequency-fits-one κs a e x y = coincide
 
 pub units-to-ticks-one : Fixes 0 units-to-ticks-kinds.ps units-to-ticks-kinds.r units-to-ticks.Post
-units-to-ticks-one κs a e x y = coincide
+units-to-ticks-one κs a e x y p q = told-ticks-one (coincide p q)
 
 pub units-from-ticks-one : Fixes 0 units-from-ticks-kinds.ps units-from-ticks-kinds.r units-from-ticks.Post
-units-from-ticks-one κs a e x y = coincide
+units-from-ticks-one κs a e x y p q = told-units-one (coincide p q)
 
 pub waiters-is-ready-one : Fixes 0 waiters-is-ready-kinds.ps waiters-is-ready-kinds.r waiters-is-ready.Post
 waiters-is-ready-one κs a e x y = coincide

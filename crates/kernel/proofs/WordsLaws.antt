@@ -1,10 +1,9 @@
 -- Words, digit by digit: a word is known by its digits, and the digits of a walk's word are the walk's answers. The first index that
 -- passes is the number of trailing zeros, and how many pass is the number of ones. For any test and any number of indexes.
-use Rattle.std.proofs.Common.{◌≡◌, ℕ, zero, suc, ◌+◌, ◌-◌, ◌*◌, ◌/◌, ◌%◌, ◌^◌, ◌<◌, ◌≤◌, min, max, Bool, true, false, cond, not, ◌&&◌, ◌||◌, eqb, ltb, ◌≢◌, List, length, get_or, set, sym, refl, ap, ◌∙◌, not-suc-le-zero, mod-eq_of_lt, one-mul, pow-suc, div-one, add-one, arith, length-set, get_or-set_other, get_or-set_same, pow_pos, pow_mono, le-ltb, lt-ltb, eq-eqb, ne_eqb}
+use Rattle.std.proofs.Common.{◌≡◌, ℕ, zero, suc, ◌+◌, ◌-◌, ◌*◌, ◌/◌, ◌%◌, ◌^◌, ◌<◌, ◌≤◌, min, max, Bool, true, false, cond, not, ◌&&◌, ◌||◌, eqb, ltb, ◌≢◌, List, length, get_or, set, sym, refl, ap, ◌∙◌, not-suc-le-zero, pow-suc, div-one, add-one, arith, length-set, get_or-set_other, get_or-set_same, pow_pos, le-ltb, lt-ltb, eq-eqb, ne_eqb}
 use native.Mathlib.Nat.{zero-div, pow-succ', div-div-eq-div-mul, min-zero}
 use lib.Bits.{bit_and, bit_or, bit_xor, differ, and_shr, or_shr, xor_shr, and_step, or_step, xor_step, xor_add_and, or_zero_r}
 use lib.Count.{ones, ones_step, count_trailing_zeros}
-use lib.Pow.{pow-lt}
 use borrow.Author.Tests.{eqb-false}
 use Rattle.kernel.specs.declared.records.Words.{Words}
 use Rattle.kernel.specs.Numbers.{nobody, queued}
@@ -396,20 +395,9 @@ pub first-none : (w : ℕ) → 16 ≤ count_trailing_zeros 16 w → nobody ≡ f
 unfolding first_of
 first-none w h = rw (le-ltb (count_trailing_zeros 16 w) 16 h) at (zeros-first (has_bit w) 16 w (λ i l. digit-bit w i))
 
--- a power of 2 below 2 ^ k is not cut to k digits
-pub power-fits : (k i : ℕ) → i < k → 1 * 2 ^ i % 2 ^ k ≡ 2 ^ i
-power-fits k i h = rw one-mul (mod-eq_of_lt (pow-lt h))
-
 -- what a bit counts, in range; v is what a callee gave
 pub value_in : (i v : ℕ) → v ≡ bit_value i → i < 16 → v ≡ 2 ^ i
 value_in i v e h = e ∙ rw (lt-ltb i 16 h)
-
--- n threads, all ready
-pub all-shifted : (e : ℕ) → e ≤ 16 → 1 * 2 ^ e % 4294967296 ≡ 2 ^ e
-all-shifted e h = power-fits 32 e (omega arith)
-
-pub all-fits : (e : ℕ) → e ≤ 16 → 2 ^ e ≤ 65536
-all-fits e h = pow_mono h
 
 -- ---- what a screen shows: where a word has the digits of a test, its ones and its trailing zeros are the walk's
 

@@ -1,5 +1,8 @@
 -- The meanings that the contracts cite, in the order in which they build on each other.
 pub mod Numbers
+pub mod Told
+pub mod Kinds
+pub mod Causes
 pub mod Time
 pub mod Clock
 pub mod Units

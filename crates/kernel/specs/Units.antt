@@ -1,12 +1,9 @@
 -- Seconds, milliseconds and microseconds as ticks, and ticks as these, each rounded upward.
-use Rattle.std.specs.Prelude.{ℕ, ◌+◌, ◌*◌, ◌/◌, ◌%◌, Bool, cond, ◌&&◌, ◌==◌, nat_le, nat_lt}
+use Rattle.std.specs.Prelude.{ℕ, ◌+◌, ◌*◌, ◌/◌, ◌%◌, Bool, cond, ◌&&◌, ◌==◌, nat_le, nat_lt, Option, Some, None}
 use Rattle.kernel.specs.declared.time.Interval.{Interval}
 use Rattle.kernel.specs.declared.units.Unit.{Unit}
 use Rattle.kernel.specs.declared.units.Unit.TheVariants.{Seconds, Milliseconds, Microseconds}
-use Rattle.kernel.specs.declared.units.Rate.{Rate}
-use Rattle.kernel.specs.declared.units.Rate.TheVariants.{Given, Standard}
-use Rattle.kernel.specs.declared.units.Ticks.{Ticks}
-use Rattle.kernel.specs.declared.units.Units.{Units}
+use Rattle.kernel.specs.Told.{Ticks, Units}
 use Rattle.kernel.specs.Numbers.{usual_frequency, infinite}
 
 -- how many of a unit make a second
@@ -16,9 +13,9 @@ per_second Milliseconds = 1000
 per_second Microseconds = 1000000
 
 -- "Where no frequency is given, take 10000" (document 02)
-abbrev pub frequency_of : Rate → ℕ
-frequency_of (Given f) = f
-frequency_of Standard = usual_frequency
+abbrev pub frequency_of : Option ℕ → ℕ
+frequency_of (Some f) = f
+frequency_of None = usual_frequency
 
 -- "Frequency is 1 to 1,000,000"
 abbrev pub frequency_fits : ℕ → Bool
@@ -40,12 +37,12 @@ abbrev pub held_ticks : ℕ → Ticks
 held_ticks n = cond (nat_lt n infinite) (record { code = 0; interval = record { 0 = n } }) refused_ticks
 
 -- x of a unit in ticks; refused for "a frequency outside its range"
-unfoldable pub in_ticks : Unit → ℕ → Rate → Ticks
+unfoldable pub in_ticks : Unit → ℕ → Option ℕ → Ticks
 in_ticks u x r =
     cond (frequency_fits (frequency_of r)) (held_ticks (rounded_up (x * frequency_of r) (per_second u))) refused_ticks
 
 -- ticks in a unit, "as 64-bit numbers"; "infinite is refused with 6, and so is a frequency outside its range"
-unfoldable pub of_ticks : Unit → Interval → Rate → Units
+unfoldable pub of_ticks : Unit → Interval → Option ℕ → Units
 of_ticks u d r =
     cond (frequency_fits (frequency_of r))
     (cond (d.0 == infinite) refused_units

@@ -23,7 +23,5 @@ pub fn advance(t: SystemTime) -> SystemTime
 pub fn tick(clock: &mut Clock)
     ensures { clock.new ≡ ticked_clock clock.old }
 {
-    let t = clock.time;
-    let next = advance(t);
-    clock.time = next;
+    clock.time = advance(clock.time);
 }

@@ -2,10 +2,11 @@
 ghost use Rattle.std.specs.Prelude.{◌≡◌};
 ghost use Rattle.kernel.specs.Delay.{slept_for, slept_until};
 
-use crate::kinds::{KEPT_SLEEP_FOR, KEPT_SLEEP_UNTIL};
+use crate::kinds::Kind;
 use crate::moves::sleep;
-use crate::numbers::{NOWHERE, SLEEPING};
+use crate::numbers::NOWHERE;
 use crate::records::{Call, Kernel};
+use crate::states::State;
 use crate::time::{Interval, SystemTime, difference};
 
 // Thread i sleeps for an interval: chThdSleep. A step refuses 0 and infinite before they get here.
@@ -14,12 +15,12 @@ pub fn sleep_for(k: Kernel, i: u8, d: Interval) -> Kernel
     ensures { result ≡ slept_for k i d }
 {
     let call = Call {
-        kind: KEPT_SLEEP_FOR,
+        kind: Kind::SleepFor as u16,
         object: 0,
         operand: 0,
         timeout: d.0,
     };
-    sleep(k, i, SLEEPING, NOWHERE, call)
+    sleep(k, i, State::Sleeping as u16, NOWHERE, call)
 }
 
 // Thread i sleeps from `now` until a time; its full timeout is the interval slept: chThdSleepUntil.
@@ -29,10 +30,10 @@ pub fn sleep_until(k: Kernel, i: u8, now: SystemTime, until: SystemTime) -> Kern
 {
     let d = difference(now, until);
     let call = Call {
-        kind: KEPT_SLEEP_UNTIL,
+        kind: Kind::SleepUntil as u16,
         object: 0,
         operand: until.0,
         timeout: d.0,
     };
-    sleep(k, i, SLEEPING, NOWHERE, call)
+    sleep(k, i, State::Sleeping as u16, NOWHERE, call)
 }

@@ -3,24 +3,26 @@ ghost use Rattle.std.specs.Prelude.{◌≡◌};
 ghost use Rattle.kernel.specs.Event.{flagged, is_met, took_flags, event_signalled, event_waited};
 
 use crate::moves::{block, finish, wake};
-use crate::numbers::{AWAITING, NOWHERE, OK};
+use crate::numbers::{NOWHERE, OK};
 use crate::records::{Call, Kernel, Thread};
+use crate::states::State;
 use crate::tables::{set_thread, thread_at};
 
 // The row with the flags of `mask` ORed to those pending.
 fn flag(t: Thread, mask: u32) -> Thread
     ensures { result ≡ flagged t mask }
 {
-    let mut r = t;
-    r.pending = t.pending | mask;
-    r
+    Thread {
+        pending: t.pending | mask,
+        ..t
+    }
 }
 
 // Whether the thread awaits any of the flags that are pending for it.
 fn is_met(t: Thread) -> bool
     ensures { result ≡ is_met t }
 {
-    t.state == AWAITING && t.pending & t.awaited != 0
+    t.state == State::Awaiting as u16 && t.pending & t.awaited != 0
 }
 
 // Thread i takes its pending flags in `mask`: they are cleared, and are the datum of its call.
@@ -28,10 +30,9 @@ fn is_met(t: Thread) -> bool
 pub fn take_flags(k: Kernel, i: u8, mask: u32) -> Kernel
     ensures { result ≡ took_flags k i mask }
 {
-    let threads = k.threads;
-    let mut t = thread_at(threads, i);
+    let mut t = thread_at(k.threads, i);
     let found = t.pending & mask;
-    t.pending = t.pending - found;
+    t.pending -= found;
     finish(set_thread(k, i, t), i, OK, found)
 }
 
@@ -41,8 +42,7 @@ pub fn take_flags(k: Kernel, i: u8, mask: u32) -> Kernel
 pub fn signal_events(k: Kernel, i: u8, mask: u32) -> Kernel
     ensures { result ≡ event_signalled k i mask }
 {
-    let threads = k.threads;
-    let t = flag(thread_at(threads, i), mask);
+    let t = flag(thread_at(k.threads, i), mask);
     let f = set_thread(k, i, t);
     if is_met(t) { wake(f, i, OK) } else { f }
 }
@@ -52,12 +52,11 @@ pub fn signal_events(k: Kernel, i: u8, mask: u32) -> Kernel
 pub fn wait_events(k: Kernel, i: u8, call: Call) -> Kernel
     ensures { result ≡ event_waited k i call }
 {
-    let threads = k.threads;
-    let t = thread_at(threads, i);
+    let t = thread_at(k.threads, i);
     let mask = call.operand;
     if t.pending & mask != 0 {
         take_flags(k, i, mask)
     } else {
-        block(k, i, AWAITING, NOWHERE, call)
+        block(k, i, State::Awaiting as u16, NOWHERE, call)
     }
 }

@@ -1,90 +1,69 @@
-// The kinds of step, with document 01's numbers. A step's kind is a byte.
-pub const TICK: u8 = 1;
+// The kinds of step, with document 01's numbers. A step has its kind as a byte, an unfinished call keeps it in 16 bits, and a host may
+// hand over any number there: so they are numbers in the records, and a kind where one is asked for.
+ghost use Rattle.kernel.specs.Kinds.{Decodes};
 
-pub const SEMAPHORE_WAIT: u8 = 2;
+use crate::refusals::Refusal;
 
-pub const SIGNAL: u8 = 3;
+// What a record has for a kind that has no unfinished call.
+pub const NO_CALL: u16 = 0;
 
-pub const SEMAPHORE_RESET: u8 = 4;
+#[derive(Clone, Copy)]
+pub enum Kind {
+    Tick = 1,
+    SemaphoreWait = 2,
+    Signal = 3,
+    SemaphoreReset = 4,
+    BinarySignal = 5,
+    QueueWait = 6,
+    ReleaseFirst = 7,
+    ReleaseAll = 8,
+    Suspend = 9,
+    Resume = 10,
+    SleepFor = 11,
+    SleepUntil = 12,
+    EventSignal = 13,
+    EventWait = 14,
+    Post = 15,
+    PostAhead = 16,
+    Fetch = 17,
+    MailboxReset = 18,
+    MailboxResume = 19,
+    Alloc = 20,
+    Free = 21,
+    Add = 22,
+}
 
-pub const BINARY_SIGNAL: u8 = 5;
+// The kind of a number; a number that is no kind's is refused with 2.
+impl TryFrom<u16> for Kind {
+    type Error = Refusal;
 
-pub const QUEUE_WAIT: u8 = 6;
+    ghost try_from_gives = { Decodes };
 
-pub const RELEASE_FIRST: u8 = 7;
-
-pub const RELEASE_ALL: u8 = 8;
-
-pub const SUSPEND: u8 = 9;
-
-pub const RESUME: u8 = 10;
-
-pub const SLEEP_FOR: u8 = 11;
-
-pub const SLEEP_UNTIL: u8 = 12;
-
-pub const EVENT_SIGNAL: u8 = 13;
-
-pub const EVENT_WAIT: u8 = 14;
-
-pub const POST: u8 = 15;
-
-pub const POST_AHEAD: u8 = 16;
-
-pub const FETCH: u8 = 17;
-
-pub const MAILBOX_RESET: u8 = 18;
-
-pub const MAILBOX_RESUME: u8 = 19;
-
-pub const ALLOC: u8 = 20;
-
-pub const FREE: u8 = 21;
-
-pub const ADD: u8 = 22;
-
-// An unfinished call keeps its kind in 16 bits: the kinds that may sleep, and 0 for no call.
-pub const KEPT_NONE: u16 = 0;
-
-pub const KEPT_SEMAPHORE_WAIT: u16 = 2;
-
-pub const KEPT_QUEUE_WAIT: u16 = 6;
-
-pub const KEPT_SUSPEND: u16 = 9;
-
-pub const KEPT_SLEEP_FOR: u16 = 11;
-
-pub const KEPT_SLEEP_UNTIL: u16 = 12;
-
-pub const KEPT_EVENT_WAIT: u16 = 14;
-
-pub const KEPT_POST: u16 = 15;
-
-pub const KEPT_POST_AHEAD: u16 = 16;
-
-pub const KEPT_FETCH: u16 = 17;
-
-pub const KEPT_ALLOC: u16 = 20;
-
-// The other kinds that wake somebody, in 16 bits too: what wakes is a step or a call that is continued.
-pub const TICK_CALL: u16 = 1;
-
-pub const SIGNAL_CALL: u16 = 3;
-
-pub const SEMAPHORE_RESET_CALL: u16 = 4;
-
-pub const BINARY_SIGNAL_CALL: u16 = 5;
-
-pub const RELEASE_FIRST_CALL: u16 = 7;
-
-pub const RELEASE_ALL_CALL: u16 = 8;
-
-pub const RESUME_CALL: u16 = 10;
-
-pub const EVENT_SIGNAL_CALL: u16 = 13;
-
-pub const MAILBOX_RESET_CALL: u16 = 18;
-
-pub const FREE_CALL: u16 = 21;
-
-pub const ADD_CALL: u16 = 22;
+    fn try_from(n: u16) -> Result<Kind, Refusal> {
+        match n {
+            1 => Ok(Kind::Tick),
+            2 => Ok(Kind::SemaphoreWait),
+            3 => Ok(Kind::Signal),
+            4 => Ok(Kind::SemaphoreReset),
+            5 => Ok(Kind::BinarySignal),
+            6 => Ok(Kind::QueueWait),
+            7 => Ok(Kind::ReleaseFirst),
+            8 => Ok(Kind::ReleaseAll),
+            9 => Ok(Kind::Suspend),
+            10 => Ok(Kind::Resume),
+            11 => Ok(Kind::SleepFor),
+            12 => Ok(Kind::SleepUntil),
+            13 => Ok(Kind::EventSignal),
+            14 => Ok(Kind::EventWait),
+            15 => Ok(Kind::Post),
+            16 => Ok(Kind::PostAhead),
+            17 => Ok(Kind::Fetch),
+            18 => Ok(Kind::MailboxReset),
+            19 => Ok(Kind::MailboxResume),
+            20 => Ok(Kind::Alloc),
+            21 => Ok(Kind::Free),
+            22 => Ok(Kind::Add),
+            _ => Err(Refusal::Kind),
+        }
+    }
+}

@@ -3,6 +3,7 @@
 // Tables go in and come out by value; the host owns what lies between two steps.
 #![tactic(auto)]
 
+pub mod causes;
 pub mod clock;
 pub mod counters;
 pub mod delay;
@@ -14,7 +15,9 @@ pub mod places;
 pub mod queue;
 pub mod records;
 pub mod reference;
+pub mod refusals;
 pub mod semaphore;
+pub mod states;
 pub mod tables;
 pub mod ticking;
 pub mod time;

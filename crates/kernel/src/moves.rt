@@ -5,23 +5,26 @@ ghost use Rattle.std.specs.Prelude.{◌≡◌};
 ghost use Rattle.kernel.specs.Moves.{readied, ticks_of, awaited_by, asleep, answered, woken, slept, finished, blocked};
 
 use crate::counters::{count_down, count_up};
-use crate::kinds::KEPT_EVENT_WAIT;
-use crate::numbers::{IMMEDIATE, INFINITE, NOBODY, NOWHERE, QUEUED, READY, SUSPENDED, TIMED_OUT};
+use crate::kinds::Kind;
+use crate::numbers::{IMMEDIATE, INFINITE, NOBODY, NOWHERE, THREADS, TIMED_OUT};
 use crate::records::{Answer, Call, Kernel, Thread, no_answer, no_call};
+use crate::states::State;
+use crate::tables::{at, put};
 use crate::words::{note_asleep, note_ready};
 
 // The row of a thread that is made ready with message m, by a cause, in the step of this number.
 fn ready_row(t: Thread, m: i32, cause: u32, step: u32) -> Thread
     ensures { result ≡ readied t m cause step }
 {
-    let mut r = t;
-    r.state = READY;
-    r.place = NOWHERE;
-    r.remaining = 0;
-    r.message = m;
-    r.cause = cause;
-    r.step = step;
-    r
+    Thread {
+        state: State::Ready as u16,
+        place: NOWHERE,
+        remaining: 0,
+        message: m,
+        cause,
+        step,
+        ..t
+    }
 }
 
 // The ticks that a timeout leaves to count: none for an infinite one.
@@ -35,7 +38,7 @@ fn ticks_of(timeout: u32) -> u32
 fn awaited_by(call: Call) -> u32
     ensures { result ≡ awaited_by call }
 {
-    if call.kind == KEPT_EVENT_WAIT {
+    if call.kind == Kind::EventWait as u16 {
         call.operand
     } else {
         0
@@ -46,27 +49,27 @@ fn awaited_by(call: Call) -> u32
 fn sleeping_row(t: Thread, state: u16, place: u16, call: Call) -> Thread
     ensures { result ≡ asleep t state place call }
 {
-    let answer = no_answer();
-    let mut r = t;
-    r.state = state;
-    r.place = place;
-    r.remaining = ticks_of(call.timeout);
-    r.awaited = awaited_by(call);
-    r.call = call;
-    r.answer = answer;
-    r
+    Thread {
+        state,
+        place,
+        remaining: ticks_of(call.timeout),
+        awaited: awaited_by(call),
+        call,
+        answer: no_answer(),
+        ..t
+    }
 }
 
 // The row of a thread whose call is finished.
 fn answered_row(t: Thread, answer: Answer) -> Thread
     ensures { result ≡ answered t answer }
 {
-    let call = no_call();
-    let mut r = t;
-    r.awaited = 0;
-    r.call = call;
-    r.answer = answer;
-    r
+    Thread {
+        awaited: 0,
+        call: no_call(),
+        answer,
+        ..t
+    }
 }
 
 // Thread i is made ready with message m, and leaves what it waits on: its queue, whose counter rises, or its reference, which is
@@ -76,26 +79,18 @@ pub fn wake(k: Kernel, i: u8, m: i32) -> Kernel
     ensures { result ≡ woken k i m }
 {
     let mut r = k;
-    let at = i as usize;
-    if at < 16 {
-        let t = r.threads[at];
-        let words = r.words;
-        let cause = r.cause;
-        let step = r.steps;
+    if i < THREADS {
+        let t = r.threads[i as usize];
         let place = t.place as usize;
-        if t.state == QUEUED {
-            if place < 36 {
-                let c = r.counters[place];
-                r.counters[place] = count_up(c);
-            }
-        } else if t.state == SUSPENDED {
-            if place < 8 {
-                r.references[place] = NOBODY;
-            }
+        if t.state == State::Queued as u16 {
+            let c = at(&r.counters, place, 0);
+            put(&mut r.counters, place, count_up(c));
+        } else if t.state == State::Suspended as u16 {
+            put(&mut r.references, place, NOBODY);
         }
-        r.words = note_ready(words, i, t.state, t.place);
-        r.threads[at] = ready_row(t, m, cause, step);
-        r.woken[at] = true;
+        r.words = note_ready(r.words, i, t.state, t.place);
+        r.threads[i as usize] = ready_row(t, m, r.cause, r.steps);
+        r.woken[i as usize] = true;
     }
     r
 }
@@ -107,23 +102,16 @@ pub fn sleep(k: Kernel, i: u8, state: u16, place: u16, call: Call) -> Kernel
     ensures { result ≡ slept k i state place call }
 {
     let mut r = k;
-    let at = i as usize;
-    if at < 16 {
-        let t = r.threads[at];
-        let words = r.words;
-        let p = place as usize;
-        if state == QUEUED {
-            if p < 36 {
-                let c = r.counters[p];
-                r.counters[p] = count_down(c);
-            }
-        } else if state == SUSPENDED {
-            if p < 8 {
-                r.references[p] = i;
-            }
+    if i < THREADS {
+        let t = r.threads[i as usize];
+        if state == State::Queued as u16 {
+            let c = at(&r.counters, place as usize, 0);
+            put(&mut r.counters, place as usize, count_down(c));
+        } else if state == State::Suspended as u16 {
+            put(&mut r.references, place as usize, i);
         }
-        r.words = note_asleep(words, i, state, place);
-        r.threads[at] = sleeping_row(t, state, place, call);
+        r.words = note_asleep(r.words, i, state, place);
+        r.threads[i as usize] = sleeping_row(t, state, place, call);
     }
     r
 }
@@ -133,18 +121,14 @@ pub fn sleep(k: Kernel, i: u8, state: u16, place: u16, call: Call) -> Kernel
 pub fn finish(k: Kernel, i: u8, message: i32, datum: u32) -> Kernel
     ensures { result ≡ finished k i message datum }
 {
-    let answer = Answer {
-        message: message,
-        datum: datum,
-    };
+    let answer = Answer { message, datum };
     let mut r = k;
-    let at = i as usize;
     if i == NOBODY {
         r.answer = answer;
-    } else if at < 16 {
-        let t = r.threads[at];
-        r.threads[at] = answered_row(t, answer);
-        r.finished[at] = true;
+    } else if i < THREADS {
+        let t = r.threads[i as usize];
+        r.threads[i as usize] = answered_row(t, answer);
+        r.finished[i as usize] = true;
     }
     r
 }

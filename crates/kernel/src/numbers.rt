@@ -8,17 +8,6 @@ pub const NOWHERE: u16 = 0;
 // How many rows each table has; of the threads the first T are in use.
 pub const THREADS: u8 = 16;
 
-// A thread's states.
-pub const READY: u16 = 0;
-
-pub const SLEEPING: u16 = 1;
-
-pub const SUSPENDED: u16 = 2;
-
-pub const QUEUED: u16 = 3;
-
-pub const AWAITING: u16 = 4;
-
 // Messages: MSG_OK, MSG_TIMEOUT and MSG_RESET of the manual.
 pub const OK: i32 = 0;
 
@@ -27,25 +16,6 @@ pub const TIMED_OUT: i32 = -1;
 pub const WAS_RESET: i32 = -2;
 // What a signal answers that did not count.
 pub const NOT_COUNTED: i32 = 1;
-
-// Causes of a waking: by a signal, .. or by a tick; of none yet.
-pub const CAUSE_NONE: u32 = 0;
-
-pub const CAUSE_SIGNAL: u32 = 1;
-
-pub const CAUSE_RELEASE: u32 = 2;
-
-pub const CAUSE_RESUME: u32 = 3;
-
-pub const CAUSE_EVENT: u32 = 4;
-
-pub const CAUSE_POST: u32 = 5;
-
-pub const CAUSE_FETCH: u32 = 6;
-
-pub const CAUSE_RESET: u32 = 7;
-
-pub const CAUSE_TICK: u32 = 8;
 
 // The last number of a step, which stays.
 pub const LAST_STEP: u32 = 4294967295;

@@ -3,8 +3,9 @@ ghost use Rattle.std.specs.Prelude.{◌≡◌};
 ghost use Rattle.kernel.specs.Queue.{enqueued, released_first, released_all};
 
 use crate::moves::{block, wake};
-use crate::numbers::{QUEUED, THREADS};
+use crate::numbers::THREADS;
 use crate::records::{Call, Kernel};
+use crate::states::State;
 use crate::waiters::first_waiter;
 use crate::words::{has_bit, waiting_at};
 
@@ -13,7 +14,7 @@ use crate::words::{has_bit, waiting_at};
 pub fn enqueue(k: Kernel, i: u8, place: u16, call: Call) -> Kernel
     ensures { result ≡ enqueued k i place call }
 {
-    block(k, i, QUEUED, place, call)
+    block(k, i, State::Queued as u16, place, call)
 }
 
 // The first thread that waits at the place is made ready with m; with nobody there nothing changes: chThdDequeueNextI.
@@ -29,15 +30,12 @@ pub fn release_first(k: Kernel, place: u16, m: i32) -> Kernel
 pub fn release_all(k: Kernel, place: u16, m: i32) -> Kernel
     ensures { result ≡ released_all k place m }
 {
-    let words = k.words;
-    let word = waiting_at(words, place as u32);
+    let word = waiting_at(k.words, place as u32);
     let mut r = k;
-    let mut i: u8 = 0;
-    while i < THREADS {
+    for i in 0..THREADS {
         if has_bit(word, i) {
             r = wake(r, i, m);
         }
-        i += 1;
     }
     r
 }

@@ -4,8 +4,10 @@ ghost use Rattle.std.specs.Prelude.{◌≡◌};
 ghost use Rattle.kernel.specs.Records.{no_call, no_answer, blank, fresh_records, raised, begun, ended};
 ghost use Rattle.kernel.specs.Tables.{with_cause};
 
-use crate::kinds::KEPT_NONE;
-use crate::numbers::{CAUSE_NONE, LAST_STEP, NOBODY, NOWHERE, READY};
+use crate::causes::Cause;
+use crate::kinds::NO_CALL;
+use crate::numbers::{NOBODY, NOWHERE};
+use crate::states::State;
 
 // An unfinished call: the step's kind, object, operand and full timeout; all 0 without one.
 #[repr(C)]
@@ -65,6 +67,7 @@ pub struct Records {
 
 // The kernel at work on one step: the records, who was woken, whose calls finished, the answer of an interrupt's own call, the number
 // of the step, and the cause that the call at work has if it wakes.
+// `woken` and `finished` lie beside the threads, since a row of `threads` is what a host keeps, in C's layout.
 // The words stand first, so that the compiler copies what follows them in one piece.
 #[derive(Clone, Copy)]
 pub struct Kernel {
@@ -83,7 +86,7 @@ pub fn no_call() -> Call
     ensures { result ≡ no_call }
 {
     Call {
-        kind: KEPT_NONE,
+        kind: NO_CALL,
         object: 0,
         operand: 0,
         timeout: 0,
@@ -103,18 +106,16 @@ pub fn no_answer() -> Answer
 pub fn blank_thread() -> Thread
     ensures { result ≡ blank }
 {
-    let call = no_call();
-    let answer = no_answer();
     Thread {
-        state: READY,
+        state: State::Ready as u16,
         place: NOWHERE,
         remaining: 0,
         pending: 0,
         awaited: 0,
         message: 0,
-        call: call,
-        answer: answer,
-        cause: CAUSE_NONE,
+        call: no_call(),
+        answer: no_answer(),
+        cause: Cause::None as u32,
         step: 0,
     }
 }
@@ -123,15 +124,11 @@ pub fn blank_thread() -> Thread
 pub fn fresh(words: Words) -> Records
     ensures { result ≡ fresh_records words }
 {
-    let t = blank_thread();
-    let threads = [t; 16];
-    let counters = [0; 36];
-    let references = [NOBODY; 8];
     Records {
-        threads: threads,
-        counters: counters,
-        references: references,
-        words: words,
+        threads: [blank_thread(); 16],
+        counters: [0; 36],
+        references: [NOBODY; 8],
+        words,
         steps: 0,
     }
 }
@@ -140,7 +137,7 @@ pub fn fresh(words: Words) -> Records
 fn raise(n: u32) -> u32
     ensures { result ≡ raised n }
 {
-    if n == LAST_STEP { n } else { n + 1 }
+    n.saturating_add(1)
 }
 
 // A step begins, whose wakings have this cause: it has its number, nobody is woken yet, and no call has finished.
@@ -150,21 +147,16 @@ pub fn begin(r: Records, cause: u32) -> Kernel
     let threads = r.threads;
     let counters = r.counters;
     let references = r.references;
-    let woken = [false; 16];
-    let finished = [false; 16];
-    let answer = no_answer();
-    let words = r.words;
-    let steps = raise(r.steps);
     Kernel {
-        threads: threads,
-        counters: counters,
-        references: references,
-        woken: woken,
-        finished: finished,
-        answer: answer,
-        words: words,
-        steps: steps,
-        cause: cause,
+        threads,
+        counters,
+        references,
+        woken: [false; 16],
+        finished: [false; 16],
+        answer: no_answer(),
+        words: r.words,
+        steps: raise(r.steps),
+        cause,
     }
 }
 
@@ -175,12 +167,11 @@ pub fn end(k: Kernel) -> Records
     let threads = k.threads;
     let counters = k.counters;
     let references = k.references;
-    let words = k.words;
     Records {
-        threads: threads,
-        counters: counters,
-        references: references,
-        words: words,
+        threads,
+        counters,
+        references,
+        words: k.words,
         steps: k.steps,
     }
 }

@@ -9,7 +9,7 @@ use crate::queue::{enqueue, release_all, release_first};
 use crate::records::{Call, Kernel};
 use crate::tables::{counter_at, set_counter};
 
-// The tables after a signal, and whether it counted.
+// The tables after a signal, and whether it counted. No Option: callers hand on the tables either way.
 #[derive(Clone, Copy)]
 pub struct Signalled {
     pub kernel: Kernel,
@@ -21,8 +21,7 @@ pub struct Signalled {
 pub fn take(k: Kernel, place: u16) -> Kernel
     ensures { result ≡ taken k place }
 {
-    let counters = k.counters;
-    set_counter(k, place, count_down(counter_at(counters, place)))
+    set_counter(k, place, count_down(counter_at(k.counters, place)))
 }
 
 // Thread i waits for the semaphore: chSemWaitTimeoutS.
@@ -30,8 +29,7 @@ pub fn take(k: Kernel, place: u16) -> Kernel
 pub fn wait(k: Kernel, i: u8, place: u16, call: Call) -> Kernel
     ensures { result ≡ waited k i place call }
 {
-    let counters = k.counters;
-    if 0 < counter_at(counters, place) {
+    if 0 < counter_at(k.counters, place) {
         finish(take(k, place), i, OK, 0)
     } else {
         enqueue(k, i, place, call)
@@ -44,17 +42,15 @@ pub fn wait(k: Kernel, i: u8, place: u16, call: Call) -> Kernel
 pub fn signal(k: Kernel, place: u16) -> Signalled
     ensures { result ≡ signalled k place }
 {
-    let counters = k.counters;
-    let c = counter_at(counters, place);
-    let counted = c < TOP;
-    let after = if c < 0 {
+    let c = counter_at(k.counters, place);
+    let kernel = if c < 0 {
         release_first(k, place, OK)
     } else {
         set_counter(k, place, count_up(c))
     };
     Signalled {
-        kernel: after,
-        counted: counted,
+        kernel,
+        counted: c < TOP,
     }
 }
 

@@ -12,11 +12,10 @@ use crate::tables::used_rows;
 fn count_off(t: Thread) -> Thread
     ensures { result ≡ counted_off t }
 {
-    let mut r = t;
-    if 0 < t.remaining {
-        r.remaining = t.remaining - 1;
+    Thread {
+        remaining: t.remaining.saturating_sub(1),
+        ..t
     }
-    r
 }
 
 // One tick for n threads, in index order: whose last tick it is, is made ready with -1; the others have one less.
@@ -26,16 +25,13 @@ pub fn tick(k: Kernel, n: u16) -> Kernel
 {
     let end = used_rows(n);
     let mut r = k;
-    let mut i: u8 = 0;
-    while i < end {
-        let at = i as usize;
-        let t = r.threads[at];
+    for i in 0..end {
+        let t = r.threads[i as usize];
         if t.remaining == 1 {
             r = wake(r, i, TIMED_OUT);
         } else {
-            r.threads[at] = count_off(t);
+            r.threads[i as usize] = count_off(t);
         }
-        i += 1;
     }
     r
 }

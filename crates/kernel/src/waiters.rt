@@ -3,15 +3,16 @@
 ghost use Rattle.std.specs.Prelude.{◌≡◌};
 ghost use Rattle.kernel.specs.Waiters.{is_ready, first_ready, call_free, running_free, first_waiter};
 
-use crate::kinds::KEPT_NONE;
-use crate::numbers::READY;
+use crate::kinds::NO_CALL;
 use crate::records::{Kernel, Thread};
+use crate::states::State;
+use crate::tables::thread_at;
 use crate::words::{first_in, waiting_at};
 
 pub fn is_ready(t: Thread) -> bool
     ensures { result ≡ is_ready t }
 {
-    t.state == READY
+    t.state == State::Ready as u16
 }
 
 // The running thread: the first that is ready, or NOBODY for idle.
@@ -19,31 +20,21 @@ pub fn is_ready(t: Thread) -> bool
 pub fn first_ready(k: Kernel) -> u8
     ensures { result ≡ first_ready k }
 {
-    let words = k.words;
-    first_in(words.ready)
+    first_in(k.words.ready)
 }
 
 // Whether thread i has no unfinished call; NOBODY has none.
 pub fn is_free(threads: [Thread; 16], i: u8) -> bool
     ensures { result ≡ call_free threads i }
 {
-    let at = i as usize;
-    if at < 16 {
-        let t = threads[at];
-        let call = t.call;
-        call.kind == KEPT_NONE
-    } else {
-        true
-    }
+    thread_at(threads, i).call.kind == NO_CALL
 }
 
 // Whether the running thread has no unfinished call.
 pub fn running_free(k: Kernel) -> bool
     ensures { result ≡ running_free k }
 {
-    let i = first_ready(k);
-    let threads = k.threads;
-    is_free(threads, i)
+    is_free(k.threads, first_ready(k))
 }
 
 // The first thread that is queued at a place, or NOBODY.
@@ -51,6 +42,5 @@ pub fn running_free(k: Kernel) -> bool
 pub fn first_waiter(k: Kernel, place: u16) -> u8
     ensures { result ≡ first_waiter k place }
 {
-    let words = k.words;
-    first_in(waiting_at(words, place as u32))
+    first_in(waiting_at(k.words, place as u32))
 }

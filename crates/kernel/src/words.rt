@@ -3,9 +3,10 @@
 ghost use Rattle.std.specs.Prelude.{◌≡◌};
 ghost use Rattle.kernel.specs.Words.{has_bit, ones_of, first_of, bit_value, with_bit, without_bit, all_ready, fresh_words, waiting_at, noted_ready, noted_asleep};
 
-use crate::numbers::{NOBODY, QUEUED, THREADS};
+use crate::numbers::{NOBODY, THREADS};
 use crate::records::Words;
-use crate::tables::used_rows;
+use crate::states::State;
+use crate::tables::{at, put, used_rows};
 
 // What bit i counts; a word has no bit from 16 on.
 pub fn bit_value(i: u8) -> u16
@@ -30,11 +31,7 @@ fn without_bit(w: u16, i: u8) -> u16
 pub fn has_bit(w: u16, i: u8) -> bool
     ensures { result ≡ has_bit w i }
 {
-    if i < THREADS {
-        (w >> i) % 2 == 1
-    } else {
-        false
-    }
+    i < THREADS && (w >> i) % 2 == 1
 }
 
 // How many threads a word names.
@@ -42,7 +39,7 @@ pub fn has_bit(w: u16, i: u8) -> bool
 pub fn count_in(w: u16) -> u8
     ensures { result ≡ ones_of w }
 {
-    u16::count_ones(w) as u8
+    w.count_ones() as u8
 }
 
 // The first thread that a word names, or NOBODY.
@@ -50,7 +47,7 @@ pub fn count_in(w: u16) -> u8
 pub fn first_in(w: u16) -> u8
     ensures { result ≡ first_of w }
 {
-    let zeros = u16::trailing_zeros(w);
+    let zeros = w.trailing_zeros();
     if zeros < 16 { zeros as u8 } else { NOBODY }
 }
 
@@ -58,20 +55,16 @@ pub fn first_in(w: u16) -> u8
 fn all_ready(n: u16) -> u16
     ensures { result ≡ all_ready n }
 {
-    let end = used_rows(n);
-    let past = 1u32 << end;
-    (past - 1) as u16
+    ((1u32 << used_rows(n)) - 1) as u16
 }
 
 // All of n threads ready, nobody waiting.
 pub fn fresh_words(n: u16) -> Words
     ensures { result ≡ fresh_words n }
 {
-    let ready = all_ready(n);
-    let waiting = [0; 36];
     Words {
-        ready: ready,
-        waiting: waiting,
+        ready: all_ready(n),
+        waiting: [0; 36],
         unused: 0,
     }
 }
@@ -80,22 +73,18 @@ pub fn fresh_words(n: u16) -> Words
 pub fn waiting_at(w: Words, place: u32) -> u16
     ensures { result ≡ waiting_at w place }
 {
-    let at = place as usize;
-    if at < 36 { w.waiting[at] } else { 0 }
+    at(&w.waiting, place as usize, 0)
 }
 
-// Thread i was in a state at a place, and is ready.
+// Thread i was in a state at a place, and is ready. No function with `note_asleep`: a flag in place of the two calls would hide which is which.
 pub fn note_ready(w: Words, i: u8, state: u16, place: u16) -> Words
     ensures { result ≡ noted_ready w i state place }
 {
-    let at = place as usize;
     let mut r = w;
     r.ready = with_bit(w.ready, i);
-    if state == QUEUED {
-        if at < 36 {
-            let word = r.waiting[at];
-            r.waiting[at] = without_bit(word, i);
-        }
+    if state == State::Queued as u16 {
+        let word = waiting_at(w, place as u32);
+        put(&mut r.waiting, place as usize, without_bit(word, i));
     }
     r
 }
@@ -104,14 +93,11 @@ pub fn note_ready(w: Words, i: u8, state: u16, place: u16) -> Words
 pub fn note_asleep(w: Words, i: u8, state: u16, place: u16) -> Words
     ensures { result ≡ noted_asleep w i state place }
 {
-    let at = place as usize;
     let mut r = w;
     r.ready = without_bit(w.ready, i);
-    if state == QUEUED {
-        if at < 36 {
-            let word = r.waiting[at];
-            r.waiting[at] = with_bit(word, i);
-        }
+    if state == State::Queued as u16 {
+        let word = waiting_at(w, place as u32);
+        put(&mut r.waiting, place as usize, with_bit(word, i));
     }
     r
 }

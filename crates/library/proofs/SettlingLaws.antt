@@ -9,11 +9,6 @@ use Rattle.kernel.proofs.Cases.{split}
 use Rattle.library.specs.declared.tables.Plant.{Plant}
 use Rattle.library.specs.Settling.{continued, running_in, is_settled, settled}
 
--- no budget: nothing is continued
-pub settled-none : (n : ℕ) (p : Plant) → n ≡ 0 → p ≡ settled n p
-unfolding settled
-settled-none n p e = rw e
-
 -- what is settled stays as it is, whatever the budget
 settled-stays : (n : ℕ) (p : Plant) → is_settled p ≡ true → settled n p ≡ p
 unfolding settled

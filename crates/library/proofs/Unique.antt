@@ -1,6 +1,10 @@
 -- Two answers that satisfy one public statement coincide: each contract of the crate fixes its function's whole result.
 -- `Fixes P` is about the very statement P that the contract is read as, so no line here can say less than the contract.
+use Rattle.std.specs.Prelude.{◌≡◌, Bool, ◌&&◌, ◌||◌, ℤ}
+use Rattle.kernel.proofs.CausesLaws.{cause-one}
 use Rattle.kernel.proofs.Unique.{coincide, Fixes}
+use Rattle.library.specs.Signs.{same}
+use Rattle.library.proofs.ToldLaws.{told_made_one}
 use Rattle.library.proofs.acting.is_kernel_wait.Reads as acting-is-kernel-wait
 use Rattle.library.proofs.acting.is_kernel_wait.Kinds as acting-is-kernel-wait-kinds
 use Rattle.library.proofs.acting.act_on_kernel.Reads as acting-act-on-kernel
@@ -21,12 +25,10 @@ use Rattle.library.proofs.fresh.tables_of.Reads as fresh-tables-of
 use Rattle.library.proofs.fresh.tables_of.Kinds as fresh-tables-of-kinds
 use Rattle.library.proofs.fresh.clock_of.Reads as fresh-clock-of
 use Rattle.library.proofs.fresh.clock_of.Kinds as fresh-clock-of-kinds
+use Rattle.library.proofs.fresh.none_made.Reads as fresh-none-made
+use Rattle.library.proofs.fresh.none_made.Kinds as fresh-none-made-kinds
 use Rattle.library.proofs.fresh.make.Reads as fresh-make
 use Rattle.library.proofs.fresh.make.Kinds as fresh-make-kinds
-use Rattle.library.proofs.logic.both.Reads as logic-both
-use Rattle.library.proofs.logic.both.Kinds as logic-both-kinds
-use Rattle.library.proofs.logic.either.Reads as logic-either
-use Rattle.library.proofs.logic.either.Kinds as logic-either-kinds
 use Rattle.library.proofs.mailbox.message_at.Reads as mailbox-message-at
 use Rattle.library.proofs.mailbox.message_at.Kinds as mailbox-message-at-kinds
 use Rattle.library.proofs.mailbox.set_message.Reads as mailbox-set-message
@@ -69,8 +71,6 @@ use Rattle.library.proofs.settling.settle.Reads as settling-settle
 use Rattle.library.proofs.settling.settle.Kinds as settling-settle-kinds
 use Rattle.library.proofs.settling.continue_call.Reads as settling-continue-call
 use Rattle.library.proofs.settling.continue_call.Kinds as settling-continue-call-kinds
-use Rattle.library.proofs.signs.is_same.Reads as signs-is-same
-use Rattle.library.proofs.signs.is_same.Kinds as signs-is-same-kinds
 use Rattle.library.proofs.signs.negative.Reads as signs-negative
 use Rattle.library.proofs.signs.negative.Kinds as signs-negative-kinds
 use Rattle.library.proofs.signs.less.Reads as signs-less
@@ -115,7 +115,7 @@ pub binary-binary-signal-one : Fixes 0 binary-binary-signal-kinds.ps binary-bina
 binary-binary-signal-one κs a e x y = coincide
 
 pub causes-cause-of-one : Fixes 0 causes-cause-of-kinds.ps causes-cause-of-kinds.r causes-cause-of.Post
-causes-cause-of-one κs a e x y = coincide
+causes-cause-of-one κs a e x y p q = cause-one (coincide p q)
 
 pub calls-as-signed-one : Fixes 0 calls-as-signed-kinds.ps calls-as-signed-kinds.r calls-as-signed.Post
 calls-as-signed-one κs a e x y = coincide
@@ -132,14 +132,11 @@ fresh-tables-of-one κs a e x y = coincide
 pub fresh-clock-of-one : Fixes 0 fresh-clock-of-kinds.ps fresh-clock-of-kinds.r fresh-clock-of.Post
 fresh-clock-of-one κs a e x y = coincide
 
+pub fresh-none-made-one : Fixes 0 fresh-none-made-kinds.ps fresh-none-made-kinds.r fresh-none-made.Post
+fresh-none-made-one κs a e x y = coincide
+
 pub fresh-make-one : Fixes 0 fresh-make-kinds.ps fresh-make-kinds.r fresh-make.Post
-fresh-make-one κs a e x y = coincide
-
-pub logic-both-one : Fixes 0 logic-both-kinds.ps logic-both-kinds.r logic-both.Post
-logic-both-one κs a e x y = coincide
-
-pub logic-either-one : Fixes 0 logic-either-kinds.ps logic-either-kinds.r logic-either.Post
-logic-either-one κs a e x y = coincide
+fresh-make-one κs a e x y = told_made_one x y
 
 pub mailbox-message-at-one : Fixes 0 mailbox-message-at-kinds.ps mailbox-message-at-kinds.r mailbox-message-at.Post
 mailbox-message-at-one κs a e x y = coincide
@@ -204,9 +201,6 @@ settling-settle-one κs a e x y = coincide
 pub settling-continue-call-one : Fixes 0 settling-continue-call-kinds.ps settling-continue-call-kinds.r settling-continue-call.Post
 settling-continue-call-one κs a e x y = coincide
 
-pub signs-is-same-one : Fixes 0 signs-is-same-kinds.ps signs-is-same-kinds.r signs-is-same.Post
-signs-is-same-one κs a e x y = coincide
-
 pub signs-negative-one : Fixes 0 signs-negative-kinds.ps signs-negative-kinds.r signs-negative.Post
 signs-negative-one κs a e x y = coincide
 
@@ -251,3 +245,13 @@ tables-pool-at-one κs a e x y = coincide
 
 pub tables-set-pool-one : Fixes 0 tables-set-pool-kinds.ps tables-set-pool-kinds.r tables-set-pool.Post
 tables-set-pool-one κs a e x y = coincide
+
+-- Three that were functions and are operators now.
+pub logic-both-one : (a b : Bool) {x y : Bool} → x ≡ (a && b) → y ≡ (a && b) → x ≡ y
+logic-both-one a b = coincide
+
+pub logic-either-one : (a b : Bool) {x y : Bool} → x ≡ (a || b) → y ≡ (a || b) → x ≡ y
+logic-either-one a b = coincide
+
+pub signs-is-same-one : (a b : ℤ) {x y : Bool} → x ≡ same a b → y ≡ same a b → x ≡ y
+signs-is-same-one a b = coincide

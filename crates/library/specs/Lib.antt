@@ -4,6 +4,7 @@ pub mod Ring
 pub mod Signs
 pub mod Tables
 pub mod Causes
+pub mod Told
 pub mod Fresh
 pub mod Calls
 pub mod Binary

@@ -1,5 +1,5 @@
 -- A mailbox's or a pipe's positions: whether they fit its slots; and after each call, beside the slot that the call is about.
-use Rattle.std.specs.Prelude.{ℕ, ◌+◌, ◌-◌, ◌%◌, Bool, cond, ◌&&◌, eqb, ltb, leb}
+use Rattle.std.specs.Prelude.{ℕ, ◌+◌, ◌-◌, ◌%◌, Bool, cond, ◌&&◌, eqb, ltb, leb, Option, Some, None}
 use Rattle.library.specs.declared.ring.Positions.{Positions}
 use Rattle.library.specs.declared.ring.Placed.{Placed}
 
@@ -59,3 +59,12 @@ fetched q slots =
 -- "Reset empties, returns both places to 0"
 unfoldable pub emptied : Positions → Placed
 emptied q = record { slot = no_slot; positions = record { read = 0; write = 0; count = 0 } }
+
+-- what a call gives: a slot with the positions after it, if there is room or a message
+abbrev pub given_if : Bool → Placed → Option Placed
+given_if b x = cond b (Some x) None
+
+-- how that is told as one record: without a slot the positions stay
+abbrev pub told_placed : Positions → Option Placed → Placed
+told_placed q (Some x) = x
+told_placed q None = record { slot = no_slot; positions = q }

@@ -4,17 +4,12 @@ ghost use Rattle.library.specs.Acting.{signal_message, signal_acted, call_made, 
 
 use crate::binary::binary_signal;
 use crate::calls::{Step, as_signed, call_of};
-use crate::logic::either;
 use crate::mailbox::{reset_mailbox, resume_mailbox, try_fetch, try_post};
 use crate::pool::{put_back, try_alloc};
 use crate::tables::{Plant, set_kernel};
 use kernel::delay::{sleep_for, sleep_until};
 use kernel::event::{signal_events, wait_events};
-use kernel::kinds::{
-    ALLOC, BINARY_SIGNAL, EVENT_WAIT, FETCH, MAILBOX_RESET, MAILBOX_RESUME, POST, POST_AHEAD,
-    QUEUE_WAIT, RELEASE_ALL, RELEASE_FIRST, RESUME, SEMAPHORE_RESET, SEMAPHORE_WAIT, SIGNAL,
-    SLEEP_FOR, SLEEP_UNTIL, SUSPEND, TICK,
-};
+use kernel::kinds::Kind;
 use kernel::moves::finish;
 use kernel::numbers::{NOT_COUNTED, OK};
 use kernel::places::{queue_place, semaphore_place};
@@ -46,16 +41,15 @@ fn act_signal(k: Kernel, i: u8, place: u16) -> Kernel
 fn make_call(k: Kernel, now: SystemTime, s: Step) -> Kernel
     ensures { result ≡ call_made k now s }
 {
-    let kind = s.kind;
     let object = s.object as u16;
     let call = call_of(s);
-    match kind {
-        SEMAPHORE_WAIT => wait(k, s.caller, semaphore_place(object), call),
-        SIGNAL => act_signal(k, s.caller, semaphore_place(object)),
-        QUEUE_WAIT => enqueue(k, s.caller, queue_place(object), call),
-        SUSPEND => suspend(k, s.caller, object, call),
-        SLEEP_FOR => sleep_for(k, s.caller, Interval(s.timeout)),
-        SLEEP_UNTIL => sleep_until(k, s.caller, now, SystemTime(s.a)),
+    match Kind::try_from(s.kind as u16) {
+        Ok(Kind::SemaphoreWait) => wait(k, s.caller, semaphore_place(object), call),
+        Ok(Kind::Signal) => act_signal(k, s.caller, semaphore_place(object)),
+        Ok(Kind::QueueWait) => enqueue(k, s.caller, queue_place(object), call),
+        Ok(Kind::Suspend) => suspend(k, s.caller, object, call),
+        Ok(Kind::SleepFor) => sleep_for(k, s.caller, Interval(s.timeout)),
+        Ok(Kind::SleepUntil) => sleep_until(k, s.caller, now, SystemTime(s.a)),
         _ => wait_events(k, s.caller, call),
     }
 }
@@ -65,15 +59,14 @@ fn make_call(k: Kernel, now: SystemTime, s: Step) -> Kernel
 fn effect(k: Kernel, n: u16, s: Step) -> Kernel
     ensures { result ≡ effected k n s }
 {
-    let kind = s.kind;
     let object = s.object as u16;
-    match kind {
-        TICK => tick(k, n),
-        SEMAPHORE_RESET => reset(k, semaphore_place(object), as_signed(s.a)),
-        BINARY_SIGNAL => binary_signal(k, semaphore_place(object)),
-        RELEASE_FIRST => release_first(k, queue_place(object), as_signed(s.a)),
-        RELEASE_ALL => release_all(k, queue_place(object), as_signed(s.a)),
-        RESUME => resume(k, object, as_signed(s.a)),
+    match Kind::try_from(s.kind as u16) {
+        Ok(Kind::Tick) => tick(k, n),
+        Ok(Kind::SemaphoreReset) => reset(k, semaphore_place(object), as_signed(s.a)),
+        Ok(Kind::BinarySignal) => binary_signal(k, semaphore_place(object)),
+        Ok(Kind::ReleaseFirst) => release_first(k, queue_place(object), as_signed(s.a)),
+        Ok(Kind::ReleaseAll) => release_all(k, queue_place(object), as_signed(s.a)),
+        Ok(Kind::Resume) => resume(k, object, as_signed(s.a)),
         _ => signal_events(k, s.object, s.a),
     }
 }
@@ -82,13 +75,16 @@ fn effect(k: Kernel, n: u16, s: Step) -> Kernel
 pub fn is_kernel_wait(kind: u8) -> bool
     ensures { result ≡ kernel_waits kind }
 {
-    let late = either(
-        kind == SLEEP_FOR,
-        either(kind == SLEEP_UNTIL, kind == EVENT_WAIT),
-    );
-    either(
-        kind == SEMAPHORE_WAIT,
-        either(kind == QUEUE_WAIT, either(kind == SUSPEND, late)),
+    matches!(
+        Kind::try_from(kind as u16),
+        Ok(
+            Kind::SemaphoreWait
+                | Kind::QueueWait
+                | Kind::Suspend
+                | Kind::SleepFor
+                | Kind::SleepUntil
+                | Kind::EventWait
+        )
     )
 }
 
@@ -96,7 +92,7 @@ pub fn is_kernel_wait(kind: u8) -> bool
 fn answers_itself(kind: u8) -> bool
     ensures { result ≡ answers_itself kind }
 {
-    either(kind == SIGNAL, is_kernel_wait(kind))
+    kind == Kind::Signal as u8 || is_kernel_wait(kind)
 }
 
 // An accepted step of kinds 1 to 14 acts. `now` is the time before the step.
@@ -116,11 +112,10 @@ pub fn act_on_kernel(k: Kernel, n: u16, now: SystemTime, s: Step) -> Kernel
 fn effect_on_box(p: Plant, s: Step) -> Plant
     ensures { result ≡ box_effected p s }
 {
-    let kind = s.kind;
     let object = s.object as u16;
-    match kind {
-        MAILBOX_RESET => reset_mailbox(p, object),
-        MAILBOX_RESUME => resume_mailbox(p, object),
+    match Kind::try_from(s.kind as u16) {
+        Ok(Kind::MailboxReset) => reset_mailbox(p, object),
+        Ok(Kind::MailboxResume) => resume_mailbox(p, object),
         _ => put_back(p, object, (s.a % 256) as u8),
     }
 }
@@ -130,13 +125,11 @@ fn effect_on_box(p: Plant, s: Step) -> Plant
 pub fn act_on_box(p: Plant, s: Step) -> Plant
     ensures { result ≡ acted_on_box p s }
 {
-    let kind = s.kind;
     let call = call_of(s);
-    match kind {
-        POST => try_post(p, s.caller, call),
-        POST_AHEAD => try_post(p, s.caller, call),
-        FETCH => try_fetch(p, s.caller, call),
-        ALLOC => try_alloc(p, s.caller, call),
+    match Kind::try_from(s.kind as u16) {
+        Ok(Kind::Post | Kind::PostAhead) => try_post(p, s.caller, call),
+        Ok(Kind::Fetch) => try_fetch(p, s.caller, call),
+        Ok(Kind::Alloc) => try_alloc(p, s.caller, call),
         _ => {
             let done = effect_on_box(p, s);
             set_kernel(done, finish(done.kernel, s.caller, OK, 0))

@@ -13,8 +13,7 @@ pub fn binary_signal(k: Kernel, place: u16) -> Kernel
 {
     let counters = k.counters;
     if counter_at(counters, place) < 1 {
-        let done = signal(k, place);
-        done.kernel
+        signal(k, place).kernel
     } else {
         k
     }

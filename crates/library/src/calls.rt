@@ -4,11 +4,11 @@ ghost use Rattle.std.specs.Int.{w32};
 ghost use Rattle.std.proofs.Common.{to_z};
 ghost use Rattle.library.specs.Calls.{keeps_operand, object_of, operand_of, call_of};
 
-use crate::logic::either;
-use kernel::kinds::{KEPT_EVENT_WAIT, KEPT_POST, KEPT_POST_AHEAD, KEPT_SLEEP_UNTIL};
+use kernel::kinds::Kind;
 use kernel::records::Call;
 
 // One call of a thread or an interrupt, or one tick. The caller is a thread's number, or NOBODY for an interrupt.
+// (Numbers, as a host's request and a trace have them: `StepOf` and the rest of the paper's statements read these fields.)
 #[derive(Clone, Copy)]
 pub struct Step {
     pub kind: u8,
@@ -22,21 +22,16 @@ pub struct Step {
 pub fn as_signed(a: u32) -> i32
     ensures { result ≡ to_z w32 a }
 {
-    if a < 2147483648 {
-        a as i32
-    } else {
-        (a - 2147483648) as i32 + (-2147483648)
-    }
+    a.cast_signed()
 }
 
 // Whether a call of this kind keeps its operand: a sleep's time, an event wait's mask, a post's message.
 pub fn keeps_operand(kind: u16) -> bool
     ensures { result ≡ keeps_operand kind }
 {
-    let post = either(kind == KEPT_POST, kind == KEPT_POST_AHEAD);
-    either(
-        kind == KEPT_SLEEP_UNTIL,
-        either(kind == KEPT_EVENT_WAIT, post),
+    matches!(
+        Kind::try_from(kind),
+        Ok(Kind::SleepUntil | Kind::EventWait | Kind::Post | Kind::PostAhead)
     )
 }
 
@@ -44,7 +39,7 @@ pub fn keeps_operand(kind: u16) -> bool
 fn object_of(s: Step) -> u16
     ensures { result ≡ object_of s }
 {
-    if s.kind as u16 == KEPT_EVENT_WAIT {
+    if s.kind as u16 == Kind::EventWait as u16 {
         0
     } else {
         s.object as u16
@@ -62,12 +57,10 @@ fn operand_of(s: Step) -> u32
 pub fn call_of(s: Step) -> Call
     ensures { result ≡ call_of s }
 {
-    let object = object_of(s);
-    let operand = operand_of(s);
     Call {
         kind: s.kind as u16,
-        object: object,
-        operand: operand,
+        object: object_of(s),
+        operand: operand_of(s),
         timeout: s.timeout,
     }
 }

@@ -7,7 +7,6 @@ pub mod binary;
 pub mod calls;
 pub mod causes;
 pub mod fresh;
-pub mod logic;
 pub mod mailbox;
 pub mod numbers;
 pub mod pool;

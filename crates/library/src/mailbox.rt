@@ -1,11 +1,11 @@
 // The mailbox rule: reset state first, then room or a message, then a timeout of 0 or sleep.
 // A thread's own call and its continuation after a waking run the same function, so a retry sleeps with its full timeout.
+// (Who calls and the call stand apart, as `enqueue` and the meanings take them: one struct of both would be one name more.)
 ghost use Rattle.std.specs.Prelude.{◌≡◌};
+ghost use Rattle.library.specs.Ring.{told_placed};
 ghost use Rattle.library.specs.Mailbox.{
   message_at,
   with_message,
-  with_positions,
-  with_reset,
   placed_for,
   both_released,
   post_done,
@@ -17,60 +17,41 @@ ghost use Rattle.library.specs.Mailbox.{
 };
 
 use crate::numbers::NO_SLOT;
-use crate::ring::{Placed, Positions};
+use crate::ring::Placed;
 use crate::sizes::slots_at;
 use crate::tables::{Mailbox, Plant, mailbox_at, set_kernel, set_mailbox};
-use kernel::kinds::KEPT_POST_AHEAD;
+use kernel::kinds::Kind;
 use kernel::moves::finish;
 use kernel::numbers::{OK, WAS_RESET};
 use kernel::places::{readers_place, writers_place};
 use kernel::queue::{enqueue, release_all, release_first};
 use kernel::records::{Call, Kernel};
+use kernel::tables::put;
 
 // The message in a slot; 0 past the slots.
 pub fn message_at(b: Mailbox, slot: u16) -> u32
     ensures { result ≡ message_at b slot }
 {
-    let at = slot as usize;
-    if at < 16 { b.messages[at] } else { 0 }
+    b.messages.get(slot as usize).copied().unwrap_or(0)
 }
 
 pub fn set_message(b: Mailbox, slot: u16, x: u32) -> Mailbox
     ensures { result ≡ with_message b slot x }
 {
-    let at = slot as usize;
     let mut r = b;
-    if at < 16 {
-        r.messages[at] = x;
-    }
-    r
-}
-
-fn set_positions(b: Mailbox, q: Positions) -> Mailbox
-    ensures { result ≡ with_positions b q }
-{
-    let mut r = b;
-    r.positions = q;
-    r
-}
-
-fn set_reset(b: Mailbox, state: u16) -> Mailbox
-    ensures { result ≡ with_reset b state }
-{
-    let mut r = b;
-    r.reset = state;
+    put(&mut r.messages, slot as usize, x);
     r
 }
 
 // Where a message goes: at the write place, or ahead of the read place.
-fn place_for(b: Mailbox, kind: u16, slots: u16) -> Placed
-    ensures { result ≡ placed_for b kind slots }
+#[tactic(auto, unfolding(crate::specs::Ring::posted, crate::specs::Ring::posted_ahead))]
+fn place_for(b: Mailbox, kind: u16, slots: u16) -> Option<Placed>
+    ensures { told_placed b.positions result ≡ placed_for b kind slots }
 {
-    let q = b.positions;
-    if kind == KEPT_POST_AHEAD {
-        q.post_ahead(slots)
+    if kind == Kind::PostAhead as u16 {
+        b.positions.post_ahead(slots)
     } else {
-        q.post(slots)
+        b.positions.post(slots)
     }
 }
 
@@ -81,11 +62,11 @@ fn end_post(p: Plant, i: u8, call: Call, placed: Placed) -> Plant
 {
     let mailboxes = p.mailboxes;
     let b = mailbox_at(mailboxes, call.object);
-    let next = set_message(
-        set_positions(b, placed.positions),
-        placed.slot,
-        call.operand,
-    );
+    let moved = Mailbox {
+        positions: placed.positions,
+        ..b
+    };
+    let next = set_message(moved, placed.slot, call.operand);
     let released = release_first(p.kernel, readers_place(call.object), OK);
     set_mailbox(set_kernel(p, finish(released, i, OK, 0)), call.object, next)
 }
@@ -100,11 +81,11 @@ pub fn try_post(p: Plant, i: u8, call: Call) -> Plant
     if b.reset != 0 {
         return set_kernel(p, finish(p.kernel, i, WAS_RESET, 0));
     }
-    let placed = place_for(b, call.kind, slots_at(p.sizes, call.object));
-    if placed.slot == NO_SLOT {
-        return set_kernel(p, enqueue(p.kernel, i, writers_place(call.object), call));
+    // (The number stays beside `None`: `post_tried` and `fetch_tried` take a damaged ring's place 255 for no slot.)
+    match place_for(b, call.kind, slots_at(p.sizes, call.object)) {
+        Some(placed) if placed.slot != NO_SLOT => end_post(p, i, call, placed),
+        _ => set_kernel(p, enqueue(p.kernel, i, writers_place(call.object), call)),
     }
-    end_post(p, i, call, placed)
 }
 
 // The fetch of a call has a slot: the message comes out, and the first writer is released.
@@ -114,14 +95,18 @@ fn end_fetch(p: Plant, i: u8, call: Call, placed: Placed) -> Plant
 {
     let mailboxes = p.mailboxes;
     let b = mailbox_at(mailboxes, call.object);
-    let next = set_positions(b, placed.positions);
+    let next = Mailbox {
+        positions: placed.positions,
+        ..b
+    };
     let released = release_first(p.kernel, writers_place(call.object), OK);
     let done = finish(released, i, OK, message_at(b, placed.slot));
     set_mailbox(set_kernel(p, done), call.object, next)
 }
 
 // Thread i, or an interrupt, fetches a message, which is the datum of its call: chMBFetchTimeoutS.
-#[tactic(auto, unfolding(crate::specs::Mailbox::fetch_tried))]
+// (One function for this and `try_post` would take the slot, the queue and the end as three arguments, two of them closures: no plainer.)
+#[tactic(auto, unfolding(crate::specs::Mailbox::fetch_tried, crate::specs::Ring::fetched))]
 pub fn try_fetch(p: Plant, i: u8, call: Call) -> Plant
     ensures { result ≡ fetch_tried p i call }
 {
@@ -130,12 +115,10 @@ pub fn try_fetch(p: Plant, i: u8, call: Call) -> Plant
     if b.reset != 0 {
         return set_kernel(p, finish(p.kernel, i, WAS_RESET, 0));
     }
-    let q = b.positions;
-    let placed = q.fetch(slots_at(p.sizes, call.object));
-    if placed.slot == NO_SLOT {
-        return set_kernel(p, enqueue(p.kernel, i, readers_place(call.object), call));
+    match b.positions.fetch(slots_at(p.sizes, call.object)) {
+        Some(placed) if placed.slot != NO_SLOT => end_fetch(p, i, call, placed),
+        _ => set_kernel(p, enqueue(p.kernel, i, readers_place(call.object), call)),
     }
-    end_fetch(p, i, call, placed)
 }
 
 // Both queues of a mailbox are released with -2, writers first.
@@ -154,9 +137,11 @@ pub fn reset_mailbox(p: Plant, number: u16) -> Plant
 {
     let mailboxes = p.mailboxes;
     let b = mailbox_at(mailboxes, number);
-    let q = b.positions;
-    let empty = q.reset();
-    let next = set_reset(set_positions(b, empty.positions), 1);
+    let next = Mailbox {
+        positions: b.positions.reset(),
+        reset: 1,
+        ..b
+    };
     let released = release_both(p.kernel, number);
     set_mailbox(set_kernel(p, released), number, next)
 }
@@ -167,5 +152,6 @@ pub fn resume_mailbox(p: Plant, number: u16) -> Plant
     ensures { result ≡ mailbox_resumed p number }
 {
     let mailboxes = p.mailboxes;
-    set_mailbox(p, number, set_reset(mailbox_at(mailboxes, number), 0))
+    let b = mailbox_at(mailboxes, number);
+    set_mailbox(p, number, Mailbox { reset: 0, ..b })
 }

@@ -3,7 +3,7 @@
 ghost use Rattle.std.specs.Prelude.{◌≡◌};
 ghost use Rattle.library.specs.Pool.{listed_at, mark_at, with_listed, with_mark, with_length, top_of, popped, pushed, handed_over, alloc_tried, put_back};
 
-use crate::numbers::{FREE_MARK, OUT};
+use crate::numbers::{ABSENT, FREE_MARK, OUT};
 use crate::tables::{Plant, Pool, pool_at, set_kernel, set_pool};
 use kernel::moves::finish;
 use kernel::numbers::OK;
@@ -11,24 +11,20 @@ use kernel::places::pool_place;
 use kernel::queue::enqueue;
 use kernel::records::Call;
 use kernel::semaphore::{signal, take};
-use kernel::tables::counter_at;
+use kernel::tables::{counter_at, put};
 
 // The object at a place of the free list; 0 past the list.
 pub fn listed_at(x: Pool, i: u16) -> u8
     ensures { result ≡ listed_at x i }
 {
-    let at = i as usize;
-    if at < 32 { x.list[at] } else { 0 }
+    x.list.get(i as usize).copied().unwrap_or(0)
 }
 
 pub fn set_listed(x: Pool, i: u16, o: u8) -> Pool
     ensures { result ≡ with_listed x i o }
 {
-    let at = i as usize;
     let mut r = x;
-    if at < 32 {
-        r.list[at] = o;
-    }
+    put(&mut r.list, i as usize, o);
     r
 }
 
@@ -36,29 +32,24 @@ pub fn set_listed(x: Pool, i: u16, o: u8) -> Pool
 pub fn mark_at(x: Pool, o: u8) -> u8
     ensures { result ≡ mark_at x o }
 {
-    let at = o as usize;
-    if at < 32 { x.marks[at] } else { 0 }
+    x.marks.get(o as usize).copied().unwrap_or(ABSENT)
 }
 
 fn set_mark(x: Pool, o: u8, mark: u8) -> Pool
     ensures { result ≡ with_mark x o mark }
 {
-    let at = o as usize;
     let mut r = x;
-    if at < 32 {
-        r.marks[at] = mark;
-    }
+    put(&mut r.marks, o as usize, mark);
     r
 }
 
 pub fn set_length(x: Pool, length: u16) -> Pool
     ensures { result ≡ with_length x length }
 {
-    let mut r = x;
-    r.length = length;
-    r
+    Pool { length, ..x }
 }
 
+// 0 stays the answer for an empty list: `handed_over` says that a damaged pool gives out 0.
 // The top of the free list: its last used place; 0 for an empty one.
 fn top_of(x: Pool) -> u8
     ensures { result ≡ top_of x }

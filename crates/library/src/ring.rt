@@ -1,6 +1,6 @@
-// A mailbox's or a pipe's positions: one small record, given back anew by each call on it, beside the slot that the call is about.
-// The slot is NO_SLOT where there is no room, or no message.
-ghost use Rattle.std.specs.Prelude.{◌≡◌};
+// A mailbox's or a pipe's positions: one small record, given back anew by each call on it, beside the slot that the call is about;
+// or nothing, where there is no room, or no message. (The slots stand beside it: C lays them out in `Sizes`.)
+ghost use Rattle.std.specs.Prelude.{◌≡◌, ltb};
 ghost use Rattle.library.specs.Ring.{
   in_ring,
   follows,
@@ -11,12 +11,11 @@ ghost use Rattle.library.specs.Ring.{
   posted_ahead,
   fetched,
   emptied,
+  given_if,
 };
 
-use crate::numbers::NO_SLOT;
-
 #[repr(C)]
-#[derive(Clone, Copy)]
+#[derive(Clone, Copy, Default)]
 pub struct Positions {
     pub read: u16,
     pub write: u16,
@@ -55,12 +54,7 @@ pub fn positions_fit(q: Positions, slots: u16) -> bool
 fn place_after(p: u16, slots: u16) -> u16
     ensures { result ≡ place_after p slots }
 {
-    if p < slots {
-        let q = p + 1;
-        if q < slots { q } else { 0 }
-    } else {
-        0
-    }
+    if p < slots && p + 1 < slots { p + 1 } else { 0 }
 }
 
 // The place before p in a ring of `slots`.
@@ -69,99 +63,75 @@ fn place_before(p: u16, slots: u16) -> u16
 {
     if 0 < p {
         p - 1
-    } else if 0 < slots {
-        slots - 1
     } else {
-        0
+        slots.saturating_sub(1)
     }
 }
 
 impl Positions {
     // A message goes in at the write place.
     #[tactic(auto, unfolding(crate::specs::Ring::posted))]
-    pub fn post(self, slots: u16) -> Placed
-        ensures { result ≡ posted self slots }
+    pub fn post(self, slots: u16) -> Option<Placed>
+        ensures { result ≡ given_if (ltb self.count slots) (posted self slots) }
     {
         if self.count < slots {
-            let write = place_after(self.write, slots);
-            let next = Positions {
-                read: self.read,
-                write: write,
-                count: self.count + 1,
-            };
-            Placed {
+            Some(Placed {
                 slot: self.write,
-                positions: next,
-            }
+                positions: Positions {
+                    write: place_after(self.write, slots),
+                    count: self.count + 1,
+                    ..self
+                },
+            })
         } else {
-            Placed {
-                slot: NO_SLOT,
-                positions: self,
-            }
+            None
         }
     }
 
     // A message goes in before the read place.
     #[tactic(auto, unfolding(crate::specs::Ring::posted_ahead))]
-    pub fn post_ahead(self, slots: u16) -> Placed
-        ensures { result ≡ posted_ahead self slots }
+    pub fn post_ahead(self, slots: u16) -> Option<Placed>
+        ensures { result ≡ given_if (ltb self.count slots) (posted_ahead self slots) }
     {
         if self.count < slots {
             let read = place_before(self.read, slots);
-            let next = Positions {
-                read: read,
-                write: self.write,
-                count: self.count + 1,
-            };
-            Placed {
+            Some(Placed {
                 slot: read,
-                positions: next,
-            }
+                positions: Positions {
+                    read,
+                    count: self.count + 1,
+                    ..self
+                },
+            })
         } else {
-            Placed {
-                slot: NO_SLOT,
-                positions: self,
-            }
+            None
         }
     }
 
     // A message comes out at the read place.
     #[tactic(auto, unfolding(crate::specs::Ring::fetched))]
-    pub fn fetch(self, slots: u16) -> Placed
-        ensures { result ≡ fetched self slots }
+    pub fn fetch(self, slots: u16) -> Option<Placed>
+        ensures { result ≡ given_if (ltb 0 self.count) (fetched self slots) }
     {
         if 0 < self.count {
-            let read = place_after(self.read, slots);
-            let next = Positions {
-                read: read,
-                write: self.write,
-                count: self.count - 1,
-            };
-            Placed {
+            Some(Placed {
                 slot: self.read,
-                positions: next,
-            }
+                positions: Positions {
+                    read: place_after(self.read, slots),
+                    count: self.count - 1,
+                    ..self
+                },
+            })
         } else {
-            Placed {
-                slot: NO_SLOT,
-                positions: self,
-            }
+            None
         }
     }
 
     // All messages are dropped, and both places return to 0.
     #[tactic(auto, unfolding(crate::specs::Ring::emptied))]
-    pub fn reset(self) -> Placed
-        ensures { result ≡ emptied self }
+    pub fn reset(self) -> Positions
+        ensures { result ≡ (emptied self).positions }
     {
-        let next = Positions {
-            read: 0,
-            write: 0,
-            count: 0,
-        };
-        Placed {
-            slot: NO_SLOT,
-            positions: next,
-        }
+        Positions::default()
     }
 }

@@ -3,19 +3,16 @@
 // with half of the budget and then with the rest, so that calls are nested as often as the budget can be halved: the stack that
 // a step needs grows with the logarithm of the budget, and not with the budget.
 ghost use Rattle.std.specs.Prelude.{◌≡◌};
-ghost use Rattle.kernel.specs.Moves.{finished};
 ghost use Rattle.library.specs.Settling.{is_box_call, does_more, answered_only, continued, settled};
 
 use crate::causes::cause_of;
-use crate::logic::either;
 use crate::mailbox::{try_fetch, try_post};
 use crate::pool::hand_over;
-use crate::signs::is_same;
 use crate::tables::{Plant, set_kernel};
 use kernel::event::take_flags;
-use kernel::kinds::{KEPT_ALLOC, KEPT_EVENT_WAIT, KEPT_FETCH, KEPT_POST, KEPT_POST_AHEAD};
+use kernel::kinds::Kind;
 use kernel::moves::finish;
-use kernel::records::{Kernel, Thread};
+use kernel::records::Thread;
 use kernel::tables::thread_at;
 use kernel::waiters::{first_ready, running_free};
 
@@ -23,12 +20,9 @@ use kernel::waiters::{first_ready, running_free};
 pub fn is_box_call(kind: u16) -> bool
     ensures { result ≡ is_box_call kind }
 {
-    either(
-        kind == KEPT_POST,
-        either(
-            kind == KEPT_POST_AHEAD,
-            either(kind == KEPT_FETCH, kind == KEPT_ALLOC),
-        ),
+    matches!(
+        Kind::try_from(kind),
+        Ok(Kind::Post | Kind::PostAhead | Kind::Fetch | Kind::Alloc)
     )
 }
 
@@ -36,26 +30,14 @@ pub fn is_box_call(kind: u16) -> bool
 fn does_more(kind: u16) -> bool
     ensures { result ≡ does_more kind }
 {
-    either(kind == KEPT_EVENT_WAIT, is_box_call(kind))
+    kind == Kind::EventWait as u16 || is_box_call(kind)
 }
 
 // Whether the call is answered by its wake message alone: any other, and any that was not woken with 0.
 fn is_answered_only(t: Thread) -> bool
     ensures { result ≡ answered_only t }
 {
-    if does_more(t.call.kind) {
-        !is_same(t.message, 0)
-    } else {
-        true
-    }
-}
-
-// Thread i's call answers its wake message, with datum 0.
-#[tactic(auto, unfolding(kernel::specs::Moves::finished))]
-fn answer_woken(k: Kernel, i: u8, t: Thread) -> Kernel
-    ensures { result ≡ finished k i t.message 0 }
-{
-    finish(k, i, t.message, 0)
+    !does_more(t.call.kind) || t.message != 0
 }
 
 // Thread i's unfinished call goes on after its waking. Whom it wakes, it wakes by its own cause.
@@ -67,16 +49,16 @@ fn go_on(p: Plant, i: u8) -> Plant
     let t = thread_at(threads, i);
     let call = t.call;
     let kind = call.kind;
-    let cause = cause_of(kind);
+    let cause = cause_of(kind).number();
     let mut q = p;
     q.kernel.cause = cause;
     if is_answered_only(t) {
-        return set_kernel(q, answer_woken(q.kernel, i, t));
+        return set_kernel(q, finish(q.kernel, i, t.message, 0));
     }
-    match kind {
-        KEPT_EVENT_WAIT => set_kernel(q, take_flags(q.kernel, i, call.operand)),
-        KEPT_FETCH => try_fetch(q, i, call),
-        KEPT_ALLOC => hand_over(q, i, call.object),
+    match Kind::try_from(kind) {
+        Ok(Kind::EventWait) => set_kernel(q, take_flags(q.kernel, i, call.operand)),
+        Ok(Kind::Fetch) => try_fetch(q, i, call),
+        Ok(Kind::Alloc) => hand_over(q, i, call.object),
         _ => try_post(q, i, call),
     }
 }

@@ -1,5 +1,6 @@
 -- What the proofs share.
 pub mod ReadingLaws
+pub mod ToldLaws
 pub mod LinesLaws
 pub mod NumberLaws
 pub mod WordLaws

@@ -3,6 +3,7 @@ use Prim.Native.Nat.{ℕ, zero, suc, ◌+◌, ◌-◌, ◌≤◌, ◌<◌}
 use native.Mathlib.Omega.{arith}
 use native.Mathlib.Numerals.{add-one}
 use mathlib.Core.Path.{◌≡◌, refl, sym, ap, ◌∙◌}
+use Rattle.std.proofs.Common.{◌≢◌, eqb-true}
 use mathlib.Core.Bool.{Bool, true, false, ◌&&◌}
 use mathlib.Core.List.{List, [], ◌∷◌}
 use lib.Dec.{eqb}
@@ -10,8 +11,8 @@ use lib.ListN.{length, get_or, take, drop, length-drop}
 use lib.Seq.{drop-cons, get_or-drop}
 use borrow.Author.Tests.{lt-ltb, le-ltb, le-leb, lt-leb, leb-true}
 use Rattle.kernel.specs.Walk.{all_from}
-use Rattle.kernel.proofs.Cases.{in-or-out, contrary, both-means}
-use Rattle.kernel.proofs.WalkLaws.{all_more}
+use Rattle.kernel.proofs.Cases.{split, in-or-out, contrary, both-means}
+use Rattle.kernel.proofs.WalkLaws.{all-at, all_more}
 use Rattle.buffers.specs.Put.{Put}
 use Rattle.buffers.proofs.PutLaws.{whole-text, long-text, too_long}
 use Rattle.lists.specs.declared.reading.Part.{Part}
@@ -66,6 +67,17 @@ pub letters-more : (s w : List ℕ) (at i : ℕ) (same : Bool) → same ≡ all_
 letters-more s w at i same e =
     rw (e, ← get_or-drop at s i 0) (sym (all_more (λ j. eqb (get_or (drop at s) j 0) (get_or w j 0)) i))
 
+-- a letter that differs
+pub letter-differs : (s w : List ℕ) (at i : ℕ) → i < length w → get_or s (at + i) 0 ≢ get_or w i 0 → false ≡ begins (drop at s) w
+unfolding begins
+letter-differs s w at i h d =
+    split (begins (drop at s) w)
+    (λ t.
+    let all = (both-means _ _ t).1 in
+    let here = all-at (λ j. eqb (get_or (drop at s) j 0) (get_or w j 0)) (length w) i all h in
+    absurd (d (sym (get_or-drop at s i 0) ∙ eqb-true _ _ here)))
+    (λ f. sym f)
+
 pub letters-all : (s w : List ℕ) (at i : ℕ) (same : Bool) → length w ≤ length s - at → i ≤ length w → length w ≤ i
     → same ≡ all_from (λ j. eqb (get_or (drop at s) j 0) (get_or w j 0)) 0 i → same ≡ begins (drop at s) w
 unfolding begins
@@ -111,6 +123,3 @@ module _ (f : ℕ → Part) (at : ℕ) where
   pub last_more : (i : ℕ) (p q r : Part) → p ≡ last_of f at i → q ≡ f i → r ≡ later p q → r ≡ last_of f at (i + 1)
   unfolding last_of
   last_more i p q r e g h = rw (add-one i, ← e, ← g) h
-
-  pub last-all : (i n : ℕ) (p : Part) → i ≤ n → n ≤ i → p ≡ last_of f at i → p ≡ last_of f at n
-  last-all i n p low high e = let same : i ≡ n = omega arith in e ∙ ap (last_of f at) same

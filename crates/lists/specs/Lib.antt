@@ -2,5 +2,6 @@
 pub mod Words
 pub mod Printing
 pub mod Reading
+pub mod Telling
 pub mod Lines
 pub mod Texts

@@ -5,9 +5,7 @@ use Rattle.std.proofs.lemmas.List.Edits.{sets}
 use Rattle.kernel.specs.Walk.{each}
 use Rattle.compare.specs.Order.{fields, called, place_named}
 use Rattle.lists.specs.declared.printing.Entry.{Entry}
-use Rattle.lists.specs.declared.lines.Lines.{Lines}
-use Rattle.lists.specs.declared.lines.Turn.{Turn}
-use Rattle.lists.specs.Printing.{entry_of}
+use Rattle.lists.specs.Telling.{Lines, Turn, no_entry}
 use Rattle.lists.specs.Reading.{past, entry_read}
 
 abbrev pub numbers_of : Entry → List ℕ
@@ -24,9 +22,6 @@ line_after n = cond (ltb n 4294967295) (n + 1) n
 
 abbrev pub lines : ℕ → ℕ → ℕ → ℕ → Lines
 lines at line to code = record { at = at; line = line; to = to; code = code }
-
-abbrev pub no_entry : Entry
-no_entry = entry_of 0 0 0 0 0
 
 abbrev pub turn : Lines → Bool → Entry → Turn
 turn next stores entry = record { next = next; stores = stores; entry = entry }

@@ -3,7 +3,7 @@ use Rattle.std.specs.Prelude.{ℕ, ◌*◌, min, cond, List, eqb, take, replicat
 use Rattle.compare.specs.declared.cells.Kept.{Kept}
 use Rattle.compare.specs.Compared.{compared, compared_list}
 use Rattle.compare.specs.Applied.{applied_list}
-use Rattle.lists.specs.declared.texts.Amended.{Amended}
+use Rattle.lists.specs.Telling.{Amended}
 use Rattle.lists.specs.Printing.{list_text}
 use Rattle.lists.specs.Lines.{list_read}
 

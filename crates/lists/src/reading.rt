@@ -1,14 +1,16 @@
 // An entry read from its line. What is read at a place is known to be there or not, and the next part is read behind it; a line is an entry if
 // all its parts are there. A word is found by trying those that are printed. A number may have zeros before it.
+// The slice and a place are handed each time and are no cursor: each word is tried at the same place, so a cursor would be set back each time.
 ghost use Rattle.std.specs.Prelude.{◌-◌, ◌≡◌, length, get_or, drop};
 ghost use Rattle.lists.specs.Words.{object_word, field_word};
 ghost use Rattle.lists.specs.Reading.{part, no_part, begins, word_part, tried_word, later, last_of, object_read, field_read, is_digit, grown, digits_from, past, number_read, minus_at, below_read, most_of, value_read, entry_read};
 
 use crate::printing::Entry;
 use crate::words::{OBJECTS, fields_of, is_signed, put_field, put_object};
-use library::logic::both;
+use buffers::putting::Sheet;
 
 // What is read at a place: whether it is there, its number, and the place behind it.
+// No Option: `entry_read` reads on from the place also where a part is not there (`below_read` has one behind `-0`), and None would lose it.
 #[derive(Clone, Copy)]
 pub struct Part {
     pub fine: bool,
@@ -24,6 +26,7 @@ pub struct Digits {
 }
 
 // An entry and the place behind its line, if the line is one.
+// No Option: the meaning `entry_read` gives the entry and the place of a line that is none, too.
 #[derive(Clone, Copy)]
 pub struct Line {
     pub fine: bool,
@@ -73,13 +76,12 @@ fn stands(s: &[u8], at: usize, word: &[u8]) -> bool
     if left(s, at) < word.len() {
         return false;
     }
-    let mut same = true;
-    let mut i: usize = 0;
-    while i < word.len() {
-        same = both(same, s[at + i] == word[i]);
-        i += 1;
+    for (i, &b) in word.iter().enumerate() {
+        if s[at + i] != b {
+            return false;
+        }
     }
-    same
+    true
 }
 
 // A word at a place, which stands for a number.
@@ -104,7 +106,12 @@ fn object_part(s: &[u8], at: usize, o: u32) -> Part
     ensures { result ≡ tried_word (drop at s.now) at o (object_word o) }
 {
     let mut word = [0u8; LETTERS];
-    let n = put_object(&mut word, 0, o);
+    let mut sheet = Sheet {
+        out: &mut word,
+        at: 0,
+    };
+    put_object(&mut sheet, o);
+    let n = sheet.at;
     if n < LETTERS {
         word_part(s, at, o, &word[..n])
     } else {
@@ -118,7 +125,12 @@ fn field_part(s: &[u8], at: usize, o: u32, f: u32) -> Part
     ensures { result ≡ tried_word (drop at s.now) at f (field_word o f) }
 {
     let mut word = [0u8; LETTERS];
-    let n = put_field(&mut word, 0, o, f);
+    let mut sheet = Sheet {
+        out: &mut word,
+        at: 0,
+    };
+    put_field(&mut sheet, o, f);
+    let n = sheet.at;
     if n < LETTERS {
         word_part(s, at, f, &word[..n])
     } else {
@@ -138,10 +150,8 @@ fn read_object(s: &[u8], at: usize) -> Part
     ensures { result ≡ object_read s.now at }
 {
     let mut p = no_part(at);
-    let mut o: u32 = 0;
-    while o < OBJECTS {
+    for o in 0..OBJECTS {
         p = later(p, object_part(s, at, o));
-        o += 1;
     }
     p
 }
@@ -151,12 +161,9 @@ fn read_object(s: &[u8], at: usize) -> Part
 fn read_field(s: &[u8], at: usize, o: u32) -> Part
     ensures { result ≡ field_read s.now at o }
 {
-    let n = fields_of(o);
     let mut p = no_part(at);
-    let mut f: u32 = 0;
-    while f < n {
+    for f in 0..fields_of(o) {
         p = later(p, field_part(s, at, o, f));
-        f += 1;
     }
     p
 }
@@ -164,7 +171,7 @@ fn read_field(s: &[u8], at: usize, o: u32) -> Part
 fn is_digit(b: u8) -> bool
     ensures { result ≡ is_digit b }
 {
-    both(b'0' <= b, b <= b'9')
+    b'0' <= b && b <= b'9'
 }
 
 // A number with one digit more; one that is too large already stays so.
@@ -188,6 +195,7 @@ fn read_digits(s: &[u8], at: usize) -> Digits
 {
     let mut value: u64 = 0;
     let mut i = at;
+    // no `for`: the place behind the digits is the answer, also of a place behind the text's end
     while is_digit(byte_at(s, i)) {
         value = grow(value, byte_at(s, i));
         i += 1;
@@ -205,7 +213,7 @@ fn read_number(s: &[u8], at: usize, most: u32, end: u8) -> Part
 {
     let d = read_digits(s, at);
     let behind = byte_at(s, d.at);
-    if both(at < d.at, both(d.value <= most as u64, behind == end)) {
+    if at < d.at && d.value <= most as u64 && behind == end {
         Part {
             fine: true,
             value: d.value as u32,
@@ -220,7 +228,7 @@ fn read_number(s: &[u8], at: usize, most: u32, end: u8) -> Part
 fn below(p: Part) -> Part
     ensures { result ≡ below_read p }
 {
-    if both(p.fine, 1 <= p.value) {
+    if p.fine && 1 <= p.value {
         Part {
             fine: true,
             value: 4294967295 - (p.value - 1),
@@ -243,7 +251,7 @@ fn most_of(signed: bool) -> u32
 fn read_value(s: &[u8], at: usize, signed: bool, end: u8) -> Part
     ensures { result ≡ value_read s.now at signed end }
 {
-    if both(signed, byte_at(s, at) == b'-') {
+    if signed && byte_at(s, at) == b'-' {
         below(read_number(s, go_past(s, at), 2147483648, end))
     } else {
         read_number(s, at, most_of(signed), end)
@@ -268,9 +276,8 @@ pub(crate) fn read_entry(s: &[u8], at: usize) -> Line
         old: old.value,
         new: new.value,
     };
-    let named = both(both(o.fine, n.fine), f.fine);
     Line {
-        fine: both(named, both(old.fine, new.fine)),
+        fine: o.fine && n.fine && f.fine && old.fine && new.fine,
         entry: entry,
         at: new.at,
     }

@@ -15,33 +15,51 @@ const NAME_TOO_LONG: i32 = 36;
 // More bytes than an error has in words.
 const MOST_WORDS: usize = 320;
 
-pub(crate) fn say(rt: &HostRuntime, words: &[u8]) -> io::Result<()> {
-    let mut err = rt.stderr();
-    err.write_all(words)
+// The machine, and the name that stands before what the program complains of.
+#[derive(Clone, Copy)]
+pub(crate) struct Console<'a> {
+    pub rt: &'a HostRuntime,
+    pub name: &'a [u8],
 }
 
-pub(crate) fn say_number(rt: &HostRuntime, n: u64) -> io::Result<()> {
-    let mut err = rt.stderr();
-    write!(err, "{n}")
-}
+impl<'a> Console<'a> {
+    pub(crate) fn say(self, words: &[u8]) -> io::Result<()> {
+        let mut err = self.rt.stderr();
+        err.write_all(words)
+    }
 
-// Why what has just failed did: the system's own words, without the number that std puts behind them.
-pub(crate) fn complain(
-    rt: &HostRuntime,
-    name: &[u8],
-    what: &[u8],
-    error: io::Error,
-) -> io::Result<()> {
-    let mut said = [0u8; MOST_WORDS];
-    let mut room: &mut [u8] = &mut said;
-    write!(room, "{error}")?;
-    let mut err = rt.stderr();
-    err.write_all(name)?;
-    err.write_all(b": ")?;
-    err.write_all(what)?;
-    err.write_all(b": ")?;
-    err.write_all(reason(&said))?;
-    err.write_all(b"\n")
+    pub(crate) fn say_number(self, n: u64) -> io::Result<()> {
+        let mut err = self.rt.stderr();
+        write!(err, "{n}")
+    }
+
+    // Why what has just failed did: the system's own words, without the number that std puts behind them.
+    pub(crate) fn complain(self, what: &[u8], error: io::Error) -> io::Result<()> {
+        let mut said = [0u8; MOST_WORDS];
+        let mut room: &mut [u8] = &mut said;
+        write!(room, "{error}")?;
+        let mut err = self.rt.stderr();
+        err.write_all(self.name)?;
+        err.write_all(b": ")?;
+        err.write_all(what)?;
+        err.write_all(b": ")?;
+        err.write_all(reason(&said))?;
+        err.write_all(b"\n")
+    }
+
+    // Complains of a name that is too long.
+    pub(crate) fn complain_of_name(self) -> io::Result<()> {
+        let error = io::Error::from_raw_os_error(NAME_TOO_LONG);
+        self.complain(b"the file's name", error)
+    }
+
+    // A file with these bytes, in place of what it was.
+    pub(crate) fn write_file(self, path: &[u8], bytes: &[u8]) -> io::Result<()> {
+        match put_file(self.rt, path, bytes) {
+            Ok(()) => Ok(()),
+            Err(e) => self.complain(path, e),
+        }
+    }
 }
 
 // What stands before a number, or before the zeros behind the words.
@@ -58,24 +76,11 @@ fn reason(said: &[u8]) -> &[u8] {
     }
 }
 
-// Complains of a name that is too long.
-pub(crate) fn complain_of_name(rt: &HostRuntime, name: &[u8]) -> io::Result<()> {
-    let error = io::Error::from_raw_os_error(NAME_TOO_LONG);
-    complain(rt, name, b"the file's name", error)
-}
-
-// Complains of the input.
-pub(crate) fn complain_of_input(
-    rt: &HostRuntime,
-    name: &[u8],
-    given: bool,
-    path: &[u8],
-    error: io::Error,
-) -> io::Result<()> {
-    if given {
-        complain(rt, name, path, error)
-    } else {
-        complain(rt, name, b"standard input", error)
+// What the input is called in a complaint: the file if one was given, else standard input.
+pub(crate) fn input_name(path: Option<&[u8]>) -> &[u8] {
+    match path {
+        Some(path) => path,
+        None => b"standard input",
     }
 }
 
@@ -83,17 +88,16 @@ pub(crate) fn complain_of_input(
 pub(crate) fn length_of(rt: &HostRuntime, i: usize, buf: &mut [u8]) -> usize
     ensures { result ≤ length buf.new }
 {
-    match rt.arg(i, buf) {
-        Ok(n) => n,
-        Err(_) => 0,
-    }
+    rt.arg(i, buf).unwrap_or(0)
 }
 
 // Reads until the buffer is full or the input ends. The answer is how many bytes stand at its start.
+// `text` has its twin: a public function's contract fixes its result (`tools/contracts`), and no contract fixes how many bytes a reader gives.
 fn read_full<R: Read>(from: &mut R, buf: &mut [u8]) -> io::Result<usize>
     ensures { IfOk result (λ n. n ≤ length buf.new) }
 {
     let mut done: usize = 0;
+    // a read says how far it goes on: there is no index to go over
     while done < buf.len() {
         let n = from.read(&mut buf[done..])?;
         if n == 0 {
@@ -104,18 +108,10 @@ fn read_full<R: Read>(from: &mut R, buf: &mut [u8]) -> io::Result<usize>
     Ok(done)
 }
 
-// The file of this name. A name that is not text names no file.
-fn open(rt: &HostRuntime, path: &[u8]) -> io::Result<File> {
+// A path as text. A name that is not text names no file.
+fn path_text(path: &[u8]) -> io::Result<&str> {
     match str::from_utf8(path) {
-        Ok(name) => fs::open(rt, name),
-        Err(_) => Err(io::Error::from(ErrorKind::InvalidInput)),
-    }
-}
-
-// The same, made where there is none, and emptied.
-fn create(rt: &HostRuntime, path: &[u8]) -> io::Result<File> {
-    match str::from_utf8(path) {
-        Ok(name) => fs::create(rt, name),
+        Ok(name) => Ok(name),
         Err(_) => Err(io::Error::from(ErrorKind::InvalidInput)),
     }
 }
@@ -124,41 +120,25 @@ fn create(rt: &HostRuntime, path: &[u8]) -> io::Result<File> {
 pub(crate) fn read_file(rt: &HostRuntime, path: &[u8], buf: &mut [u8]) -> io::Result<usize>
     ensures { IfOk result (λ n. n ≤ length buf.new) }
 {
-    let mut file = open(rt, path)?;
+    let mut file = fs::open(rt, path_text(path)?)?;
     read_full(&mut file, buf)
 }
 
 // The same of the file if one was given, else of standard input.
-pub(crate) fn read_input(
-    rt: &HostRuntime,
-    given: bool,
-    path: &[u8],
-    buf: &mut [u8],
-) -> io::Result<usize>
+pub(crate) fn read_input(rt: &HostRuntime, path: Option<&[u8]>, buf: &mut [u8]) -> io::Result<usize>
     ensures { IfOk result (λ n. n ≤ length buf.new) }
 {
-    if given {
-        read_file(rt, path, buf)
-    } else {
-        let mut input = rt.stdin();
-        read_full(&mut input, buf)
+    match path {
+        Some(path) => read_file(rt, path, buf),
+        None => {
+            let mut input = rt.stdin();
+            read_full(&mut input, buf)
+        }
     }
 }
 
+// The file of this name, made where there is none, and emptied; then the bytes.
 fn put_file(rt: &HostRuntime, path: &[u8], bytes: &[u8]) -> io::Result<()> {
-    let mut file = create(rt, path)?;
+    let mut file = fs::create(rt, path_text(path)?)?;
     file.write_all(bytes)
-}
-
-// A file with these bytes, in place of what it was.
-pub(crate) fn write_file(
-    rt: &HostRuntime,
-    name: &[u8],
-    path: &[u8],
-    bytes: &[u8],
-) -> io::Result<()> {
-    match put_file(rt, path, bytes) {
-        Ok(()) => Ok(()),
-        Err(e) => complain(rt, name, path, e),
-    }
 }

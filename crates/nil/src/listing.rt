@@ -1,5 +1,5 @@
 // What is printed of a trace.
-use crate::files::{LONGEST, complain, complain_of_input, complain_of_name, read_input};
+use crate::files::{Console, LONGEST, input_name, read_input};
 use std::env::FillError;
 use std::io;
 use std::rt::Env;
@@ -7,31 +7,25 @@ use text::printing::print_trace;
 use text::views::View;
 
 // More bytes than the longest trace has are read, to see refusal 15. Nothing is printed before all is read.
-fn print_input(
-    rt: &HostRuntime,
-    given: bool,
-    path: &[u8],
-    name: &[u8],
-    view: View,
-) -> io::Result<()> {
+fn print_input(on: Console, path: Option<&[u8]>, view: View) -> io::Result<()> {
     let mut bytes = [0u8; 65536];
-    let n = match read_input(rt, given, path, &mut bytes) {
+    let n = match read_input(on.rt, path, &mut bytes) {
         Ok(n) => n,
-        Err(e) => return complain_of_input(rt, name, given, path, e),
+        Err(e) => return on.complain(input_name(path), e),
     };
-    let mut out = rt.stdout();
+    let mut out = on.rt.stdout();
     match print_trace(&mut out, &bytes[..n], view) {
         Ok(_) => Ok(()),
-        Err(e) => complain(rt, name, b"standard output", e),
+        Err(e) => on.complain(b"standard output", e),
     }
 }
 
 // The trace in argument i, or without it in standard input.
-pub(crate) fn print_view(rt: &HostRuntime, i: usize, name: &[u8], view: View) -> io::Result<()> {
+pub(crate) fn print_view(on: Console, i: usize, view: View) -> io::Result<()> {
     let mut path = [0u8; LONGEST];
-    match rt.arg(i, &mut path) {
-        Ok(k) => print_input(rt, true, &path[..k], name, view),
-        Err(FillError::NotPresent) => print_input(rt, false, b"", name, view),
-        Err(FillError::TooLong) => complain_of_name(rt, name),
+    match on.rt.arg(i, &mut path) {
+        Ok(k) => print_input(on, Some(&path[..k]), view),
+        Err(FillError::NotPresent) => print_input(on, None, view),
+        Err(FillError::TooLong) => on.complain_of_name(),
     }
 }

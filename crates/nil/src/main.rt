@@ -12,7 +12,7 @@ mod saving;
 
 use applying::apply_files;
 use comparing::compare_files;
-use files::{LONGEST, length_of, say};
+use files::{Console, LONGEST, length_of};
 use listing::print_view;
 use saving::save_trace;
 use std::env::FillError;
@@ -32,40 +32,18 @@ enum Asked {
     Unknown,
 }
 
-fn is_same(a: &[u8], b: &[u8]) -> bool {
-    let mut same = a.len() == b.len();
-    let mut i: usize = 0;
-    while i < a.len() {
-        if i < b.len() {
-            if a[i] != b[i] {
-                same = false;
-            }
-        }
-        i += 1;
-    }
-    same
-}
-
 // The table of words.
 fn asked_by(word: &[u8]) -> Asked {
-    if is_same(word, b"list") {
-        Asked::Print(View::Lines)
-    } else if is_same(word, b"tables") {
-        Asked::Print(View::AllTables)
-    } else if is_same(word, b"why") {
-        Asked::Print(View::Wakings)
-    } else if is_same(word, b"account") {
-        Asked::Print(View::Sums)
-    } else if is_same(word, b"save") {
-        Asked::Save
-    } else if is_same(word, b"compare") {
-        Asked::Compare
-    } else if is_same(word, b"apply") {
-        Asked::Apply
-    } else if is_same(word, b"--help") {
-        Asked::Help
-    } else {
-        Asked::Unknown
+    match word {
+        b"list" => Asked::Print(View::Lines),
+        b"tables" => Asked::Print(View::AllTables),
+        b"why" => Asked::Print(View::Wakings),
+        b"account" => Asked::Print(View::Sums),
+        b"save" => Asked::Save,
+        b"compare" => Asked::Compare,
+        b"apply" => Asked::Apply,
+        b"--help" => Asked::Help,
+        _ => Asked::Unknown,
     }
 }
 
@@ -79,12 +57,10 @@ struct Wanted {
 // Help passes over one file. A word that is not in the table is refused with one word behind it or none; with more, the second behind it is.
 fn wanted_by(asked: Asked) -> Wanted {
     match asked {
-        Asked::Print(_) => Wanted { least: 0, most: 1 },
         Asked::Save => Wanted { least: 1, most: 2 },
         Asked::Compare => Wanted { least: 2, most: 2 },
         Asked::Apply => Wanted { least: 3, most: 3 },
-        Asked::Help => Wanted { least: 0, most: 1 },
-        Asked::Unknown => Wanted { least: 0, most: 1 },
+        Asked::Print(_) | Asked::Help | Asked::Unknown => Wanted { least: 0, most: 1 },
     }
 }
 
@@ -106,69 +82,77 @@ fn print_usage<W: Write>(to: &mut W) -> io::Result<()> {
 }
 
 // A word that is not in the table, none, one too few, or one too many.
-fn refuse(rt: &HostRuntime, name: &[u8], why: &[u8], word: &[u8]) -> io::Result<()> {
-    say(rt, name)?;
-    say(rt, b": ")?;
-    say(rt, why)?;
-    say(rt, word)?;
-    say(rt, b"\n")?;
-    let mut err = rt.stderr();
+fn refuse(on: Console, why: &[u8], word: &[u8]) -> io::Result<()> {
+    on.say(on.name)?;
+    on.say(b": ")?;
+    on.say(why)?;
+    on.say(word)?;
+    on.say(b"\n")?;
+    let mut err = on.rt.stderr();
     print_usage(&mut err)
 }
 
 // What a word asks for, with the files from argument `first` on.
-fn answer(rt: &HostRuntime, name: &[u8], asked: Asked, first: u16, word: &[u8]) -> io::Result<()> {
+fn answer(on: Console, asked: Asked, first: u16, word: &[u8]) -> io::Result<()> {
     match asked {
-        Asked::Print(view) => print_view(rt, first as usize, name, view),
-        Asked::Save => save_trace(rt, first, name),
-        Asked::Compare => compare_files(rt, first, name),
-        Asked::Apply => apply_files(rt, first, name),
+        Asked::Print(view) => print_view(on, first as usize, view),
+        Asked::Save => save_trace(on, first),
+        Asked::Compare => compare_files(on, first),
+        Asked::Apply => apply_files(on, first),
         Asked::Help => {
-            let mut out = rt.stdout();
+            let mut out = on.rt.stdout();
             print_usage(&mut out)
         }
-        Asked::Unknown => refuse(rt, name, b"wrong word: ", word),
+        Asked::Unknown => refuse(on, b"wrong word: ", word),
     }
 }
 
 // Whether there is an argument i.
 fn is_given(rt: &HostRuntime, i: usize) -> bool {
     let mut word = [0u8; LONGEST];
-    match rt.arg(i, &mut word) {
-        Ok(_) => true,
-        Err(FillError::TooLong) => true,
-        Err(FillError::NotPresent) => false,
-    }
+    !matches!(rt.arg(i, &mut word), Err(FillError::NotPresent))
 }
 
-// The words from argument `first` on, which is 1 or 3; `name` stands before complaints.
-fn run(rt: &HostRuntime, name: &[u8], first: u8) -> io::Result<()> {
+// The words from argument `first` on, which is 1 or 3.
+fn run(on: Console, first: u8) -> io::Result<()> {
     let mut word = [0u8; LONGEST];
-    let n = length_of(rt, first as usize, &mut word);
+    let n = length_of(on.rt, first as usize, &mut word);
     let asked = asked_by(&word[..n]);
     let wanted = wanted_by(asked);
     let files = first as usize + 1;
     let mut more = [0u8; LONGEST];
-    match rt.arg(files + wanted.most as usize, &mut more) {
-        Ok(k) => return refuse(rt, name, b"wrong word: ", &more[..k]),
-        Err(FillError::TooLong) => return refuse(rt, name, b"wrong word: ", b""),
+    match on.rt.arg(files + wanted.most as usize, &mut more) {
+        Ok(k) => return refuse(on, b"wrong word: ", &more[..k]),
+        Err(FillError::TooLong) => return refuse(on, b"wrong word: ", b""),
         Err(FillError::NotPresent) => {}
     }
     // the word is argument `first`, and its files follow
-    if wanted.least == 0 || is_given(rt, first as usize + wanted.least as usize) {
-        answer(rt, name, asked, first as u16 + 1, &word[..n])
+    if wanted.least == 0 || is_given(on.rt, first as usize + wanted.least as usize) {
+        answer(on, asked, first as u16 + 1, &word[..n])
     } else {
-        refuse(rt, name, b"too few files for ", &word[..n])
+        refuse(on, b"too few files for ", &word[..n])
     }
 }
 
 fn main(rt: HostRuntime) -> io::Result<()> {
     let mut word = [0u8; LONGEST];
     let n = length_of(&rt, 1, &mut word);
-    if is_same(&word[..n], b"--as") {
+    if &word[..n] == b"--as".as_slice() {
         let k = length_of(&rt, 2, &mut word);
-        run(&rt, &word[..k], 3)
+        run(
+            Console {
+                rt: &rt,
+                name: &word[..k],
+            },
+            3,
+        )
     } else {
-        run(&rt, b"nil", 1)
+        run(
+            Console {
+                rt: &rt,
+                name: b"nil",
+            },
+            1,
+        )
     }
 }

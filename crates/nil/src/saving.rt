@@ -1,8 +1,7 @@
 // The tables that a trace leaves, saved.
 use crate::applying::write_kept;
-use crate::files::{
-    LONGEST, complain_of_input, complain_of_name, length_of, read_input, say, say_number,
-};
+use crate::files::{Console, LONGEST, input_name, length_of, read_input};
+use kernel::refusals::Refusal;
 use replays::replaying::replay;
 use std::env::FillError;
 use std::io;
@@ -10,74 +9,47 @@ use std::io::Write;
 use std::rt::Env;
 
 // Where a trace stopped: as its listing says.
-fn print_stop(rt: &HostRuntime, number: usize, code: u8) -> io::Result<()> {
-    let mut out = rt.stdout();
-    write!(out, "stopped {number} {code}\n")
+fn print_stop(on: Console, number: usize, why: Refusal) -> io::Result<()> {
+    let mut out = on.rt.stdout();
+    write!(out, "stopped {number} {}\n", why as u8)
 }
 
 // A trace without record 0 leaves no tables.
-fn refuse_trace(
-    rt: &HostRuntime,
-    name: &[u8],
-    given: bool,
-    path: &[u8],
-    code: u8,
-) -> io::Result<()> {
-    say(rt, name)?;
-    say(rt, b": ")?;
-    if given {
-        say(rt, path)?;
-    } else {
-        say(rt, b"standard input")?;
-    }
-    say(rt, b": no tables: record 0 is refused with ")?;
-    say_number(rt, code as u64)?;
-    say(rt, b"\n")
+fn refuse_trace(on: Console, path: Option<&[u8]>, why: Refusal) -> io::Result<()> {
+    on.say_whose(input_name(path))?;
+    on.say(b"no tables: record 0 is refused with ")?;
+    on.say_number(why as u64)?;
+    on.say(b"\n")
 }
 
-fn save_bytes(
-    rt: &HostRuntime,
-    name: &[u8],
-    saved: &[u8],
-    given: bool,
-    path: &[u8],
-    trace: &[u8],
-) -> io::Result<()> {
+fn save_bytes(on: Console, saved: &[u8], path: Option<&[u8]>, trace: &[u8]) -> io::Result<()> {
     let x = replay(trace);
+    let Some(Err(bad)) = x.end else {
+        return write_kept(on, saved, x.kept);
+    };
     if x.at == 0 {
-        return refuse_trace(rt, name, given, path, x.code);
+        return refuse_trace(on, path, bad.why);
     }
-    write_kept(rt, name, saved, x.kept)?;
-    if x.code == 0 {
-        Ok(())
-    } else {
-        print_stop(rt, x.number, x.code)
-    }
+    write_kept(on, saved, x.kept)?;
+    print_stop(on, bad.number, bad.why)
 }
 
-fn save_input(
-    rt: &HostRuntime,
-    name: &[u8],
-    saved: &[u8],
-    given: bool,
-    path: &[u8],
-) -> io::Result<()> {
+fn save_input(on: Console, saved: &[u8], path: Option<&[u8]>) -> io::Result<()> {
     let mut bytes = [0u8; 65536];
-    let n = match read_input(rt, given, path, &mut bytes) {
-        Ok(n) => n,
-        Err(e) => return complain_of_input(rt, name, given, path, e),
-    };
-    save_bytes(rt, name, saved, given, path, &bytes[..n])
+    match read_input(on.rt, path, &mut bytes) {
+        Ok(n) => save_bytes(on, saved, path, &bytes[..n]),
+        Err(e) => on.complain(input_name(path), e),
+    }
 }
 
 // SAVED is argument i, and the trace in the next, or without it in standard input.
-pub(crate) fn save_trace(rt: &HostRuntime, i: u16, name: &[u8]) -> io::Result<()> {
+pub(crate) fn save_trace(on: Console, i: u16) -> io::Result<()> {
     let mut saved = [0u8; LONGEST];
-    let k = length_of(rt, i as usize, &mut saved);
+    let k = length_of(on.rt, i as usize, &mut saved);
     let mut path = [0u8; LONGEST];
-    match rt.arg(i as usize + 1, &mut path) {
-        Ok(m) => save_input(rt, name, &saved[..k], true, &path[..m]),
-        Err(FillError::NotPresent) => save_input(rt, name, &saved[..k], false, b""),
-        Err(FillError::TooLong) => complain_of_name(rt, name),
+    match on.rt.arg(i as usize + 1, &mut path) {
+        Ok(m) => save_input(on, &saved[..k], Some(&path[..m])),
+        Err(FillError::NotPresent) => save_input(on, &saved[..k], None),
+        Err(FillError::TooLong) => on.complain_of_name(),
     }
 }

@@ -1,18 +1,20 @@
 -- The law of the ring, once for every length: what is carried keeps the length; more is carried from where it ended; byte j lies j places on,
 -- and a byte at no such place is as it was.
 use Prim.Native.Nat.{ℕ, zero, suc, ◌+◌, ◌-◌, ◌%◌, ◌≤◌, ◌<◌}
-use native.Mathlib.Nat.{mod-lt, mod-eq_of_lt, mod-eq-sub-mod, mod-add-mod, mod_self, add-zero, add-suc, add_assoc}
-use native.Mathlib.Numerals.{add-one}
+use Prim.Native.Nat.{min}
+use native.Mathlib.Nat.{mod-lt, mod-eq_of_lt, mod-eq-sub-mod, mod-add-mod, mod_self, min-eq_left, min-eq_right, add-zero, add-suc, add_assoc}
 use native.Mathlib.Omega.{arith}
 use mathlib.Core.Path.{◌≡◌, refl, sym, ap, ◌∙◌}
 use mathlib.Core.Logic.{◌≢◌}
-use mathlib.Core.Bool.{Bool, true, cond, ◌&&◌}
+use mathlib.Core.Bool.{true, cond}
 use mathlib.Core.List.{List}
 use lib.Dec.{leb, ltb}
-use lib.ListN.{length, get_or, set, length-set}
-use lib.Seq.{get_or-set_same, get_or-set_other}
-use borrow.Author.Tests.{lt-ltb, le-ltb, ltb-true, lt-leb, le-leb, leb-true}
-use Rattle.kernel.proofs.Cases.{same_or, in-or-out, both-means}
+use lib.ListN.{length, get_or, length-set, take, drop, length-drop}
+use lib.Seq.{get_or-set_same, get_or-set_other, get_or-take, get_or-drop, length-take-le, paste, paste-zero, paste-suc}
+use borrow.Rule.Slice.PartMut.{put_mid}
+use Rattle.std.proofs.lemmas.Slice.{put_mid-paste}
+use borrow.Author.Tests.{lt-ltb, le-ltb, lt-leb, le-leb, leb-true}
+use Rattle.kernel.proofs.Cases.{same_or, in-or-out}
 use Rattle.pipes.specs.Carrying.{smaller_of, ring_place, carried, run_carried}
 
 pub length-carried : (k : ℕ) (s : List ℕ) (q : ℕ) (d : List ℕ) (p : ℕ) → length (carried k s q d p) ≡ length d
@@ -20,12 +22,6 @@ unfolding carried
 length-carried zero s q d p = refl
 length-carried (suc k) s q d p =
     length-set (carried k s q d p) (ring_place (length d) p k) (get_or s (ring_place (length s) q k) 0) ∙ length-carried k s q d p
-
--- one byte more, where neither ring ends
-pub carried-next : (k : ℕ) (s : List ℕ) (q : ℕ) (d : List ℕ) (p : ℕ) (e : List ℕ) → p + k < length d → q + k < length s → e ≡ carried k s q d p
-    → set e (p + k) (get_or s (q + k) 0) ≡ carried (k + 1) s q d p
-unfolding carried
-carried-next k s q d p e hp hq h = rw (add-one k, mod-eq_of_lt hp, mod-eq_of_lt hq, h)
 
 -- a place some places on, and some more
 pub place-on : (n p a b : ℕ) → ring_place n (ring_place n p a) b ≡ ring_place n p (a + b)
@@ -83,35 +79,31 @@ place_after n p k h l =
     in-or-out (p + k) n (λ w. rw (lt-ltb (p + k) n w) (sym (mod-eq_of_lt w)))
     (λ w. let end : p + k ≡ n = omega arith in rw (le-ltb (p + k) n w, end) (sym (mod_self n)))
 
+-- a run that passes neither end lies there as one part
+run-pasted : (n j : ℕ) (s : List ℕ) (q : ℕ) (d : List ℕ) (p : ℕ) → p + n ≤ length d → q + n ≤ length s → j ≤ n
+    → carried j s q d p ≡ paste d p (take n (drop q s)) j
+unfolding carried
+run-pasted n zero s q d p hp hq l = paste-zero d p (take n (drop q s))
+run-pasted n (suc j) s q d p hp hq l =
+    let few : j < length (take n (drop q s)) = omega (arith, length-take-le n (drop q s) (omega (arith, length-drop q s))) in
+    let byte : get_or (take n (drop q s)) j 0 ≡ get_or s (q + j) 0 = get_or-take n (drop q s) j 0 (omega arith) ∙ get_or-drop q s j 0 in
+    let into : p + j < length d = omega arith in
+    let out_of : q + j < length s = omega arith in
+    rw (mod-eq_of_lt into, mod-eq_of_lt out_of, run-pasted n j s q d p hp hq (omega arith), ← byte)
+    (paste-suc d p (take n (drop q s)) j 0 (omega arith) few)
+
 -- ---- in the form in which code meets them
 
--- e is d with the first j of n bytes carried, in a run that passes neither end
-pub record OnRun (n j : ℕ) (s : List ℕ) (q : ℕ) (d : List ℕ) (p : ℕ) (e : List ℕ) : Type 0 where
-  pub upto : j ≤ n
-  pub into : p + n ≤ length d
-  pub out_of : q + n ≤ length s
-  pub so_far : e ≡ carried j s q d p
-
-module _ (n : ℕ) (s : List ℕ) (q : ℕ) (d : List ℕ) (p : ℕ) where
-  pub run-begins : (x y r : Bool) → r ≡ x && y → x ≡ leb (p + n) (length d) → y ≡ leb (q + n) (length s) → r ≡ true → OnRun n 0 s q d p d
-  unfolding carried
-  run-begins x y r e a b t =
-      let t2 = both-means x y (sym e ∙ t) in
-      record {
-        upto = omega arith;
-        into = leb-true (p + n) (length d) (sym a ∙ t2.0);
-        out_of = leb-true (q + n) (length s) (sym b ∙ t2.1);
-        so_far = refl;
-      }
-
-  pub run-goes-on : (j : ℕ) (e : List ℕ) → OnRun n j s q d p e → j < n → OnRun n (j + 1) s q d p (set e (p + j) (get_or s (q + j) 0))
-  run-goes-on j e o l =
-      record {
-        upto = omega arith;
-        into = o.into;
-        out_of = o.out_of;
-        so_far = carried-next j s q d p e (omega (arith, o.into)) (omega (arith, o.out_of)) o.so_far;
-      }
+-- the code's copy of a part of one slice into another is such a run
+pub run-copied : (n : ℕ) (s : List ℕ) (q : ℕ) (d : List ℕ) (p : ℕ) (ys : List ℕ) → true ≡ leb (p + n) (length d) → true ≡ leb (q + n) (length s)
+    → ys ≡ take (q + n - q) (drop q s) → put_mid p (p + n - p) d ys ≡ run_carried n s q d p
+run-copied n s q d p ys x y e =
+    let hp = leb-true (p + n) (length d) (sym x) in
+    let hq = leb-true (q + n) (length s) (sym y) in
+    let part : take n (drop q s) ≡ take (q + n - q) (drop q s) = ap (λ (m : ℕ). take m (drop q s)) (omega arith) in
+    rw (← x, ← y)
+    (put_mid-paste p (p + n - p) d ys (take n (drop q s)) n (e ∙ sym part) (omega arith) (sym (length-take-le n (drop q s) (omega (arith, length-drop q s))))
+    ∙ sym (run-pasted n n s q d p hp hq (omega arith)))
 
 -- the smaller of two is at most each, and above 0 where both are
 pub record Least (a b r : ℕ) : Type 0 where
@@ -125,6 +117,13 @@ least a b r e =
     (λ l. let x : r ≡ b = rw (lt-leb a b l) at e in record { first = omega arith; second = omega arith; some = λ h k. omega arith })
     (λ l. let x : r ≡ a = rw (le-leb a b l) at e in record { first = omega arith; second = omega arith; some = λ h k. omega arith })
 
+-- the smaller of two is the library's
+pub smaller-min : (a b : ℕ) → min a b ≡ smaller_of a b
+smaller-min a b = in-or-out b a (λ l. rw (lt-leb a b l) (min-eq_right (omega arith))) (λ l. rw (le-leb a b l) (min-eq_left l))
+
+pub least-min : (a b r : ℕ) → r ≡ min a b → Least a b r
+least-min a b r e = least a b r (e ∙ smaller-min a b)
+
 -- e is d with the first k of n bytes carried, from place q of s to place p of d; the next go from y to x
 pub record OnWay (n k : ℕ) (s : List ℕ) (q : ℕ) (d : List ℕ) (p : ℕ) (e : List ℕ) (x y : ℕ) : Type 0 where
   pub upto : k ≤ n
@@ -135,12 +134,9 @@ pub record OnWay (n k : ℕ) (s : List ℕ) (q : ℕ) (d : List ℕ) (p : ℕ) (
   pub so_far : e ≡ carried k s q d p
 
 module _ (n : ℕ) (s : List ℕ) (q : ℕ) (d : List ℕ) (p : ℕ) where
-  pub way-begins : (r : Bool) → r ≡ ltb p (length d) && ltb q (length s) → r ≡ true → OnWay n 0 s q d p d p q
+  pub way-begins : p < length d → q < length s → OnWay n 0 s q d p d p q
   unfolding carried
-  way-begins r e t =
-      let t2 = both-means (ltb p (length d)) (ltb q (length s)) (sym e ∙ t) in
-      let h = ltb-true p (length d) t2.0 in
-      let k = ltb-true q (length s) t2.1 in
+  way-begins h k =
       record {
         upto = omega arith;
         inside-to = h;
@@ -155,11 +151,11 @@ module _ (n : ℕ) (s : List ℕ) (q : ℕ) (d : List ℕ) (p : ℕ) where
     way-length = ap length o.so_far ∙ length-carried k s q d p
 
     -- the bytes of a turn: up to the nearer end, and no more than are left
-    module _ (a r : ℕ) (ea : a ≡ smaller_of (length e - x) (length s - y)) (er : r ≡ smaller_of (n - k) a) where
+    module _ (a r : ℕ) (ea : a ≡ min (length e - x) (length s - y)) (er : r ≡ min (n - k) a) where
       pub turn-fits : k < n → (0 < r) × (r ≤ n - k) × (x + r ≤ length e) × (y + r ≤ length s)
       turn-fits l =
-          let ends = least (length e - x) (length s - y) a ea in
-          let all = least (n - k) a r er in
+          let ends = least-min (length e - x) (length s - y) a ea in
+          let all = least-min (n - k) a r er in
           let long = way-length in
           let h = o.inside-to in
           let g = o.inside-from in

@@ -1,4 +1,5 @@
 -- What the proofs share.
 pub mod CarryingLaws
 pub mod TransferLaws
+pub mod ToldLaws
 pub mod Unique

@@ -1,23 +1,29 @@
 -- What is known of a pipe where a transfer goes ahead, and that the code's way is then the meaning's.
-use Prim.Native.Nat.{ℕ, ◌-◌, ◌≤◌, ◌<◌}
+use Prim.Native.Nat.{ℕ, min, ◌-◌, ◌≤◌, ◌<◌}
 use native.Mathlib.Omega.{arith}
-use mathlib.Core.Path.{◌≡◌, ◌∙◌}
-use mathlib.Core.Bool.{true}
+use mathlib.Core.Path.{◌≡◌, refl, sym, ◌∙◌}
+use mathlib.Core.Logic.{◌≢◌}
+use mathlib.Core.Bool.{true, false}
 use mathlib.Core.List.{List}
 use lib.Dec.{eqb, leb, ltb}
 use lib.ListN.{length}
-use borrow.Author.Tests.{eqb-true, ltb-true, leb-true, lt-ltb, le-ltb}
+use borrow.Author.Tests.{ltb-true, leb-true, ne_eqb, lt-ltb, le-ltb}
 use Rattle.kernel.proofs.Cases.{split, in-or-out, both-means}
+use Rattle.std.proofs.Common.{Ok, Err}
+use Rattle.kernel.specs.declared.refusals.Refusal.{Refusal}
+use Rattle.kernel.specs.Numbers.{was_reset}
+use Rattle.kernel.specs.Told.{number}
+use Rattle.kernel.proofs.ToldLaws.{number-some}
 use Rattle.library.specs.Ring.{positions_fit}
 use Rattle.library.proofs.RingLaws.{Fitting, fit-means}
 use Rattle.pipes.specs.declared.table.Pipe.{Pipe}
 use Rattle.pipes.specs.declared.table.Pipes.{Pipes}
-use Rattle.pipes.specs.declared.transfer.Moved.{Moved}
+use Rattle.pipes.specs.Told.{Moved, told_moved}
 use Rattle.pipes.specs.Table.{pipe_at}
-use Rattle.pipes.specs.Carrying.{smaller_of, carried, carried_between}
+use Rattle.pipes.specs.Carrying.{carried, carried_between}
 use Rattle.pipes.specs.Judging.{is_there, length_fits, pipe_refusal}
-use Rattle.pipes.specs.Transfer.{goes_ahead, gone_on, filled, drained, write_answer, buffer_written, read_answer, target_read}
-use Rattle.pipes.proofs.CarryingLaws.{least}
+use Rattle.pipes.specs.Transfer.{goes_ahead, stopped, gone_on, filled, drained, write_answer, buffer_written, read_answer, target_read}
+use Rattle.pipes.proofs.CarryingLaws.{least-min, smaller-min}
 
 -- a call that nothing refuses
 pub record Unrefused (t : Pipes) (i n : ℕ) : Type 0 where
@@ -49,13 +55,6 @@ unrefused t i n e =
     (λ y. absurd (omega (arith, rw (x, y) at e))))
     (λ x. absurd (omega (arith, rw x at e)))
 
--- nothing refuses a transfer that goes ahead, and the pipe is not in reset state
-pub goes-means : (t : Pipes) (i n : ℕ) → goes_ahead t i n ≡ true → Unrefused t i n × ((pipe_at t i).reset ≡ 0)
-unfolding goes_ahead
-goes-means t i n e =
-    let a = both-means (eqb (pipe_refusal t i n) 0) (eqb (pipe_at t i).reset 0) e in
-    (unrefused t i n (eqb-true (pipe_refusal t i n) 0 a.0), eqb-true (pipe_at t i).reset 0 a.1)
-
 -- bytes of a slice that has them are carried, though the slice may be empty
 pub carried-out : (k : ℕ) (s d : List ℕ) (p : ℕ) → k ≤ length s → p < length d → carried_between k s 0 d p ≡ carried k s 0 d p
 unfolding carried
@@ -71,23 +70,52 @@ carried-in k s d q h l =
 
 -- ---- in the form in which code meets them
 
-pub at-work : (t : Pipes) (i n : ℕ) → goes_ahead t i n ≡ true → (p : Pipe) → p ≡ pipe_at t i → Fitting p.positions n × (1 ≤ n) × (n ≤ 256)
-at-work t i n h p e = let g = (goes-means t i n h).0 in rw e (g.fits, g.some, g.long)
+-- a refusal stops a transfer, and so does the reset state
+module _ (t : Pipes) (i n : ℕ) where
+  pub refused : (why : Refusal) → number why ≡ pipe_refusal t i n → (goes_ahead t i n ≡ false) × (told_moved t (Err why) ≡ stopped t i n)
+  unfolding goes_ahead stopped
+  refused why e =
+      let no : eqb (number why) 0 ≡ false = ne_eqb (number why) 0 (λ z. omega (arith, number-some why, z)) in
+      rw (← e, no) (refl, refl)
 
--- a transfer that goes ahead, with k bytes, leaves e of what it writes to
-module _ (t : Pipes) (i : ℕ) (b l : List ℕ) (h : goes_ahead t i (length b) ≡ true) (p : Pipe) (ep : p ≡ pipe_at t i) (k : ℕ) (e : List ℕ) (m : Moved) where
-  pub write_goes : k ≡ smaller_of (length l) (length b - p.positions.count) → e ≡ carried_between k l 0 b p.positions.write
+  module _ (p : Pipe) (e : 0 ≡ pipe_refusal t i n) (ep : p ≡ pipe_at t i) where
+    pub in-reset : p.reset ≢ 0 → (goes_ahead t i n ≡ false) × (told_moved t (Ok (record { pipes = t; moved = was_reset })) ≡ stopped t i n)
+    unfolding goes_ahead stopped
+    in-reset h = rw (← e, ← ep, ne_eqb p.reset 0 h) (refl, refl)
+
+    pub ahead : p.reset ≡ 0 → goes_ahead t i n ≡ true
+    unfolding goes_ahead
+    ahead h = rw (← e, ← ep, h) refl
+
+    pub at-work : Fitting p.positions n × (1 ≤ n) × (n ≤ 256)
+    at-work = let g = unrefused t i n (sym e) in rw ep (g.fits, g.some, g.long)
+
+-- what is stopped leaves what it would write to as it was
+module _ (t : Pipes) (i : ℕ) (b l : List ℕ) (h : goes_ahead t i (length b) ≡ false) (m : Moved) (e : m ≡ stopped t i (length b)) where
+  pub write-stops : (m ≡ write_answer t i (length b) (length l)) × (b ≡ buffer_written t i b l)
+  unfolding write_answer buffer_written
+  write-stops = rw h (e, refl)
+
+  pub read-stops : (m ≡ read_answer t i (length b) (length l)) × (l ≡ target_read t i b l)
+  unfolding read_answer target_read
+  read-stops = rw h (e, refl)
+
+-- one that goes ahead, with k bytes, leaves e of what it writes to
+module _ (t : Pipes) (i : ℕ) (b l : List ℕ) (p : Pipe) (e0 : 0 ≡ pipe_refusal t i (length b)) (ep : p ≡ pipe_at t i) (r : p.reset ≡ 0) (k : ℕ) (e : List ℕ) (m : Moved) where
+  pub write_goes : k ≡ min (length l) (length b - p.positions.count) → e ≡ carried_between k l 0 b p.positions.write
       → m ≡ gone_on t i (filled p.positions (length b) k) k → (m ≡ write_answer t i (length b) (length l)) × (e ≡ buffer_written t i b l)
   unfolding write_answer buffer_written
   write_goes ek ee em =
-      let few = (least (length l) (length b - p.positions.count) k ek).first in
-      let bytes = ee ∙ carried-out k l b p.positions.write few (at-work t i (length b) h p ep).0.write in
-      (rw h (em ∙ rw (ek, ep)), rw h (bytes ∙ rw (ek, ep)))
+      let few = (least-min (length l) (length b - p.positions.count) k ek).first in
+      let bytes = ee ∙ carried-out k l b p.positions.write few (at-work t i (length b) p e0 ep).0.write in
+      let es = ek ∙ smaller-min (length l) (length b - p.positions.count) in
+      rw (ahead t i (length b) p e0 ep r) (em ∙ rw (es, ep), bytes ∙ rw (es, ep))
 
-  pub read_goes : k ≡ smaller_of (length l) p.positions.count → e ≡ carried_between k b p.positions.read l 0
+  pub read_goes : k ≡ min (length l) p.positions.count → e ≡ carried_between k b p.positions.read l 0
       → m ≡ gone_on t i (drained p.positions (length b) k) k → (m ≡ read_answer t i (length b) (length l)) × (e ≡ target_read t i b l)
   unfolding read_answer target_read
   read_goes ek ee em =
-      let few = (least (length l) p.positions.count k ek).first in
-      let bytes = ee ∙ carried-in k b l p.positions.read few (at-work t i (length b) h p ep).0.read in
-      (rw h (em ∙ rw (ek, ep)), rw h (bytes ∙ rw (ek, ep)))
+      let few = (least-min (length l) p.positions.count k ek).first in
+      let bytes = ee ∙ carried-in k b l p.positions.read few (at-work t i (length b) p e0 ep).0.read in
+      let es = ek ∙ smaller-min (length l) p.positions.count in
+      rw (ahead t i (length b) p e0 ep r) (em ∙ rw (es, ep), bytes ∙ rw (es, ep))

@@ -1,7 +1,7 @@
 -- Pipes set up fresh, reset and resumed. A refusal leaves the table as it was.
 use Rattle.std.specs.Prelude.{ℕ, cond, eqb, leb, replicate}
 use Rattle.pipes.specs.declared.table.Pipes.{Pipes}
-use Rattle.pipes.specs.declared.opening.Opened.{Opened}
+use Rattle.pipes.specs.Told.{Opened}
 use Rattle.pipes.specs.Table.{blank_pipe, pipe_at, with_pipe}
 use Rattle.pipes.specs.Judging.{pipe_refusal}
 

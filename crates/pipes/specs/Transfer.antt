@@ -3,7 +3,7 @@ use Rattle.std.specs.Prelude.{ℕ, ◌+◌, ◌-◌, Bool, cond, ◌&&◌, List,
 use Rattle.kernel.specs.Numbers.{was_reset}
 use Rattle.library.specs.declared.ring.Positions.{Positions}
 use Rattle.pipes.specs.declared.table.Pipes.{Pipes}
-use Rattle.pipes.specs.declared.transfer.Moved.{Moved}
+use Rattle.pipes.specs.Told.{Moved}
 use Rattle.pipes.specs.Carrying.{smaller_of, ring_place, carried}
 use Rattle.pipes.specs.Table.{pipe_at, with_pipe}
 use Rattle.pipes.specs.Judging.{pipe_refusal}

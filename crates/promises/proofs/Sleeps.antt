@@ -1,8 +1,7 @@
 -- DEMAND 3 a, of sleeps, from the step in which they begin and from fresh tables: what rests on `sleep-ends` (Top.Demands). It stands apart from the
 -- other theorems so that an edit of that statement is refused for itself.
-use Rattle.std.specs.Prelude.{ℕ, ◌≤◌, ◌<◌, ◌≡◌, ◌≢◌, List}
+use Rattle.std.specs.Prelude.{ℕ, ◌≤◌, ◌<◌, ◌≡◌, ◌≢◌, List, Option}
 use Rattle.kernel.specs.declared.clock.Clock.{Clock}
-use Rattle.kernel.specs.declared.units.Rate.{Rate}
 use Rattle.library.specs.declared.calls.Step.{Step}
 use Rattle.library.specs.declared.sizes.Sizes.{Sizes}
 use Rattle.library.specs.declared.tables.Tables.{Tables}
@@ -33,7 +32,7 @@ module _ (t : Tables) (c : Clock) (g : Going t c) (s : Step) (h : HostStep s) (a
 
 -- ---- from fresh tables of the sizes y, after any steps xs, over any steps ss
 
-module _ (y : Sizes) (r : Rate) (legal : Legal y r) (xs : List Step) (hx : HostSteps xs) where
+module _ (y : Sizes) (r : Option ℕ) (legal : Legal y r) (xs : List Step) (hx : HostSteps xs) where
   abbrev pub t₁ : Tables
   t₁ = (fresh_ran y r xs).tables
 

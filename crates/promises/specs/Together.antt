@@ -6,3 +6,4 @@ pub mod PlaceTests
 pub mod BoxTests
 pub mod WordTests
 pub mod Hanging
+pub mod Found

@@ -3,19 +3,23 @@
 // their threads woke, and for the writer what document 01's words give.
 #![tactic(auto)]
 
-use kernel::kinds::TICK;
+use kernel::kinds::Kind;
+use kernel::refusals::Refusal;
 use library::calls::Step;
 use library::sizes::Sizes;
 use std::io;
 use std::io::Write;
 use text::files::show_all;
 use text::views::View;
-use trace::writer::{Written, write_sizes, write_step};
+use trace::writer::{write_sizes, write_step};
 
-fn print_written<W: Write>(sink: &mut W, w: Written) -> io::Result<()> {
+fn print_written<W: Write>(sink: &mut W, w: Result<usize, Refusal>) -> io::Result<()> {
     match w {
-        Written::Upto(end) => writeln!(sink, "written up to {end}"),
-        Written::Refused(code) => writeln!(sink, "refused {code}"),
+        Ok(end) => writeln!(sink, "written up to {end}"),
+        Err(why) => {
+            let code = why as u8;
+            writeln!(sink, "refused {code}")
+        }
     }
 }
 
@@ -45,7 +49,7 @@ fn put_tick<W: Write>(sink: &mut W, short: bool, at: usize) -> io::Result<()> {
     let mut few = [0u8; 22];
     let mut many = [0u8; 60001];
     let s = Step {
-        kind: TICK,
+        kind: Kind::Tick as u8,
         caller: 255,
         object: 0,
         a: 0,

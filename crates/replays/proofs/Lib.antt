@@ -1,3 +1,4 @@
 -- What the proofs share.
 pub mod ReplayLaws
+pub mod ToldLaws
 pub mod Unique

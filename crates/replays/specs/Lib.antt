@@ -1,2 +1,3 @@
 -- The meanings that the contracts cite.
 pub mod Replaying
+pub mod Told

@@ -1,21 +1,23 @@
 -- A TRACE REPLAYED: its steps made from fresh tables, up to its end or a bad record.
-use Rattle.std.specs.Prelude.{ℕ, zero, suc, true, false, cond, List}
+use Rattle.std.specs.Prelude.{ℕ, zero, suc, true, false, cond, List, Some}
 use Rattle.compare.specs.declared.cells.Kept.{Kept}
 use Rattle.library.specs.declared.calls.Step.{Step}
 use Rattle.library.specs.declared.sizes.Sizes.{Sizes}
-use Rattle.kernel.specs.declared.units.Rate.TheVariants.{Given}
 use Rattle.library.specs.Sizes.{no_sizes}
 use Rattle.library.specs.Fresh.{made}
 use Rattle.steps.specs.Stepping.{stepped}
-use Rattle.trace.specs.declared.decoding.Read.{Read}
-use Rattle.trace.specs.declared.decoding.Found.{Found}
-use Rattle.trace.specs.declared.decoding.Found.TheVariants as found
+use Rattle.trace.specs.Told.{Found, Read}
 use Rattle.trace.specs.Decoding.{next_read}
-use Rattle.replays.specs.declared.replaying.Replayed.{Replayed}
+use Rattle.replays.specs.declared.replaying.Replayed as declared
+use Rattle.replays.specs.Told.{Replayed, over, bad_code, bad_number}
+
+-- how a trace under way is told
+abbrev pub told_replayed : declared.Replayed → Replayed
+told_replayed x = record { kept = x.kept; at = x.at; done = over x.end; code = bad_code x.end; number = bad_number x.end }
 
 -- fresh tables at the frequency of what is listed, 1000
 unfoldable pub fresh_kept : Sizes → Kept
-fresh_kept z = record { tables = (made z (Given 1000)).tables; clock = (made z (Given 1000)).clock }
+fresh_kept z = record { tables = (made z (Some 1000)).tables; clock = (made z (Some 1000)).clock }
 
 unfoldable pub kept_after : Kept → Step → Kept
 kept_after a s = record { tables = (stepped a.tables a.clock s).tables; clock = (stepped a.tables a.clock s).clock }
@@ -28,10 +30,10 @@ ended a at code number = record { kept = a; at = at; done = true; code = code; n
 
 -- what is known behind a record that was found, beside these sizes, with the next at a place
 abbrev pub found_on : Replayed → Found → Sizes → ℕ → Replayed
-found_on x found.Opened z next = going (fresh_kept z) next
-found_on x (found.Stepped s) z next = going (kept_after x.kept s) next
-found_on x found.Ended z next = ended x.kept x.at 0 0
-found_on x (found.Refused code number) z next = ended x.kept x.at code number
+found_on x Found.Opened z next = going (fresh_kept z) next
+found_on x (Found.Stepped s) z next = going (kept_after x.kept s) next
+found_on x Found.Ended z next = ended x.kept x.at 0 0
+found_on x (Found.Refused code number) z next = ended x.kept x.at code number
 
 unfoldable pub read_on : Replayed → Read → Replayed
 read_on x r = found_on x r.found r.sizes r.next

@@ -1,11 +1,13 @@
 -- Which rule is broken first: what code has found of the rules so far, and that none is found exactly where the tables hang together.
-use Prim.Native.Nat.{ℕ, zero, suc, ◌+◌, ◌≤◌}
+use Prim.Native.Nat.{ℕ, zero, suc, ◌+◌, ◌≤◌, ◌<◌}
 use native.Mathlib.Omega.{arith}
 use mathlib.Core.Path.{◌≡◌, refl, sym, ap, ◌∙◌}
 use mathlib.Core.Bool.{Bool, true, false, cond, not, ◌&&◌, and-false}
 use lib.Dec.{eqb}
 use lib.ListN.{length}
 use borrow.Author.Tests.{ne_eqb, eqb-true}
+use Rattle.std.specs.Prelude.{Option, None, Some}
+use Rattle.std.specs.Option.{option_or}
 use Rattle.kernel.specs.declared.clock.Clock.{Clock}
 use Rattle.kernel.specs.declared.records.Thread.{Thread}
 use Rattle.kernel.specs.Numbers.{nobody}
@@ -28,7 +30,8 @@ use Rattle.rules.specs.MailboxRules.{mailbox_fits, mailboxes_fit}
 use Rattle.rules.specs.PoolRules.{pool_agrees, pools_fit}
 use Rattle.rules.specs.WordRules.{ready_word, ready_fits, word_agrees, waiting_fits, words_fit}
 use Rattle.rules.specs.Hanging.{hangs_together}
-use Rattle.rules.specs.Finding.{wholly, row_keeps, bad_row, bad_running, bad_at, is_kept, broken_as, broken, bad_cause, or_else, or_row}
+use Rattle.rules.specs.Finding.{wholly, row_keeps, bad_row, bad_running, bad_at, is_kept, broken_as, broken, bad_cause, or_else}
+use Rattle.rules.specs.Options.{told_row, told_broken, broken_by, broken_record}
 use Rattle.rules.proofs.HangingLaws.{none-fails, none-bad, used-of-le}
 
 -- whether a rule is broken
@@ -44,15 +47,41 @@ unfoldable pub found_to : Plant → Clock → ℕ → Broken
 found_to p clock zero = nothing
 found_to p clock (suc n) = or_else (found_to p clock n) (suc n) (bad_at p clock (suc n))
 
--- one rule more: found is what the code had, row what it found of the rule
-pub found_none : (p : Plant) (clock : Clock) → nothing ≡ found_to p clock 0
-unfolding found_to
-found_none p clock = refl
+-- ---- as the code tells it: none where the meanings have a number for it
 
-pub found-next : (p : Plant) (clock : Clock) (n : ℕ) (found : Broken) (row : ℕ) → found ≡ found_to p clock n → row ≡ bad_at p clock (suc n)
-    → or_else found (suc n) row ≡ found_to p clock (suc n)
+pub or-none : (o : Option Broken) → option_or o None ≡ o
+or-none None = refl
+or-none (Some b) = refl
+
+or-chain : (a b c d e f : Option Broken)
+    → option_or a (option_or (option_or (option_or (option_or b c) d) e) f) ≡ option_or (option_or (option_or (option_or (option_or a b) c) d) e) f
+or-chain None b c d e f = refl
+or-chain (Some a) b c d e f = refl
+
+-- what was found before, or else the next rule
+told-or : (b : Broken) (rule row : ℕ) → 0 < rule → option_or (told_broken b) (broken_by rule (told_row row)) ≡ told_broken (or_else b rule row)
+unfolding or_else
+told-or b rule row h =
+    split (eqb b.rule 0)
+    (λ e. rw e (split (eqb row nobody) (λ t. rw (t, e)) (λ t. rw (t, ne_eqb rule 0 (λ q. omega arith)))))
+    (λ e. rw e (rw e))
+
+pub told_none : (p : Plant) (clock : Clock) → None ≡ told_broken (found_to p clock 0)
 unfolding found_to
-found-next p clock n found row e f = rw (e, f)
+told_none p clock = refl
+
+-- what is told by an option is what the meaning has; none is told of rule 0
+pub told_some : (x b : Broken) → Some b ≡ told_broken x → b ≡ x
+told_some x b = split (eqb x.rule 0) (λ t. rw t (λ e. cc)) (λ t. rw t (λ e. cc))
+
+pub told_nothing : (x : Broken) → None ≡ told_broken x → x.rule ≡ 0
+told_nothing x = split (eqb x.rule 0) (λ t. λ e. eqb-true x.rule 0 t) (λ t. rw t (λ e. cc))
+
+-- one rule more: found is what the code had, row what it found of the rule
+pub told-next : (p : Plant) (clock : Clock) (n : ℕ) (found x : Option Broken) (row : Option ℕ) → found ≡ told_broken (found_to p clock n)
+    → x ≡ broken_by (suc n) row → row ≡ told_row (bad_at p clock (suc n)) → option_or found x ≡ told_broken (found_to p clock (suc n))
+unfolding found_to
+told-next p clock n found x row e g f = rw (e, g, f) (told-or (found_to p clock n) (suc n) (bad_at p clock (suc n)) (omega arith))
 
 -- a search finds nothing before the place where it begins
 at_least : (f : ℕ → Bool) (i n : ℕ) → i ≤ 255 → i + n ≤ 255 → i ≤ first_from f i n
@@ -327,11 +356,18 @@ module _ (p : Plant) (clock : Clock) where
   kept-finds rule found e = rw (rows-kept p clock rule ∙ e, and-false (eqb found.rule 0))
 
   -- the five of them at once: none is broken where all records fit
-  pub found_rows : length p.kernel.threads ≡ 16 → (found : Broken) (fit : Bool) → found ≡ found_to p clock 6 → fit ≡ rows_fit p.kernel p.sizes
-      → or_row found fit p.kernel.threads p.sizes ≡ found_to p clock 11
-  unfolding or_row found_to bad_at
-  found_rows sized found fit e f =
-      rw e
+  pub told-rows : length p.kernel.threads ≡ 16 → (found x : Option Broken) (fit : Bool) → found ≡ told_broken (found_to p clock 6)
+      → x ≡ broken_record fit p.kernel.threads p.sizes → fit ≡ rows_fit p.kernel p.sizes → option_or found x ≡ told_broken (found_to p clock 11)
+  unfolding broken_record found_to bad_at
+  told-rows sized found x fit e g f =
+      let row : ℕ → ℕ = bad_row p.kernel.threads p.sizes in
+      let by : ℕ → Option Broken = λ rule. broken_by rule (told_row (row rule)) in
+      let b6 = found_to p clock 6 in
+      let b7 = or_else b6 7 (row 7) in
+      let b8 = or_else b7 8 (row 8) in
+      let b9 = or_else b8 9 (row 9) in
+      let b10 = or_else b9 10 (row 10) in
+      rw (e, g)
       (split fit
       (λ t.
       let all = sym (records-kept p clock sized) ∙ (sym f ∙ t) in
@@ -347,8 +383,16 @@ module _ (p : Plant) (clock : Clock) where
         kept-finds 9 (found_to p clock 6) wait.0,
         kept-finds 10 (found_to p clock 6) flags.0,
         kept-finds 11 (found_to p clock 6) flags.1,
-      ))
-      (λ t. rw t))
+      )
+      (or-none (told_broken b6)))
+      (λ t.
+      rw t
+      (or-chain (told_broken b6) (by 7) (by 8) (by 9) (by 10) (by 11)
+      ∙ (ap (λ (o : Option Broken). option_or (option_or (option_or (option_or o (by 8)) (by 9)) (by 10)) (by 11)) (told-or b6 7 (row 7) (omega arith))
+      ∙ (ap (λ (o : Option Broken). option_or (option_or (option_or o (by 9)) (by 10)) (by 11)) (told-or b7 8 (row 8) (omega arith))
+      ∙ (ap (λ (o : Option Broken). option_or (option_or o (by 10)) (by 11)) (told-or b8 9 (row 9) (omega arith))
+      ∙ (ap (λ (o : Option Broken). option_or o (by 11)) (told-or b9 10 (row 10) (omega arith))
+      ∙ told-or b10 11 (row 11) (omega arith))))))))
 
   -- nor is the rule of causes
   pub cause-row : length p.kernel.threads ≡ 16 → (fit : Bool) → fit ≡ rows_fit p.kernel p.sizes

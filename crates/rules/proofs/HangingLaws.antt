@@ -7,15 +7,16 @@ use mathlib.Core.Path.{◌≡◌, refl, sym, ap, ◌∙◌}
 use mathlib.Core.Bool.{Bool, true, false, cond, not, ◌&&◌}
 use mathlib.Core.List.{List}
 use lib.Dec.{eqb, ltb}
-use lib.IntN.{ℤ, pos, negsuc}
+use lib.IntN.{pos}
 use lib.ListN.{length, get_or, set, replicate, length-set, length-replicate}
 use lib.Pow.{pow_mono}
 use lib.Seq.{get_or-set_same, get_or-set_other}
-use borrow.Author.Tests.{lt-ltb, ltb-true, eqb-true, eqb-false, ne_eqb, not-true, not-false}
+use borrow.Author.Tests.{ltb-true, eqb-true, eqb-false, ne_eqb, not-true, not-false}
+use Rattle.std.specs.Prelude.{is_some, None, Some}
 use Rattle.kernel.specs.Numbers.{nobody}
 use Rattle.kernel.specs.Walk.{first_from, all_from, count_of}
 use Rattle.kernel.specs.Words.{word_of, ones_of}
-use Rattle.kernel.proofs.Cases.{split, contrary, both-means}
+use Rattle.kernel.proofs.Cases.{split}
 use Rattle.kernel.proofs.WalkLaws.{search-agree, count-le, count_none}
 use Rattle.kernel.proofs.WordsLaws.{word_more, word_lt}
 use Rattle.kernel.proofs.Loops.{first-here, first_next, all-fails, all-next, count-more}
@@ -32,28 +33,10 @@ used-of-le e rows n same = rw same (go (ltb n rows) refl)
     go true t = rw t (omega (arith, ltb-true n rows t))
     go false t = rw t (omega arith)
 
--- what is asked of a place in use: it passes, or the place is not in use; u is what a callee gave
-pub passes-anyway : (u e : Bool) → e ≡ true → ◌≡◌ {A = Bool} true (cond u e true)
-passes-anyway true e h = sym h
-passes-anyway false e h = refl
-
-pub passes-unused : (r u e : Bool) → r ≡ u → e ≡ false → not r ≡ cond u e true
-passes-unused r true e s h = rw (s, h)
-passes-unused r false e s h = rw s
-
--- an empty word names nobody
-pub no_ones : ones_of 0 ≡ 0
-unfolding ones_of count_of
-no_ones = refl
-
 -- a place at which nobody is queued and whose counter is 0 fits, in use or not
-pub idle-fits : (z : Sizes) (p : ℕ) (c : ℤ) → same c (pos 0) ≡ true → place_fits z p c 0 ≡ true
-idle-fits z p (pos zero) h =
-    split (in_use z p) (λ e. rw e (split (ltb p 20) (λ t. rw t) (λ t. rw t))) (λ e. rw e)
-idle-fits z p (pos (suc n)) h =
-    contrary (lt-ltb 0 (suc n) (omega arith))
-    (not-true (ltb 0 (suc n)) (both-means (not (ltb (suc n) 0)) (not (ltb 0 (suc n))) h).1)
-idle-fits z p (negsuc n) h = contrary h refl
+pub idle_fits : (z : Sizes) (p : ℕ) → place_fits z p (pos 0) (ones_of 0) ≡ true
+unfolding ones_of count_of
+idle_fits z p = split (in_use z p) (λ e. rw e (split (ltb p 20) (λ t. rw t) (λ t. rw t))) (λ e. rw e)
 
 -- what a callee gave, r, is the test b; the code has tested that it is not r
 pub passed : {r b : Bool} → r ≡ b → not r ≡ false → b ≡ true
@@ -84,6 +67,13 @@ none-fails f i zero h = refl
 none-fails f i (suc n) h =
     split (f i) (λ e. rw e (none-fails f (suc i) n (omega arith)))
     (λ e. rw e (ne_eqb i nobody (λ q. omega arith)))
+
+-- an option that is none exactly if t says so; b is what was asked of it
+pub none-asked : {A : Type 0} (t b : Bool) (x : A) → is_some (cond t None (Some x)) ≡ not b → b ≡ t
+none-asked true true x e = refl
+none-asked true false x e = e
+none-asked false true x e = e
+none-asked false false x e = refl
 
 -- what such a search gives, r, is nobody exactly if all of the n pass
 pub none-bad : (f : ℕ → Bool) (n r : ℕ) → n ≤ 255 → r ≡ first_bad f n → eqb r nobody ≡ all_from f 0 n

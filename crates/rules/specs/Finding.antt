@@ -74,13 +74,3 @@ broken p clock = broken_as p clock (first_from (λ rule. not (is_kept p clock ru
 -- what was found before; where that is nothing, a row that breaks the next rule
 unfoldable pub or_else : Broken → ℕ → ℕ → Broken
 or_else found rule row = cond (eqb found.rule 0 && not (eqb row nobody)) (record { rule = rule; row = row }) found
-
--- the same for the rules of a record that document 01 has, none of which is broken where all records fit
-unfoldable pub or_row : Broken → Bool → List Thread → Sizes → Broken
-or_row found fit threads z =
-    cond fit found
-    (or_else
-    (or_else
-    (or_else (or_else (or_else found 7 (bad_row threads z 7)) 8 (bad_row threads z 8)) 9 (bad_row threads z 9))
-    10 (bad_row threads z 10))
-    11 (bad_row threads z 11))

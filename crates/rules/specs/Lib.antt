@@ -9,3 +9,4 @@ pub mod WordRules
 pub mod Walking
 pub mod Hanging
 pub mod Finding
+pub mod Options

@@ -12,5 +12,5 @@ pub fn hangs_together(t: Tables, clock: Clock) -> bool
     ensures { result ≡ hangs_together (opened t) clock }
 {
     let found = find_broken(t, clock);
-    found.rule == 0
+    found.is_none()
 }

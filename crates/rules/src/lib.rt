@@ -10,5 +10,6 @@ pub mod place_rules;
 pub mod pool_rules;
 pub mod reference_rules;
 pub mod row_rules;
+pub mod searching;
 pub mod walking;
 pub mod word_rules;

@@ -1,9 +1,6 @@
-// How many rows of a table are in use, and the number that no row has. No size leads past a table's end, whatever a damaged configuration says.
+// How many rows of a table are in use. No size leads past a table's end, whatever a damaged configuration says.
 ghost use Rattle.std.specs.Prelude.{◌≡◌};
 ghost use Rattle.rules.specs.Limits.{used_of};
-
-// Where a search for a row finds none.
-pub const NO_ROW: u16 = 255;
 
 // n, or all the rows that there are.
 pub fn used_of(rows: u16, n: u16) -> u16

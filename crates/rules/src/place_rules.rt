@@ -2,12 +2,13 @@
 ghost use Rattle.std.specs.Prelude.{◌≡◌};
 ghost use Rattle.kernel.specs.Words.{ones_of};
 ghost use Rattle.rules.specs.PlaceRules.{in_use, queue_of, is_idle, counter_fits, place_fits, bad_counter};
+ghost use Rattle.rules.specs.Options.{told_row};
 
-use crate::limits::NO_ROW;
-use kernel::numbers::QUEUED;
+use crate::searching::first_failing;
 use kernel::records::Thread;
+use kernel::states::State;
 use kernel::words::count_in;
-use library::signs::{is_same, negative};
+use library::signs::negative;
 use library::sizes::Sizes;
 
 // Whether the sizes put a place to use.
@@ -31,7 +32,11 @@ pub fn in_use(z: Sizes, p: u16) -> bool
 pub fn queue_of(t: Thread) -> u16
     ensures { result ≡ queue_of t }
 {
-    if t.state == QUEUED { t.place } else { 36 }
+    if t.state == State::Queued as u16 {
+        t.place
+    } else {
+        36
+    }
 }
 
 // A semaphore, or a pool's, at which nobody is queued.
@@ -48,7 +53,7 @@ fn counter_fits(p: u16, c: i32, n: u16) -> bool
     if is_idle(p, n) {
         !(c < 0)
     } else {
-        is_same(c, negative(n))
+        c == negative(n)
     }
 }
 
@@ -63,30 +68,19 @@ fn place_fits(z: Sizes, p: u16, c: i32, n: u16) -> bool
 }
 
 // The same by the word of those who are queued. Where nobody is and the counter is 0 it fits, in use or not.
-#[tactic(auto, unfolding(kernel::specs::Words::ones_of))]
+#[tactic(auto, using(crate::proofs::HangingLaws::idle_fits))]
 fn word_counted(z: Sizes, p: u16, c: i32, word: u16) -> bool
     ensures { result ≡ place_fits z p c (ones_of word) }
 {
-    if word == 0 {
-        if is_same(c, 0) {
-            return true;
-        }
-    }
-    place_fits(z, p, c, count_in(word) as u16)
+    word == 0 && c == 0 || place_fits(z, p, c, count_in(word) as u16)
 }
 
-// The first place whose counter does not agree with the threads queued there, or NO_ROW; they are as many as its word has ones.
-pub fn first_bad_place(counters: [i32; 36], waiting: [u16; 36], z: Sizes) -> u16
-    ensures { result ≡ bad_counter counters waiting z }
+// The first place whose counter does not agree with the threads queued there; they are as many as its word has ones.
+pub fn first_bad_place(counters: [i32; 36], waiting: [u16; 36], z: Sizes) -> Option<u16>
+    ensures { result ≡ told_row (bad_counter counters waiting z) }
 {
-    let mut p: u16 = 0;
-    while p < 36 {
-        let c = counters[p as usize];
-        let word = waiting[p as usize];
-        if !word_counted(z, p, c, word) {
-            return p;
-        }
-        p += 1;
-    }
-    NO_ROW
+    first_failing(
+        36,
+        |p| word_counted(z, p, counters[p as usize], waiting[p as usize]),
+    )
 }

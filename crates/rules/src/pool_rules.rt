@@ -13,16 +13,18 @@ ghost use Rattle.rules.specs.PoolRules.{
   pool_fits,
   bad_stock,
 };
+ghost use Rattle.rules.specs.Options.{told_row};
 
-use crate::limits::{NO_ROW, used_of};
-use kernel::kinds::KEPT_ALLOC;
-use kernel::numbers::{OK, READY};
+use crate::limits::used_of;
+use crate::searching::{all_fit, first_failing};
+use kernel::kinds::Kind;
+use kernel::numbers::OK;
 use kernel::places::pool_place;
 use kernel::records::Thread;
+use kernel::states::State;
 use kernel::words::count_in;
-use library::logic::both;
 use library::numbers::{FREE_MARK, OUT};
-use library::signs::{is_same, less};
+use library::signs::less;
 use library::sizes::Sizes;
 use library::tables::Pool;
 
@@ -31,7 +33,7 @@ fn is_promised(t: Thread) -> bool
     ensures { result ≡ is_promised t }
 {
     let call = t.call;
-    t.state == READY && (call.kind == KEPT_ALLOC && is_same(t.message, OK))
+    t.state == State::Ready as u16 && (call.kind == Kind::Alloc as u16 && t.message == OK)
 }
 
 // The pool that has promised a thread an object; past all pools where none has.
@@ -47,15 +49,12 @@ pub fn pool_of(t: Thread) -> u16
 fn count_listed(x: Pool) -> [u16; 32]
     ensures { (o : ℕ) → o < 32 → get_or result o 0 ≡ occurrences x o }
 {
-    let end = used_of(32, x.length);
     let mut counts = [0; 32];
-    let mut j: u16 = 0;
-    while j < end {
+    for j in 0..used_of(32, x.length) {
         let at = x.list[j as usize] as usize;
         if at < 32 {
-            counts[at] = counts[at] + 1;
+            counts[at] += 1;
         }
-        j += 1;
     }
     counts
 }
@@ -65,16 +64,7 @@ fn count_listed(x: Pool) -> [u16; 32]
 fn entries_fit(x: Pool) -> bool
     ensures { result ≡ entries_fit x }
 {
-    let end = used_of(32, x.length);
-    let mut j: u16 = 0;
-    while j < end {
-        let o = x.list[j as usize];
-        if 32 <= o {
-            return false;
-        }
-        j += 1;
-    }
-    true
+    all_fit(used_of(32, x.length), |j| x.list[j as usize] < 32)
 }
 
 // Whether an object with this mark may be listed n times: a free one once, any other not at all.
@@ -84,7 +74,7 @@ fn object_fits(mark: u8, n: u16) -> bool
     if mark == FREE_MARK {
         n == 1
     } else {
-        both(mark <= OUT, n == 0)
+        mark <= OUT && n == 0
     }
 }
 
@@ -94,13 +84,10 @@ fn objects_fit(x: Pool) -> bool
     ensures { result ≡ objects_fit x }
 {
     let counts = count_listed(x);
+    // a loop and not `all_fit`: a search that leaves at the first object made a step with all objects a tenth slower
     let mut fits = true;
-    let mut o: usize = 0;
-    while o < 32 {
-        let mark = x.marks[o];
-        let n = counts[o];
-        fits = both(fits, object_fits(mark, n));
-        o += 1;
+    for o in 0..32usize {
+        fits &= object_fits(x.marks[o], counts[o]);
     }
     fits
 }
@@ -116,7 +103,7 @@ fn larger(c: i32) -> i32
 fn length_fits(length: u16, c: i32, promised: u16) -> bool
     ensures { result ≡ length_fits length c promised }
 {
-    is_same(larger(c), less(length, promised))
+    larger(c) == less(length, promised)
 }
 
 // Whether a pool with this counter and so many promises hangs together.
@@ -127,20 +114,17 @@ fn pool_fits(x: Pool, c: i32, promised: u16) -> bool
     x.length <= 32 && (length_fits(x.length, c, promised) && (entries_fit(x) && objects_fit(x)))
 }
 
-// The first pool that does not hang together, or NO_ROW; as many objects are promised as its word has ones.
-pub fn first_bad_pool(pools: [Pool; 4], counters: [i32; 36], promised: [u16; 4], z: Sizes) -> u16
-    ensures { result ≡ bad_stock pools counters promised z }
+// The first pool that does not hang together; as many objects are promised as its word has ones.
+pub fn first_bad_pool(
+    pools: [Pool; 4],
+    counters: [i32; 36],
+    promised: [u16; 4],
+    z: Sizes,
+) -> Option<u16>
+    ensures { result ≡ told_row (bad_stock pools counters promised z) }
 {
-    let end = used_of(4, z.pools);
-    let mut q: u16 = 0;
-    while q < end {
-        let x = pools[q as usize];
+    first_failing(used_of(4, z.pools), |q| {
         let c = counters[pool_place(q) as usize];
-        let word = promised[q as usize];
-        if !pool_fits(x, c, count_in(word) as u16) {
-            return q;
-        }
-        q += 1;
-    }
-    NO_ROW
+        pool_fits(pools[q as usize], c, count_in(promised[q as usize]) as u16)
+    })
 }

@@ -21,15 +21,12 @@ ghost use Rattle.rules.specs.RowRules.{
   row_fits,
 };
 
-use kernel::kinds::{
-    KEPT_ALLOC, KEPT_EVENT_WAIT, KEPT_FETCH, KEPT_NONE, KEPT_POST, KEPT_POST_AHEAD,
-    KEPT_QUEUE_WAIT, KEPT_SEMAPHORE_WAIT, KEPT_SLEEP_FOR, KEPT_SLEEP_UNTIL, KEPT_SUSPEND,
-};
-use kernel::numbers::{
-    AWAITING, CAUSE_TICK, INFINITE, NOWHERE, QUEUED, READY, SLEEPING, SUSPENDED,
-};
+use kernel::causes::Cause;
+use kernel::kinds::{Kind, NO_CALL};
+use kernel::numbers::{INFINITE, NOWHERE};
 use kernel::places::{pool_place, queue_place, readers_place, semaphore_place, writers_place};
 use kernel::records::{Call, Thread};
+use kernel::states::State;
 use library::calls::keeps_operand;
 use library::sizes::Sizes;
 
@@ -37,35 +34,35 @@ use library::sizes::Sizes;
 fn is_sleep(kind: u16) -> bool
     ensures { result ≡ is_sleep kind }
 {
-    kind == KEPT_SLEEP_FOR || kind == KEPT_SLEEP_UNTIL
+    kind == Kind::SleepFor as u16 || kind == Kind::SleepUntil as u16
 }
 
 fn is_post(kind: u16) -> bool
     ensures { result ≡ is_post kind }
 {
-    kind == KEPT_POST || kind == KEPT_POST_AHEAD
+    kind == Kind::Post as u16 || kind == Kind::PostAhead as u16
 }
 
 // A wait at a mailbox.
 fn is_mailing(kind: u16) -> bool
     ensures { result ≡ is_mailing kind }
 {
-    is_post(kind) || kind == KEPT_FETCH
+    is_post(kind) || kind == Kind::Fetch as u16
 }
 
 // A wait at a counter's place.
 fn is_queueing(kind: u16) -> bool
     ensures { result ≡ is_queueing kind }
 {
-    kind == KEPT_SEMAPHORE_WAIT
-        || (kind == KEPT_QUEUE_WAIT || (is_mailing(kind) || kind == KEPT_ALLOC))
+    kind == Kind::SemaphoreWait as u16
+        || (kind == Kind::QueueWait as u16 || (is_mailing(kind) || kind == Kind::Alloc as u16))
 }
 
 // A wait that is on no object.
 fn is_alone(kind: u16) -> bool
     ensures { result ≡ is_alone kind }
 {
-    is_sleep(kind) || kind == KEPT_EVENT_WAIT
+    is_sleep(kind) || kind == Kind::EventWait as u16
 }
 
 // How many objects there are for an unfinished call: 1 stands for the object 0 of a call that has none, 0 for a kind that
@@ -73,17 +70,17 @@ fn is_alone(kind: u16) -> bool
 fn call_limit(z: Sizes, kind: u16) -> u16
     ensures { result ≡ call_limit z kind }
 {
-    if kind == KEPT_SEMAPHORE_WAIT {
+    if kind == Kind::SemaphoreWait as u16 {
         z.semaphores
-    } else if kind == KEPT_QUEUE_WAIT {
+    } else if kind == Kind::QueueWait as u16 {
         z.queues
-    } else if kind == KEPT_SUSPEND {
+    } else if kind == Kind::Suspend as u16 {
         z.references
     } else if is_alone(kind) {
         1
     } else if is_mailing(kind) {
         z.mailboxes
-    } else if kind == KEPT_ALLOC {
+    } else if kind == Kind::Alloc as u16 {
         z.pools
     } else {
         0
@@ -111,27 +108,27 @@ pub fn call_fits(t: Thread, z: Sizes) -> bool
     ensures { result ≡ call_fits t z }
 {
     let call = t.call;
-    if call.kind == KEPT_NONE {
+    if call.kind == NO_CALL {
         is_clear(call)
     } else {
         is_sound(call, z)
     }
 }
 
-// The state in which a call of this kind sleeps; READY for a kind that never does, which fits no thread that is not ready.
+// The state in which a call of this kind sleeps; ready for a kind that never does, which fits no thread that is not ready.
 fn wait_state(kind: u16) -> u16
     ensures { result ≡ wait_state kind }
 {
     if is_queueing(kind) {
-        QUEUED
-    } else if kind == KEPT_SUSPEND {
-        SUSPENDED
+        State::Queued as u16
+    } else if kind == Kind::Suspend as u16 {
+        State::Suspended as u16
     } else if is_sleep(kind) {
-        SLEEPING
-    } else if kind == KEPT_EVENT_WAIT {
-        AWAITING
+        State::Sleeping as u16
+    } else if kind == Kind::EventWait as u16 {
+        State::Awaiting as u16
     } else {
-        READY
+        State::Ready as u16
     }
 }
 
@@ -139,17 +136,17 @@ fn wait_state(kind: u16) -> u16
 fn wait_place(kind: u16, object: u16) -> u16
     ensures { result ≡ wait_place kind object }
 {
-    if kind == KEPT_SEMAPHORE_WAIT {
+    if kind == Kind::SemaphoreWait as u16 {
         semaphore_place(object)
-    } else if kind == KEPT_QUEUE_WAIT {
+    } else if kind == Kind::QueueWait as u16 {
         queue_place(object)
-    } else if kind == KEPT_SUSPEND {
+    } else if kind == Kind::Suspend as u16 {
         object
     } else if is_post(kind) {
         writers_place(object)
-    } else if kind == KEPT_FETCH {
+    } else if kind == Kind::Fetch as u16 {
         readers_place(object)
-    } else if kind == KEPT_ALLOC {
+    } else if kind == Kind::Alloc as u16 {
         pool_place(object)
     } else {
         NOWHERE
@@ -162,7 +159,7 @@ pub fn wait_fits(t: Thread) -> bool
     ensures { result ≡ wait_fits t }
 {
     let call = t.call;
-    if t.state == READY {
+    if t.state == State::Ready as u16 {
         t.place == NOWHERE
     } else {
         t.state == wait_state(call.kind) && t.place == wait_place(call.kind, call.object)
@@ -175,7 +172,7 @@ pub fn ticks_fit(t: Thread) -> bool
     ensures { result ≡ ticks_fit t }
 {
     let call = t.call;
-    if t.state == READY {
+    if t.state == State::Ready as u16 {
         t.remaining == 0
     } else if call.timeout == INFINITE {
         t.remaining == 0
@@ -189,7 +186,7 @@ pub fn awaited_fit(t: Thread) -> bool
     ensures { result ≡ awaited_fit t }
 {
     let call = t.call;
-    if call.kind == KEPT_EVENT_WAIT {
+    if call.kind == Kind::EventWait as u16 {
         t.awaited == call.operand
     } else {
         t.awaited == 0
@@ -200,7 +197,7 @@ pub fn awaited_fit(t: Thread) -> bool
 pub fn none_pending(t: Thread) -> bool
     ensures { result ≡ none_pending t }
 {
-    t.state != AWAITING || t.pending & t.awaited == 0
+    t.state != State::Awaiting as u16 || t.pending & t.awaited == 0
 }
 
 #[tactic(auto, unfolding(crate::specs::RowRules::flags_fit))]
@@ -214,7 +211,7 @@ fn flags_fit(t: Thread) -> bool
 pub fn cause_fits(t: Thread) -> bool
     ensures { result ≡ cause_fits t }
 {
-    t.cause <= CAUSE_TICK
+    t.cause <= Cause::Tick as u32
 }
 
 // Whether a thread's record hangs together by itself.

@@ -11,7 +11,6 @@ use kernel::records::Thread;
 use kernel::tables::used_rows;
 use kernel::waiters::is_ready;
 use kernel::words::bit_value;
-use library::logic::both;
 use library::sizes::Sizes;
 
 // Whether each record hangs together by itself; who is ready, who waits at each place, who is suspended on each reference, and to whom
@@ -28,39 +27,36 @@ pub struct Walked {
 pub fn walk(threads: [Thread; 16], z: Sizes) -> Walked
     ensures { result ≡ walked threads z }
 {
-    let end = used_rows(z.threads);
     let mut rows = true;
     let mut ready: u16 = 0;
     let mut waiting = [0; 36];
     let mut suspended = [0; 8];
     let mut promised = [0; 4];
-    let mut i: u8 = 0;
-    while i < end {
+    for i in 0..used_rows(z.threads) {
         let t = threads[i as usize];
         let value = bit_value(i);
-        rows = both(rows, row_fits(t, z));
+        rows &= row_fits(t, z);
         if is_ready(t) {
-            ready = ready + value;
+            ready += value;
         }
         let p = queue_of(t) as usize;
         if p < 36 {
-            waiting[p] = waiting[p] + value;
+            waiting[p] += value;
         }
         let r = reference_of(t) as usize;
         if r < 8 {
-            suspended[r] = suspended[r] + value;
+            suspended[r] += value;
         }
         let q = pool_of(t) as usize;
         if q < 4 {
-            promised[q] = promised[q] + value;
+            promised[q] += value;
         }
-        i += 1;
     }
     Walked {
-        rows: rows,
-        ready: ready,
-        waiting: waiting,
-        suspended: suspended,
-        promised: promised,
+        rows,
+        ready,
+        waiting,
+        suspended,
+        promised,
     }
 }

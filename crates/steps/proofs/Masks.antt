@@ -1,16 +1,22 @@
 -- Flags as a word: its size, and one flag more in front.
 use Prim.Native.Nat.{ℕ, zero, suc, ◌+◌, ◌*◌, ◌-◌, ◌≤◌, ◌<◌, ◌^◌}
-use native.Mathlib.Nat.{pow-suc, lt_of_lt_of_le, le_of_eq}
+use native.Mathlib.Nat.{pow-suc, lt_of_lt_of_le}
 use native.Mathlib.Omega.{arith}
 use mathlib.Core.Path.{◌≡◌}
-use mathlib.Core.Bool.{Bool, false}
+use mathlib.Core.Bool.{Bool, true, false}
 use mathlib.Core.List.{List, [], ◌∷◌}
-use lib.ListN.{length, get_or, drop, length-drop, drop_of_length-le}
+use lib.ListN.{length, get_or, drop, length-drop}
 use lib.Seq.{drop-cons}
 use lib.Pow.{pow_mono}
+use Rattle.std.specs.Int.{from_bool}
 use Rattle.kernel.specs.Walk.{bit}
 use Rattle.kernel.proofs.WalkLaws.{bit_le}
 use Rattle.steps.specs.Stepping.{mask_of}
+
+-- a flag as a number
+pub flag_le : (b : Bool) → from_bool b ≤ 1
+flag_le true = omega arith
+flag_le false = omega arith
 
 mask_lt : (l : List Bool) → mask_of l < 2 ^ length l
 unfolding mask_of
@@ -30,8 +36,3 @@ mask-more l zero e h g = absurd (omega arith)
 mask-more l (suc i) e h g =
     let back : suc i - 1 ≡ i = omega arith in
     rw (back, drop-cons l i false (omega arith))
-
--- at the end no flag is left
-pub mask-none : (l : List Bool) → length l ≡ 16 → 0 ≡ mask_of (drop 16 l)
-unfolding mask_of
-mask-none l e = rw (drop_of_length-le l (le_of_eq e))

@@ -1,20 +1,18 @@
-// The refusals, in document 01's order: the first test that fails gives its number, and 0 is an accepted step.
+// The refusals, in document 01's order.
 ghost use Rattle.std.specs.Prelude.{◌≡◌};
+ghost use Rattle.kernel.specs.Told.{code_of};
 ghost use Rattle.library.specs.Tables.{opened};
-ghost use Rattle.steps.specs.Refusal.{kind_fits, caller_fits, context_fits, object_limit, is_span, value_fits, state_fits, first_failing, refusal_of};
+ghost use Rattle.steps.specs.Refusal.{kind_fits, caller_fits, context_fits, object_limit, is_span, value_fits, state_fits, refusal_of};
 
 use kernel::clock::Clock;
-use kernel::kinds::{
-    ADD, BINARY_SIGNAL, EVENT_SIGNAL, EVENT_WAIT, FREE, MAILBOX_RESUME, RELEASE_ALL, RESUME,
-    SEMAPHORE_RESET, SLEEP_FOR, SLEEP_UNTIL, SUSPEND, TICK,
-};
+use kernel::kinds::Kind;
 use kernel::numbers::{IMMEDIATE, INFINITE, NOBODY};
+use kernel::refusals::Refusal;
 use kernel::tables::holder_at;
 use kernel::time::{SystemTime, difference};
 use kernel::words::first_in;
 use library::acting::is_kernel_wait;
 use library::calls::Step;
-use library::logic::{both, either};
 use library::numbers::{ABSENT, OUT};
 use library::pool::mark_at;
 use library::settling::is_box_call;
@@ -26,14 +24,14 @@ use rules::hanging::hangs_together;
 fn kind_fits(kind: u8) -> bool
     ensures { result ≡ kind_fits kind }
 {
-    both(TICK <= kind, kind <= ADD)
+    Kind::Tick as u8 <= kind && kind <= Kind::Add as u8
 }
 
 // 3: the caller is neither 255 nor the running thread.
 fn caller_fits(running: u8, caller: u8) -> bool
     ensures { result ≡ caller_fits running caller }
 {
-    either(caller == NOBODY, caller == running)
+    caller == NOBODY || caller == running
 }
 
 // 4: a tick is an interrupt's; an interrupt may not wait, and may try a mailbox or pool only with a timeout of 0.
@@ -49,7 +47,7 @@ fn context_fits(s: Step) -> bool
             true
         }
     } else {
-        s.kind != TICK
+        s.kind != Kind::Tick as u8
     }
 }
 
@@ -57,19 +55,19 @@ fn context_fits(s: Step) -> bool
 fn object_limit(z: Sizes, kind: u8) -> u16
     ensures { result ≡ object_limit z kind }
 {
-    if kind <= TICK {
+    if kind <= Kind::Tick as u8 {
         256
-    } else if kind <= BINARY_SIGNAL {
+    } else if kind <= Kind::BinarySignal as u8 {
         z.semaphores
-    } else if kind <= RELEASE_ALL {
+    } else if kind <= Kind::ReleaseAll as u8 {
         z.queues
-    } else if kind <= RESUME {
+    } else if kind <= Kind::Resume as u8 {
         z.references
-    } else if kind == EVENT_SIGNAL {
+    } else if kind == Kind::EventSignal as u8 {
         z.threads
-    } else if kind <= EVENT_WAIT {
+    } else if kind <= Kind::EventWait as u8 {
         256
-    } else if kind <= MAILBOX_RESUME {
+    } else if kind <= Kind::MailboxResume as u8 {
         z.mailboxes
     } else {
         z.pools
@@ -80,24 +78,23 @@ fn object_limit(z: Sizes, kind: u8) -> u16
 fn is_span(ticks: u32) -> bool
     ensures { result ≡ is_span ticks }
 {
-    both(1 <= ticks, ticks < INFINITE)
+    1 <= ticks && ticks < INFINITE
 }
 
 // 6: the operand and timeout are in range.
 fn value_fits(now: SystemTime, s: Step) -> bool
     ensures { result ≡ value_fits now s }
 {
-    let kind = s.kind;
-    match kind {
-        SEMAPHORE_RESET => s.a <= 2147483647,
-        SLEEP_FOR => is_span(s.timeout),
-        SLEEP_UNTIL => {
+    match Kind::try_from(s.kind as u16) {
+        Ok(Kind::SemaphoreReset) => s.a <= 2147483647,
+        Ok(Kind::SleepFor) => is_span(s.timeout),
+        Ok(Kind::SleepUntil) => {
             let d = difference(now, SystemTime(s.a));
             is_span(d.0)
         }
-        EVENT_WAIT => 1 <= s.a,
-        FREE => s.a <= 31,
-        ADD => s.a <= 31,
+        Ok(Kind::EventWait) => 1 <= s.a,
+        Ok(Kind::Free) => s.a <= 31,
+        Ok(Kind::Add) => s.a <= 31,
         _ => true,
     }
 }
@@ -106,61 +103,35 @@ fn value_fits(now: SystemTime, s: Step) -> bool
 fn state_fits(references: [u8; 8], pools: [Pool; 4], s: Step) -> bool
     ensures { result ≡ state_fits references pools s }
 {
-    let kind = s.kind;
     let object = s.object as u16;
-    match kind {
-        SUSPEND => holder_at(references, object) == NOBODY,
-        FREE => mark_at(pool_at(pools, object), (s.a % 256) as u8) == OUT,
-        ADD => mark_at(pool_at(pools, object), (s.a % 256) as u8) == ABSENT,
+    match Kind::try_from(s.kind as u16) {
+        Ok(Kind::Suspend) => holder_at(references, object) == NOBODY,
+        Ok(Kind::Free) => mark_at(pool_at(pools, object), (s.a % 256) as u8) == OUT,
+        Ok(Kind::Add) => mark_at(pool_at(pools, object), (s.a % 256) as u8) == ABSENT,
         _ => true,
     }
 }
 
-// The number of the first test that fails, or 0; `outside` says that the object is not in the configuration.
-fn first_failing(
-    hangs: bool,
-    kind: bool,
-    caller: bool,
-    context: bool,
-    outside: bool,
-    value: bool,
-    state: bool,
-) -> u8
-    ensures { result ≡ first_failing hangs kind caller context outside value state }
-{
-    if !hangs {
-        1
-    } else if !kind {
-        2
-    } else if !caller {
-        3
-    } else if !context {
-        4
-    } else if outside {
-        5
-    } else if !value {
-        6
-    } else if !state {
-        7
-    } else {
-        0
-    }
-}
-
-// The refusal number of a step, or 0. All tests are made, whatever the others say: each reads within its table.
+// Why a step is refused, if it is. The tests are made in document 01's order, the first that fails gives the reason.
 #[tactic(auto, unfolding(crate::specs::Refusal::refusal_of, kernel::specs::Waiters::first_ready))]
-pub fn refuse(t: Tables, clock: Clock, s: Step) -> u8
-    ensures { result ≡ refusal_of (opened t) clock s }
+pub fn refuse(t: Tables, clock: Clock, s: Step) -> Result<(), Refusal>
+    ensures { code_of result ≡ refusal_of (opened t) clock s }
 {
-    let words = t.kernel.words;
-    let references = t.kernel.references;
-    let pools = t.pools;
-    let hangs = hangs_together(t, clock);
-    let kind = kind_fits(s.kind);
-    let caller = caller_fits(first_in(words.ready), s.caller);
-    let context = context_fits(s);
-    let outside = object_limit(t.sizes, s.kind) <= s.object as u16;
-    let value = value_fits(clock.time, s);
-    let state = state_fits(references, pools, s);
-    first_failing(hangs, kind, caller, context, outside, value, state)
+    if !hangs_together(t, clock) {
+        Err(Refusal::Tables)
+    } else if !kind_fits(s.kind) {
+        Err(Refusal::Kind)
+    } else if !caller_fits(first_in(t.kernel.words.ready), s.caller) {
+        Err(Refusal::Caller)
+    } else if !context_fits(s) {
+        Err(Refusal::Context)
+    } else if object_limit(t.sizes, s.kind) <= s.object as u16 {
+        Err(Refusal::Object)
+    } else if !value_fits(clock.time, s) {
+        Err(Refusal::Value)
+    } else if !state_fits(t.kernel.references, t.pools, s) {
+        Err(Refusal::State)
+    } else {
+        Ok(())
+    }
 }

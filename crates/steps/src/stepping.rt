@@ -1,15 +1,16 @@
 // One step: refused with everything as it was, or acted, settled and answered.
 ghost use Rattle.std.specs.Prelude.{◌≡◌};
-ghost use Rattle.kernel.specs.Walk.{bit};
+ghost use Rattle.kernel.specs.Told.{number};
 ghost use Rattle.library.specs.Acting.{acted_on_box, acted_on_kernel};
 ghost use Rattle.library.specs.Tables.{opened, with_kernel};
 ghost use Rattle.steps.specs.Stepping.{mask_of, answer_of, outcome_of, refused_outcome, clock_after, budget_of, done_with, settled_with, running_at_refusal, refused_with, started, stepped};
 
 use crate::refusal::refuse;
 use kernel::clock::{Clock, advance};
-use kernel::kinds::{EVENT_WAIT, TICK};
+use kernel::kinds::Kind;
 use kernel::numbers::NOBODY;
 use kernel::records::{Answer, Kernel, begin, end};
+use kernel::refusals::Refusal;
 use kernel::tables::{thread_at, used_rows};
 use kernel::waiters::{first_ready, running_free};
 use kernel::words::first_in;
@@ -23,6 +24,7 @@ use library::tables::{Plant, Tables, close, open, set_kernel};
 #[repr(C)]
 #[derive(Clone, Copy)]
 pub struct Outcome {
+    // Stays a number beside the values: `step` answers every step, and its clause says of the running thread on a refusal too.
     pub code: u8,
     pub running: u8,
     pub woken: u16,
@@ -38,22 +40,14 @@ pub struct Stepped {
     pub outcome: Outcome,
 }
 
-fn one_if(b: bool) -> u16
-    ensures { result ≡ bit b }
-{
-    if b { 1 } else { 0 }
-}
-
 // The flags as a word, flag i at bit i.
 #[tactic(auto, unfolding(crate::specs::Stepping::mask_of))]
 fn mask_of(flags: [bool; 16]) -> u16
     ensures { result ≡ mask_of flags }
 {
     let mut w: u16 = 0;
-    let mut i: usize = 16;
-    while 0 < i {
-        i -= 1;
-        w = w * 2 + one_if(flags[i]);
+    for i in (0..16).rev() {
+        w = w * 2 + u16::from(flags[i]);
     }
     w
 }
@@ -110,7 +104,7 @@ fn refused_outcome(code: u8, running: u8) -> Outcome
 fn clock_after(clock: Clock, kind: u8) -> Clock
     ensures { result ≡ clock_after clock kind }
 {
-    if kind == TICK {
+    if kind == Kind::Tick as u8 {
         let mut r = clock;
         r.time = advance(clock.time);
         r
@@ -156,7 +150,12 @@ fn step_kernel(tables: Tables, clock: Clock, s: Step) -> Stepped
 {
     let n = tables.sizes.threads;
     let kind = s.kind as u16;
-    let k = act_on_kernel(begin(tables.kernel, cause_of(kind)), n, clock.time, s);
+    let k = act_on_kernel(
+        begin(tables.kernel, cause_of(kind).number()),
+        n,
+        clock.time,
+        s,
+    );
     if running_free(k) {
         let outcome = outcome_of(k, s.caller);
         let after = clock_after(clock, s.kind);
@@ -186,24 +185,26 @@ fn step_box(tables: Tables, clock: Clock, s: Step) -> Stepped
 }
 
 // The running thread as it stands; tables that do not hang together have none.
-fn running_at_refusal(running: u8, code: u8) -> u8
-    ensures { result ≡ running_at_refusal running code }
+fn running_at_refusal(running: u8, why: Refusal) -> u8
+    ensures { result ≡ running_at_refusal running (number why) }
 {
-    if code == 1 { NOBODY } else { running }
+    match why {
+        Refusal::Tables => NOBODY,
+        _ => running,
+    }
 }
 
 // A refused step: the very tables and clock that came in.
 #[tactic(auto, unfolding(crate::specs::Stepping::refused_with, kernel::specs::Waiters::first_ready))]
-fn refuse_step(tables: Tables, clock: Clock, code: u8) -> Stepped
-    ensures { result ≡ refused_with tables clock (opened tables) code }
+fn refuse_step(tables: Tables, clock: Clock, why: Refusal) -> Stepped
+    ensures { result ≡ refused_with tables clock (opened tables) (number why) }
 {
-    let words = tables.kernel.words;
-    let running = running_at_refusal(first_in(words.ready), code);
-    let outcome = refused_outcome(code, running);
+    let running = running_at_refusal(first_in(tables.kernel.words.ready), why);
+    let outcome = refused_outcome(why as u8, running);
     Stepped {
-        tables: tables,
-        clock: clock,
-        outcome: outcome,
+        tables,
+        clock,
+        outcome,
     }
 }
 
@@ -212,14 +213,14 @@ fn refuse_step(tables: Tables, clock: Clock, code: u8) -> Stepped
 pub fn step(tables: Tables, clock: Clock, s: Step) -> Stepped
     ensures { result ≡ stepped tables clock s }
 {
-    let code = refuse(tables, clock, s);
-    if code == 0 {
-        if s.kind <= EVENT_WAIT {
-            step_kernel(tables, clock, s)
-        } else {
-            step_box(tables, clock, s)
+    match refuse(tables, clock, s) {
+        Ok(()) => {
+            if s.kind <= Kind::EventWait as u8 {
+                step_kernel(tables, clock, s)
+            } else {
+                step_box(tables, clock, s)
+            }
         }
-    } else {
-        refuse_step(tables, clock, code)
+        Err(why) => refuse_step(tables, clock, why),
     }
 }

@@ -1,5 +1,5 @@
 -- One read more, in the form in which the loop meets it: next is the place behind the read at a place, n the reads that are left.
-use Rattle.std.proofs.Common.{◌≡◌, ℕ, zero, suc, ◌-◌, ◌<◌, List, sym, refl, ap, ◌∙◌, arith}
+use Rattle.std.proofs.Common.{◌≡◌, ℕ, zero, suc, ◌-◌, ◌<◌, List, refl, ap, ◌∙◌, arith}
 use Rattle.trace.specs.Decoding.{next_read}
 use Rattle.text.specs.Ending.{place_read}
 
@@ -8,10 +8,6 @@ pub stays : (n : ℕ) (s : List ℕ) (at : ℕ) → (next_read s at).next ≡ at
 unfolding place_read
 stays zero s at e = refl
 stays (suc n) s at e = ap (place_read n s) e ∙ stays n s at e
-
-pub read-last : (n : ℕ) (s : List ℕ) (at next : ℕ) → next ≡ (next_read s at).next → next ≡ at → place_read 0 s next ≡ place_read n s at
-unfolding place_read
-read-last n s at next e same = same ∙ sym (stays n s at (sym e ∙ same))
 
 pub read_more : (n : ℕ) (s : List ℕ) (at next : ℕ) → next ≡ (next_read s at).next → 0 < n → place_read (n - 1) s next ≡ place_read n s at
 unfolding place_read

@@ -1,6 +1,4 @@
 -- The laws that the proofs of the functions cite.
-pub mod PutLaws
-pub mod DecimalLaws
 pub mod RowLaws
 pub mod ViewLaws
 pub mod EndingLaws

@@ -3,8 +3,7 @@
 use Rattle.std.proofs.Common.{◌≡◌, ℕ, zero, suc, ◌+◌, ◌*◌, ◌<◌, ◌≤◌, eqb, ◌≢◌, ◌⊎◌, List, length, get_or, sym, refl, ap, ◌∙◌, inl, inr, arith, eqb-true}
 use borrow.Author.Tests.{eqb-false}
 use Rattle.kernel.proofs.Cases.{split}
-use Rattle.trace.specs.declared.decoding.Found.TheVariants.{Ended}
-use Rattle.trace.specs.declared.decoding.Read.{Read}
+use Rattle.trace.specs.Told.{Found, Read}
 use Rattle.trace.specs.Ordered.{get_n}
 use Rattle.trace.specs.Decoding.{found_code, head_refusal, step_refusal, opened_read, next_read}
 use Rattle.trace.proofs.Framing.{Head, head, stands}
@@ -20,7 +19,7 @@ pub data Reads (s : List ℕ) : ℕ → ℕ → ℕ → Type 0 where
 -- there the reader stops: the trace ends, or the record is refused; and it is not moved
 pub record Stops (s : List ℕ) (at : ℕ) : Type 0 where
   pub unmoved : (next_read s at).next ≡ at
-  pub found : ((next_read s at).found ≡ Ended) ⊎ (found_code (next_read s at).found ≢ 0)
+  pub found : ((next_read s at).found ≡ Found.Ended) ⊎ (found_code (next_read s at).found ≢ 0)
 
 -- so many records are read from a place on, and then the reader stops
 pub record ListedTo (s : List ℕ) (from to : ℕ) : Type 0 where

@@ -1,10 +1,11 @@
 -- The records' texts, one after the other, are the view's; and the laws of one record and of the loop, as the code meets them.
 use Rattle.std.proofs.Common.{◌≡◌, ℕ, zero, suc, ◌+◌, ◌*◌, ◌<◌, ◌≤◌, eqb, ◌≢◌, List, [], ◌++◌, length, get_or, take, drop, refl, ap, subst, append-nil, arith, eq-eqb, ne_eqb, eqb-true}
+use Rattle.std.proofs.lemmas.List.{get_or_past}
 use borrow.Author.Tests.{eqb-false}
 use Rattle.kernel.proofs.Cases.{split}
+use Rattle.library.specs.declared.sizes.Sizes.{Sizes}
 use Rattle.library.specs.Sizes.{no_sizes}
-use Rattle.trace.specs.declared.decoding.Read.{Read}
-use Rattle.trace.specs.declared.decoding.Found.TheVariants as found
+use Rattle.trace.specs.Told.{Found, Read}
 use Rattle.trace.specs.Ordered.{get_n}
 use Rattle.trace.specs.Decoding.{head_sizes, head_refusal, refused_read, step_refusal, decoded_step, opened_read, next_read}
 use Rattle.trace.specs.Traces.{read_from, read_all}
@@ -15,11 +16,13 @@ use Rattle.text.specs.declared.views.Parts.{Parts}
 use Rattle.text.specs.declared.views.Seen.{Seen}
 use Rattle.text.specs.declared.views.Shown.{Shown}
 use Rattle.text.specs.declared.views.Listing.{Listing}
-use Rattle.text.specs.Put.{Put}
-use Rattle.text.specs.Rows.{rows}
-use Rattle.text.specs.Views.{parts_text, view_parts, fresh_seen, seen_after, records_text, reading_text, view_text}
+use Rattle.buffers.specs.declared.putting.Sheet.{Sheet}
+use Rattle.buffers.specs.Put.{Put, Puts, rows}
+use Rattle.text.specs.Tables.{least}
+use Rattle.text.specs.Views.{counts, part_text, head_text, rows_in, parts_text, view_parts, fresh_seen, seen_after, records_text, reading_text, view_text}
 use Rattle.text.specs.Views.{Record, seen_behind, shown_parts, stop_text, record_of, text_from, Listed}
-use Rattle.text.proofs.PutLaws.{then, whole-text}
+use Rattle.buffers.proofs.PutLaws.{whole-text}
+use Rattle.buffers.proofs.SheetLaws.{on}
 
 -- ---- all records
 
@@ -52,7 +55,7 @@ later v (suc m) (suc n) i s x at h l g k =
     (λ g'. rw (refuses s at h here (eqb-false (step_refusal s at) 0 g'), eq-eqb at at refl, append-nil)))
 
 -- what stands at a trace's start
-pub opens : (s : List ℕ) → head_refusal s ≡ 0 → next_read s 0 ≡ record { found = found.Opened; sizes = head_sizes s; next = 3 + get_n 2 s 1 }
+pub opens : (s : List ℕ) → head_refusal s ≡ 0 → next_read s 0 ≡ record { found = Found.Opened; sizes = head_sizes s; next = 3 + get_n 2 s 1 }
 unfolding next_read opened_read
 opens s e = rw e
 
@@ -89,18 +92,35 @@ unfolding view_text
 view-text w s = ap (λ (z : List ℕ). parts_text (fresh_seen no_sizes) (view_parts w).head (view_parts w).heads ++ z) (all-records (view_parts w) s)
 
 -- what a program hands to the write call, where a record's text begins the buffer, is that text
-pub record-written : {l l' : List ℕ} (x r : Listing) (y : Record) → Listed l l' x r y → x.end ≡ 0 → r.end < length l → take r.end l' ≡ y.text
-record-written {l} {l'} x r y h e room = whole-text (subst (λ (k : ℕ). Put l l' k r.end y.text) e h.put) room
+pub record-written : {s t : Sheet} (x r : Listing) (y : Record) → Listed s t x r y → s.at ≡ 0 → t.at < length s.out.now → take t.at t.out.now ≡ y.text
+record-written {s} {t} x r y h e room = whole-text (subst (λ (k : ℕ). Put s.out.now t.out.now k t.at y.text) e h.put.put) room
+
+-- a number that is no part's has no rows, and no text
+no-rows : (z : Sizes) (n : ℕ) → 21 < n → rows_in z n ≡ 0
+unfolding rows_in
+no-rows z n h =
+    let past : 20 ≤ n = omega arith in
+    get_or_past
+    (counts (least z.threads 16) (least z.semaphores 16) (least z.queues 8) (least z.references 8) (least z.mailboxes 4) (least z.pools 4)) n
+    0 past
+
+pub no-part : (x : Seen) (n : ℕ) → 21 < n → part_text x n ≡ []
+unfolding part_text head_text rows
+no-part x n h =
+    rw (
+      ne_eqb n 17 (λ e. omega arith),
+      ne_eqb n 18 (λ e. omega arith),
+      ne_eqb n 19 (λ e. omega arith),
+      ne_eqb n 20 (λ e. omega arith),
+      ne_eqb n 21 (λ e. omega arith),
+      no-rows x.tables.sizes n h,
+    )
 
 -- ---- one record, as the code meets it: what is known behind it, its parts, and where reading stopped
-pub next-listed : {l m k : List ℕ} (x : Listing) (v : Parts) (n : ℕ) (a b : Read) (seen : Seen) (shown : Shown) (text end : ℕ) → a ≡ b
+pub next-listed : {s t u : Sheet} (x : Listing) (v : Parts) (n : ℕ) (a b : Read) (seen : Seen) (shown : Shown) → a ≡ b
     → seen ≡ seen_behind n x.seen a.sizes a.found → shown ≡ shown_parts v a.found
-    → Put l m x.end text (parts_text seen shown.from shown.n) → Put m k text end (stop_text a.found)
-    → Listed l k x (record { seen = seen; at = a.next; end = end }) (record_of v n x.seen b)
-next-listed {l} {m} {k} x v n a b seen shown text end e f g p q =
-    subst (λ (r : Read). Listed l k x (record { seen = seen; at = a.next; end = end }) (record_of v n x.seen r)) e
-    (record { put = then (rw (f, g) at p) q; seen = f; at = refl })
-
--- the place behind it is the read's
-pub listed_next : {l l' : List ℕ} (x r : Listing) (v : Parts) (n : ℕ) (read : Read) → Listed l l' x r (record_of v n x.seen read) → r.at ≡ read.next
-listed_next x r v n read h = h.at
+    → Puts s t (parts_text seen shown.from shown.n) → Puts t u (stop_text a.found)
+    → Listed s u x (record { seen = seen; at = a.next }) (record_of v n x.seen b)
+next-listed {s} {t} {u} x v n a b seen shown e f g p q =
+    subst (λ (r : Read). Listed s u x (record { seen = seen; at = a.next }) (record_of v n x.seen r)) e
+    (record { put = on (rw (f, g) at p) q; seen = f; at = refl })

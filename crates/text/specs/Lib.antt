@@ -1,6 +1,5 @@
 -- The meanings that the contracts cite, in the order in which they build on each other.
-pub mod Put
-pub mod Decimal
+pub mod Parts
 pub mod Rows
 pub mod Tables
 pub mod Why

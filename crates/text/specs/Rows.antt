@@ -1,21 +1,16 @@
 -- A row: a word or a number, items behind blanks, and the line's end.
-use Rattle.std.specs.Prelude.{ℕ, zero, suc, cond, List, [], ◌∷◌, ◌++◌, replicate, ℤ, pos, ◌==◌, int_lt, slice_index, unsigned_abs}
+use Rattle.std.specs.Prelude.{ℕ, cond, List, [], ◌∷◌, ◌++◌, map, replicate, ℤ, pos, ◌==◌, int_lt, slice_index, slice_index_or, unsigned_abs}
 use Rattle.std.specs.Int.{w32}
 use Rattle.std.proofs.Common.{to_z}
-use Rattle.library.specs.declared.tables.Mailbox.{Mailbox}
-use Rattle.library.specs.declared.tables.Pool.{Pool}
-use Rattle.library.specs.Tables.{blank_mailbox, blank_pool}
 use Rattle.library.specs.Mailbox.{message_at}
 use Rattle.library.specs.Pool.{listed_at, mark_at}
 use Rattle.text.specs.declared.items.Item.{Item}
 use Rattle.text.specs.declared.items.Item.TheVariants.{Nothing, End, Dash, Plain, Number, Long, Signed, Lettered, Cause}
+use Rattle.text.specs.declared.items.Cells.{Cells}
+use Rattle.text.specs.declared.items.Cells.TheVariants.{Empty, Messages, Objects, Marks}
 use Rattle.text.specs.declared.items.Line.{Line}
-use Rattle.text.specs.Decimal.{decimal}
-
--- the texts of the numbers below n, one behind the other
-unfoldable pub rows : ℕ → (ℕ → List ℕ) → List ℕ
-rows zero f = []
-rows (suc n) f = rows n f ++ f n
+use Rattle.buffers.specs.Put.{rows}
+use Rattle.buffers.specs.Decimal.{decimal}
 
 -- a letter of a word, or nothing for a zero
 abbrev pub letter : ℕ → List ℕ
@@ -57,76 +52,53 @@ abbrev pub fields : List Item → List ℕ
 fields [] = []
 fields (x ∷ xs) = field x ++ fields xs
 
--- what a row lists at j: messages, free objects, or marks
-abbrev pub cell_of : Mailbox → Pool → ℕ → ℕ → Item
-cell_of b p which j =
-    cond (which == 0) (Signed (to_z w32 (message_at b j))) (cond (which == 1) (Number (listed_at p j)) (Number (mark_at p j)))
+-- how many things a row lists: so many messages or free objects, or 32 marks
+abbrev pub cells_in : Cells → ℕ
+cells_in Empty = 0
+cells_in (Messages b n) = n
+cells_in (Objects p n) = n
+cells_in (Marks p) = 32
+
+-- what it lists at j
+abbrev pub cell_of : Cells → ℕ → Item
+cell_of Empty j = Nothing
+cell_of (Messages b n) j = Signed (to_z w32 (message_at b j))
+cell_of (Objects p n) j = Number (listed_at p j)
+cell_of (Marks p) j = Number (mark_at p j)
+
+-- all that it lists
+abbrev pub cells_text : Cells → List ℕ
+cells_text x = rows (cells_in x) (λ j. field (cell_of x j))
 
 -- a row: its word, its items, what it lists, and its end
 unfoldable pub row_text : Line → List ℕ
-row_text r =
-    word_text r.word
-    ++ (fields
-    (r.a ∷ r.b ∷ r.c ∷ r.d ∷ r.e ∷ r.f ∷ r.g ∷ r.h ∷ r.i ∷ r.j ∷ r.k ∷ r.l ∷ r.m ∷ r.n ∷ r.o ∷ [])
-    ++ (rows r.count (λ j. field (cell_of r.mailbox r.pool r.which j)) ++ field r.end))
+row_text r = word_text r.word ++ (fields r.items ++ (cells_text r.cells ++ field r.end))
 
--- a row of a word and up to seven items, that lists n things of a mailbox or a pool
-abbrev pub listing : List ℕ → Item → Item → Item → Item → Item → Item → Item → ℕ → ℕ → Mailbox → Pool → Line
-listing word a b c d e f g which n mailbox pool =
+-- some items, filled up with none to fifteen; more are left out
+abbrev pub padded : List Item → List Item
+padded xs = map (λ i. slice_index_or xs i Nothing) (0 ∷ 1 ∷ 2 ∷ 3 ∷ 4 ∷ 5 ∷ 6 ∷ 7 ∷ 8 ∷ 9 ∷ 10 ∷ 11 ∷ 12 ∷ 13 ∷ 14 ∷ [])
+
+-- a row of a word and up to fifteen items, which lists something
+abbrev pub listed : List ℕ → List Item → Cells → Line
+listed word xs cells = record { word = word; items = padded xs; cells = cells; end = End }
+
+-- a row of a word and up to seven items, which lists something
+abbrev pub listing : List ℕ → Item → Item → Item → Item → Item → Item → Item → Cells → Line
+listing word a b c d e f g cells =
     record {
       word = word;
-      a = a;
-      b = b;
-      c = c;
-      d = d;
-      e = e;
-      f = f;
-      g = g;
-      h = Nothing;
-      i = Nothing;
-      j = Nothing;
-      k = Nothing;
-      l = Nothing;
-      m = Nothing;
-      n = Nothing;
-      o = Nothing;
-      which = which;
-      count = n;
-      mailbox = mailbox;
-      pool = pool;
+      items = a ∷ b ∷ c ∷ d ∷ e ∷ f ∷ g ∷ Nothing ∷ Nothing ∷ Nothing ∷ Nothing ∷ Nothing ∷ Nothing ∷ Nothing ∷ Nothing ∷ [];
+      cells = cells;
       end = End;
     }
 
 -- one that lists nothing
 abbrev pub row : List ℕ → Item → Item → Item → Item → Item → Item → Item → Line
-row word a b c d e f g = listing word a b c d e f g 0 0 blank_mailbox blank_pool
+row word a b c d e f g = listing word a b c d e f g Empty
 
 -- one of which nothing is shown
 abbrev pub no_row : Line
-no_row =
-    record {
-      word = replicate 9 0;
-      a = Nothing;
-      b = Nothing;
-      c = Nothing;
-      d = Nothing;
-      e = Nothing;
-      f = Nothing;
-      g = Nothing;
-      h = Nothing;
-      i = Nothing;
-      j = Nothing;
-      k = Nothing;
-      l = Nothing;
-      m = Nothing;
-      n = Nothing;
-      o = Nothing;
-      which = 0;
-      count = 0;
-      mailbox = blank_mailbox;
-      pool = blank_pool;
-      end = Nothing;
-    }
+no_row = record { word = replicate 9 0; items = replicate 15 Nothing; cells = Empty; end = Nothing }
 
 -- a row without a word: a number first, and up to six items
 abbrev pub numbered : ℕ → Item → Item → Item → Item → Item → Item → Line

@@ -7,9 +7,10 @@ use Rattle.kernel.specs.Words.{waiting_at}
 use Rattle.library.specs.declared.tables.Pool.{Pool}
 use Rattle.library.specs.declared.tables.Tables.{Tables}
 use Rattle.library.specs.Sizes.{slots_at}
-use Rattle.library.specs.Tables.{blank_mailbox, blank_pool, mailbox_in, pool_in}
+use Rattle.library.specs.Tables.{mailbox_in, pool_in}
 use Rattle.text.specs.declared.items.Item.{Item}
 use Rattle.text.specs.declared.items.Item.TheVariants.{Nothing, End, Dash, Number, Signed, Lettered}
+use Rattle.text.specs.declared.items.Cells.TheVariants.{Empty, Messages, Objects, Marks}
 use Rattle.text.specs.declared.items.Line.{Line}
 use Rattle.text.specs.Rows.{listing, brief}
 
@@ -33,25 +34,11 @@ unfoldable pub thread_row : ℕ → Thread → Line
 thread_row i t =
     record {
       word = 116 ∷ 104 ∷ 114 ∷ 101 ∷ 97 ∷ 100 ∷ 0 ∷ 0 ∷ 0 ∷ [];
-      a = Number i;
-      b = Number t.state;
-      c = wait_item t.state t.place;
-      d = Number t.remaining;
-      e = Number t.pending;
-      f = Number t.awaited;
-      g = Signed t.message;
-      h = Number t.call.kind;
-      i = Number t.call.object;
-      j = Number t.call.operand;
-      k = Number t.call.timeout;
-      l = Signed t.answer.message;
-      m = Number t.answer.datum;
-      n = Number t.cause;
-      o = Number t.step;
-      which = 0;
-      count = 0;
-      mailbox = blank_mailbox;
-      pool = blank_pool;
+      items =
+          Number i ∷ Number t.state ∷ wait_item t.state t.place ∷ Number t.remaining ∷ Number t.pending ∷ Number t.awaited ∷ Signed t.message
+          ∷ Number t.call.kind ∷ Number t.call.object ∷ Number t.call.operand ∷ Number t.call.timeout ∷ Signed t.answer.message
+          ∷ Number t.answer.datum ∷ Number t.cause ∷ Number t.step ∷ [];
+      cells = Empty;
       end = End;
     }
 
@@ -66,19 +53,19 @@ mailbox_row t i =
     listing (109 ∷ 97 ∷ 105 ∷ 108 ∷ 98 ∷ 111 ∷ 120 ∷ 0 ∷ 0 ∷ [])
     (Number i) (Number b.positions.read) (Number b.positions.write) (Number b.positions.count) (Number (reset_of b.reset))
     (Signed (counter_in t.kernel.counters (28 + i))) (Signed (counter_in t.kernel.counters (32 + i)))
-    0 (least (slots_at t.sizes i) 16) b blank_pool
+    (Messages b (least (slots_at t.sizes i) 16))
 
 -- `pool I COUNTER LENGTH BOTTOM .. TOP`
 unfoldable pub free_row : ℕ → Pool → ℤ → Line
 free_row n p count =
     listing (112 ∷ 111 ∷ 111 ∷ 108 ∷ 0 ∷ 0 ∷ 0 ∷ 0 ∷ 0 ∷ []) (Number n) (Signed count) (Number p.length) Nothing Nothing Nothing Nothing
-    1 (least p.length 32) blank_mailbox p
+    (Objects p (least p.length 32))
 
 -- `marks I MARK0 .. MARK31`
 unfoldable pub marks_row : ℕ → Pool → Line
 marks_row n p =
     listing (109 ∷ 97 ∷ 114 ∷ 107 ∷ 115 ∷ 0 ∷ 0 ∷ 0 ∷ 0 ∷ []) (Number n) Nothing Nothing Nothing Nothing Nothing Nothing
-    2 32 blank_mailbox p
+    (Marks p)
 
 -- two rows a pool
 unfoldable pub pool_row : Tables → ℕ → Line

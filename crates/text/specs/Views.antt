@@ -1,8 +1,6 @@
 -- The text of a trace. "The program prints in decimal the heading, a line per step (record number, code, running, woken, finished), and at a
 -- bad record `stopped`, its number (0 for 15 and 11), the code; then it ends."
-use Rattle.std.specs.Prelude.{◌≡◌, ℕ, zero, suc, ◌+◌, ◌*◌, ◌%◌, cond, List, [], ◌∷◌, ◌++◌, pos, ◌==◌, nat_lt, slice_index_or}
-use Rattle.kernel.specs.declared.units.Rate.{Rate}
-use Rattle.kernel.specs.declared.units.Rate.TheVariants.{Given}
+use Rattle.std.specs.Prelude.{◌≡◌, ℕ, zero, suc, ◌+◌, ◌*◌, ◌%◌, cond, List, [], ◌∷◌, ◌++◌, pos, ◌==◌, nat_lt, slice_index_or, Option, Some}
 use Rattle.kernel.specs.Tables.{row_in}
 use Rattle.kernel.specs.Words.{has_bit}
 use Rattle.library.specs.declared.calls.Step.{Step}
@@ -14,9 +12,7 @@ use Rattle.accounts.specs.Accounting.{call_by, accounted_step}
 use Rattle.accounts.specs.declared.accounting.Report.{Report}
 use Rattle.steps.specs.declared.stepping.Outcome.{Outcome}
 use Rattle.steps.specs.Stepping.{stepped}
-use Rattle.trace.specs.declared.decoding.Read.{Read}
-use Rattle.trace.specs.declared.decoding.Found.{Found}
-use Rattle.trace.specs.declared.decoding.Found.TheVariants as found
+use Rattle.trace.specs.Told.{Found, Read}
 use Rattle.trace.specs.Decoding.{next_read}
 use Rattle.trace.specs.Traces.{Reading, read_all}
 use Rattle.text.specs.declared.items.Item.{Item}
@@ -28,8 +24,9 @@ use Rattle.text.specs.declared.views.Parts.{Parts}
 use Rattle.text.specs.declared.views.Seen.{Seen}
 use Rattle.text.specs.declared.views.Shown.{Shown}
 use Rattle.text.specs.declared.views.Listing.{Listing}
-use Rattle.text.specs.Put.{Put}
-use Rattle.text.specs.Rows.{row_text, rows, no_row, numbered, brief}
+use Rattle.buffers.specs.declared.putting.Sheet.{Sheet}
+use Rattle.buffers.specs.Put.{Puts, rows}
+use Rattle.text.specs.Rows.{row_text, no_row, numbered, brief}
 use Rattle.text.specs.Tables.{least, word_row, table_row}
 use Rattle.text.specs.Why.{waited_item}
 use Rattle.text.specs.Sums.{sum_row}
@@ -119,8 +116,8 @@ view_parts view.Answers = record { head = 0; heads = 0; step = 15; steps = 1; en
 -- ---- records
 
 -- "The listing program and the recorded plant traces now give 1000 themselves" (document 02): a trace has no frequency in it
-abbrev pub listed_rate : Rate
-listed_rate = Given 1000
+abbrev pub listed_rate : Option ℕ
+listed_rate = Some 1000
 
 -- fresh tables of the sizes, at that frequency; no step yet
 abbrev pub fresh_seen : Sizes → Seen
@@ -155,10 +152,10 @@ seen_after n x s =
 
 -- "at a bad record `stopped`, its number (0 for 15 and 11), the code; then it ends"
 abbrev pub stop_text : Found → List ℕ
-stop_text found.Opened = []
-stop_text (found.Stepped x) = []
-stop_text found.Ended = []
-stop_text (found.Refused code number) = row_text (brief (115 ∷ 116 ∷ 111 ∷ 112 ∷ 112 ∷ 101 ∷ 100 ∷ 0 ∷ 0 ∷ []) (Long number) (Number code))
+stop_text Found.Opened = []
+stop_text (Found.Stepped x) = []
+stop_text Found.Ended = []
+stop_text (Found.Refused code number) = row_text (brief (115 ∷ 116 ∷ 111 ∷ 112 ∷ 112 ∷ 101 ∷ 100 ∷ 0 ∷ 0 ∷ []) (Long number) (Number code))
 
 -- the steps from record n on, and what stopped them
 unfoldable pub records_text : Parts → ℕ → Seen → List Step → Found → List ℕ
@@ -182,17 +179,17 @@ pub record Record : Type 0 where
 
 -- what is known behind record n, of which this was found, beside these sizes
 abbrev pub seen_behind : ℕ → Seen → Sizes → Found → Seen
-seen_behind n x z found.Opened = fresh_seen z
-seen_behind n x z (found.Stepped s) = seen_after n x s
-seen_behind n x z found.Ended = x
-seen_behind n x z (found.Refused code number) = x
+seen_behind n x z Found.Opened = fresh_seen z
+seen_behind n x z (Found.Stepped s) = seen_after n x s
+seen_behind n x z Found.Ended = x
+seen_behind n x z (Found.Refused code number) = x
 
 -- which parts are shown of it
 abbrev pub shown_parts : Parts → Found → Shown
-shown_parts v found.Opened = record { from = 0; n = 0 }
-shown_parts v (found.Stepped s) = record { from = v.step; n = v.steps }
-shown_parts v found.Ended = record { from = v.end; n = v.ends }
-shown_parts v (found.Refused code number) = record { from = v.end; n = v.ends }
+shown_parts v Found.Opened = record { from = 0; n = 0 }
+shown_parts v (Found.Stepped s) = record { from = v.step; n = v.steps }
+shown_parts v Found.Ended = record { from = v.end; n = v.ends }
+shown_parts v (Found.Refused code number) = record { from = v.end; n = v.ends }
 
 -- the record that a read found; n is its number
 abbrev pub record_of : Parts → ℕ → Seen → Read → Record
@@ -211,8 +208,8 @@ text_from v (suc n) i s x at =
     let y = record_of v i x (next_read s at) in
     y.text ++ cond (y.at == at) [] (text_from v n (i + 1) s y.seen y.at)
 
--- a record's text has been put into the buffer, and r is the listing behind it
-pub record Listed (l l' : List ℕ) (x r : Listing) (y : Record) : Type 0 where
-  pub put : Put l l' x.end r.end y.text
+-- a record's text has been put on the sheet, and r is the listing behind it
+pub record Listed (s t : Sheet) (x r : Listing) (y : Record) : Type 0 where
+  pub put : Puts s t y.text
   pub seen : r.seen ≡ y.seen
   pub at : r.at ≡ y.at

@@ -9,10 +9,12 @@ use std::{fs, io, str};
 
 // Reads until the buffer is full or the input ends. The answer is how many bytes stand at its start.
 // The only error is the reader's; it leaves in the buffer what was read until then.
+// `nil` has its twin: a public function's contract fixes its result (`tools/contracts`), and no contract fixes how many bytes a reader gives.
 fn read_full<R: Read>(from: &mut R, buf: &mut [u8]) -> io::Result<usize>
     ensures { IfOk result (λ n. n ≤ length buf.new) }
 {
     let mut done: usize = 0;
+    // a read moves on by as many bytes as it gives, not by one: no `for` counts that, and std's `read_exact` refuses a shorter input
     while done < buf.len() {
         let n = from.read(&mut buf[done..])?;
         if n == 0 {
@@ -57,15 +59,11 @@ pub fn show_all<R: Files, W: Write>(
     ensures { IfOk result (λ r. r ≡ length names.now) }
 {
     let mut from: usize = 0;
-    let mut i: usize = 0;
-    while i < names.len() {
-        if names[i] == b'\n' {
-            if from <= i {
-                show(rt, sink, &names[from..i], view)?;
-            }
+    for (i, &b) in names.iter().enumerate() {
+        if b == b'\n' {
+            show(rt, sink, &names[from..i], view)?;
             from = i + 1;
         }
-        i += 1;
     }
-    Ok(i)
+    Ok(names.len())
 }

@@ -4,6 +4,7 @@
 
 pub mod files;
 mod items;
+mod parts;
 pub mod printing;
 mod sums;
 mod tables;

@@ -1,11 +1,12 @@
 // A view of a trace, written to a sink.
 // What is handed to the write call is the buffer up to its end, and what stands there is the contracts': a record's text is put behind what
 // was there (`list_next`), and the records' texts are the view's (`view-text`, proofs/ViewLaws.antt). Outside every statement stay that the
-// write call writes what it is handed, and here the lines that hand it over: `write_out`, where it is called, and the end 0 behind it.
+// write call writes what it is handed, and here the lines that hand it over: `write_out`, where it is called, and the place 0 behind it.
 ghost use Rattle.std.specs.Prelude.{◌≡◌, IfOk};
 ghost use Rattle.text.specs.Ending.{place_read};
 
-use crate::views::{Listing, View, fresh_seen, list_next, parts_of, put_parts};
+use crate::views::{Listing, Parts, View, fresh_seen, list_next, parts_of, put_parts};
+use buffers::putting::Sheet;
 use library::sizes::no_sizes;
 use std::io;
 use std::io::Write;
@@ -17,51 +18,58 @@ const NEARLY_FULL: usize = 32768;
 
 // A text that filled the buffer may lack its end, and is not written: there is none so long.
 // The only error is the sink's, of its write; it leaves the buffer as it was, of which a part may have been written.
-fn write_out<W: Write>(sink: &mut W, out: &[u8], end: usize) -> io::Result<usize>
-    ensures { IfOk result (λ r. r ≡ 0) }
+fn write_out<W: Write>(sink: &mut W, sheet: &mut Sheet) -> io::Result<()>
+    ensures { IfOk result (λ u. sheet.new.at ≡ 0) }
 {
-    if end < out.len() {
-        sink.write_all(&out[..end])?;
+    let end = sheet.at;
+    if end < sheet.out.len() {
+        sink.write_all(&sheet.out[..end])?;
     }
-    Ok(0)
+    sheet.at = 0;
+    Ok(())
 }
 
-fn write_if_full<W: Write>(sink: &mut W, out: &[u8], end: usize) -> io::Result<usize> {
-    if NEARLY_FULL < end {
-        write_out(sink, out, end)
-    } else {
-        Ok(end)
+// Prints the records from a listing's place on. The answer is the place in the trace where reading ended.
+#[tactic(auto, unfolding(crate::specs::Ending::place_read))]
+fn print_records<W: Write>(
+    sink: &mut W,
+    sheet: &mut Sheet,
+    s: &[u8],
+    first: Listing,
+    v: Parts,
+) -> io::Result<usize>
+    ensures { IfOk result (λ r. r ≡ place_read 5000 s.now first.at) }
+{
+    let mut x = first;
+    for number in 0..READS {
+        let at = x.at;
+        x = list_next(sheet, s, x, number, v);
+        if NEARLY_FULL < sheet.at {
+            write_out(sink, sheet)?;
+        }
+        if x.at == at {
+            return Ok(at);
+        }
     }
+    Ok(x.at)
 }
 
 // Prints a view of a trace. The answer is the place in the trace where reading ended: its end, or the bad record.
 // The only error is the sink's, of the write that failed, and the printing ends with it; it leaves the trace, which is only lent, as it was,
 // and of the text a first part written.
-#[tactic(auto, unfolding(crate::specs::Ending::place_read))]
 pub fn print_trace<W: Write>(sink: &mut W, s: &[u8], view: View) -> io::Result<usize>
     ensures { IfOk result (λ r. r ≡ place_read 5000 s.now 0) }
 {
     let mut space = [0u8; 65536];
-    let out: &mut [u8] = &mut space;
+    let mut sheet = Sheet {
+        out: &mut space,
+        at: 0,
+    };
     let v = parts_of(view);
     let fresh = fresh_seen(no_sizes());
-    let end = put_parts(out, 0, fresh, v.head, v.heads);
-    let mut x = Listing {
-        seen: fresh,
-        at: 0,
-        end: end,
-    };
-    let mut left = READS;
-    while 0 < left {
-        let at = x.at;
-        x = list_next(out, s, x, READS - left, v);
-        x.end = write_if_full(sink, out, x.end)?;
-        if x.at == at {
-            left = 0;
-        } else {
-            left -= 1;
-        }
-    }
-    write_out(sink, out, x.end)?;
-    Ok(x.at)
+    put_parts(&mut sheet, fresh, v.head, v.heads);
+    let first = Listing { seen: fresh, at: 0 };
+    let end = print_records(sink, &mut sheet, s, first, v)?;
+    write_out(sink, &mut sheet)?;
+    Ok(end)
 }

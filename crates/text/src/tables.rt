@@ -1,34 +1,16 @@
 // The rows of all tables and of the words, in the order of docs/LISTING.md. A table is a part, by its number; `views` has the loops.
 ghost use Rattle.std.specs.Prelude.{◌≡◌};
+ghost use Rattle.text.specs.Parts.{part_number};
 ghost use Rattle.text.specs.Tables.{least, place_item, wait_item, thread_row, reset_of, mailbox_row, free_row, marks_row, pool_row, word_place, word_row, table_row};
 
-use crate::items::{Item, LISTED, Line, MARKS, MESSAGES, brief, row};
-use kernel::numbers::{QUEUED, SUSPENDED};
+use crate::items::{Cells, Item, Line, brief, listing};
+use crate::parts::Part;
 use kernel::records::{Thread, Words};
+use kernel::states::State;
 use kernel::tables::{counter_at, holder_at, thread_at};
 use kernel::words::waiting_at;
 use library::sizes::slots_at;
-use library::tables::{Pool, Tables, blank_mailbox, blank_pool, mailbox_at, pool_at};
-
-// The tables, in the order of their rows, behind a step's line and its answer.
-const THREADS: u8 = 2;
-
-const SEMAPHORES: u8 = 3;
-
-const QUEUES: u8 = 4;
-
-const REFERENCES: u8 = 5;
-
-const MAILBOXES: u8 = 6;
-
-// The words: who is ready, and who waits at each object's places, of a mailbox at two.
-const READY_WORD: u8 = 8;
-
-const SEMAPHORE_WORDS: u8 = 9;
-
-const QUEUE_WORDS: u8 = 10;
-
-const MAILBOX_WORDS: u8 = 11;
+use library::tables::{Pool, Tables, mailbox_at, pool_at};
 
 // As many rows as the sizes say, and as the table has.
 pub(crate) fn least(n: u16, most: u8) -> u8
@@ -58,9 +40,9 @@ fn queued_at(place: u16) -> Item
 fn waits_at(state: u16, place: u16) -> Item
     ensures { result ≡ wait_item state place }
 {
-    if state == QUEUED {
+    if state == State::Queued as u16 {
         queued_at(place)
-    } else if state == SUSPENDED {
+    } else if state == State::Suspended as u16 {
         Item::Lettered(b'r', place)
     } else {
         Item::Dash
@@ -75,30 +57,26 @@ fn thread_row(i: u8, t: Thread) -> Line
     let place = waits_at(t.state, t.place);
     let call = t.call;
     let answer = t.answer;
-    let mailbox = blank_mailbox();
-    let pool = blank_pool();
-    let word = *b"thread\0\0\0";
     Line {
-        word: word,
-        a: Item::Number(i as u32),
-        b: Item::Number(t.state as u32),
-        c: place,
-        d: Item::Number(t.remaining),
-        e: Item::Number(t.pending),
-        f: Item::Number(t.awaited),
-        g: Item::Signed(t.message),
-        h: Item::Number(call.kind as u32),
-        i: Item::Number(call.object as u32),
-        j: Item::Number(call.operand),
-        k: Item::Number(call.timeout),
-        l: Item::Signed(answer.message),
-        m: Item::Number(answer.datum),
-        n: Item::Number(t.cause),
-        o: Item::Number(t.step),
-        which: MESSAGES,
-        count: 0,
-        mailbox: mailbox,
-        pool: pool,
+        word: *b"thread\0\0\0",
+        items: [
+            Item::Number(i as u32),
+            Item::Number(t.state as u32),
+            place,
+            Item::Number(t.remaining),
+            Item::Number(t.pending),
+            Item::Number(t.awaited),
+            Item::Signed(t.message),
+            Item::Number(call.kind as u32),
+            Item::Number(call.object as u32),
+            Item::Number(call.operand),
+            Item::Number(call.timeout),
+            Item::Signed(answer.message),
+            Item::Number(answer.datum),
+            Item::Number(t.cause),
+            Item::Number(t.step),
+        ],
+        cells: Cells::Empty,
         end: Item::End,
     }
 }
@@ -119,20 +97,19 @@ fn mailbox_row(t: Tables, i: u8) -> Line
     let boxes = t.mailboxes;
     let b = mailbox_at(boxes, i as u16);
     let q = b.positions;
-    let mut r = row(
+    listing(
         *b"mailbox\0\0",
-        Item::Number(i as u32),
-        Item::Number(q.read as u32),
-        Item::Number(q.write as u32),
-        Item::Number(q.count as u32),
-        Item::Number(reset_of(b.reset)),
-        Item::Signed(counter_at(counters, 28 + i as u16)),
-        Item::Signed(counter_at(counters, 32 + i as u16)),
-    );
-    r.mailbox = b;
-    r.which = MESSAGES;
-    r.count = least(slots_at(t.sizes, i as u16), 16);
-    r
+        &[
+            Item::Number(i as u32),
+            Item::Number(q.read as u32),
+            Item::Number(q.write as u32),
+            Item::Number(q.count as u32),
+            Item::Number(reset_of(b.reset)),
+            Item::Signed(counter_at(counters, 28 + i as u16)),
+            Item::Signed(counter_at(counters, 32 + i as u16)),
+        ],
+        Cells::Messages(b, least(slots_at(t.sizes, i as u16), 16)),
+    )
 }
 
 // A pool's counter and free list.
@@ -140,20 +117,15 @@ fn mailbox_row(t: Tables, i: u8) -> Line
 fn free_row(n: u8, p: Pool, count: i32) -> Line
     ensures { result ≡ free_row n p count }
 {
-    let mut r = row(
+    listing(
         *b"pool\0\0\0\0\0",
-        Item::Number(n as u32),
-        Item::Signed(count),
-        Item::Number(p.length as u32),
-        Item::Nothing,
-        Item::Nothing,
-        Item::Nothing,
-        Item::Nothing,
-    );
-    r.pool = p;
-    r.which = LISTED;
-    r.count = least(p.length, 32);
-    r
+        &[
+            Item::Number(n as u32),
+            Item::Signed(count),
+            Item::Number(p.length as u32),
+        ],
+        Cells::Objects(p, least(p.length, 32)),
+    )
 }
 
 // And its marks.
@@ -161,11 +133,11 @@ fn free_row(n: u8, p: Pool, count: i32) -> Line
 fn marks_row(n: u8, p: Pool) -> Line
     ensures { result ≡ marks_row n p }
 {
-    let mut r = brief(*b"marks\0\0\0\0", Item::Number(n as u32), Item::Nothing);
-    r.pool = p;
-    r.which = MARKS;
-    r.count = 32;
-    r
+    listing(
+        *b"marks\0\0\0\0",
+        &[Item::Number(n as u32)],
+        Cells::Marks(p),
+    )
 }
 
 // Row i of the pools, two a pool.
@@ -185,63 +157,64 @@ fn pool_row(t: Tables, i: u8) -> Line
 }
 
 // The place of word i of an object's words.
-fn word_place(part: u8, i: u8) -> u16
-    ensures { result ≡ word_place part i }
+fn word_place(part: Part, i: u8) -> u16
+    ensures { result ≡ word_place (part_number part) i }
 {
     let at = i as u16;
     match part {
-        SEMAPHORE_WORDS => at,
-        QUEUE_WORDS => 20 + at,
-        MAILBOX_WORDS => 28 + 4 * (at % 2) + at / 2,
+        Part::SemaphoreWords => at,
+        Part::QueueWords => 20 + at,
+        Part::MailboxWords => 28 + 4 * (at % 2) + at / 2,
         _ => 16 + at,
     }
 }
 
 // Row i of the words.
 #[tactic(auto, unfolding(crate::specs::Tables::word_row))]
-pub(crate) fn word_row(w: Words, part: u8, i: u8) -> Line
-    ensures { result ≡ word_row w part i }
+pub(crate) fn word_row(w: Words, part: Part, i: u8) -> Line
+    ensures { result ≡ word_row w (part_number part) i }
 {
-    if part == READY_WORD {
-        brief(
+    match part {
+        Part::ReadyWord => brief(
             *b"ready\0\0\0\0",
             Item::Number(w.ready as u32),
             Item::Nothing,
-        )
-    } else {
-        let place = word_place(part, i);
-        let word = waiting_at(w, place as u32);
-        brief(*b"waiting\0\0", queued_at(place), Item::Number(word as u32))
+        ),
+        _ => {
+            let place = word_place(part, i);
+            let word = waiting_at(w, place as u32);
+            brief(*b"waiting\0\0", queued_at(place), Item::Number(word as u32))
+        }
     }
 }
 
 // Row i of a table.
 #[tactic(auto, unfolding(crate::specs::Tables::table_row))]
-pub(crate) fn table_row(t: Tables, part: u8, i: u8) -> Line
-    ensures { result ≡ table_row t part i }
+pub(crate) fn table_row(t: Tables, part: Part, i: u8) -> Line
+    ensures { result ≡ table_row t (part_number part) i }
 {
     let k = t.kernel;
     let threads = k.threads;
     let counters = k.counters;
     let references = k.references;
     match part {
-        THREADS => thread_row(i, thread_at(threads, i)),
-        SEMAPHORES => brief(
+        Part::Threads => thread_row(i, thread_at(threads, i)),
+        Part::Semaphores => brief(
             *b"semaphore",
             Item::Number(i as u32),
             Item::Signed(counter_at(counters, i as u16)),
         ),
-        QUEUES => brief(
+        Part::Queues => brief(
             *b"queue\0\0\0\0",
             Item::Number(i as u32),
             Item::Signed(counter_at(counters, 20 + i as u16)),
         ),
-        REFERENCES => brief(
+        Part::References => brief(
             *b"reference",
             Item::Number(i as u32),
             Item::Number(holder_at(references, i as u16) as u32),
         ),
-        MAILBOXES => mailbox_row(t, i),
+        Part::Mailboxes => mailbox_row(t, i),
         _ => pool_row(t, i),
     }
 }

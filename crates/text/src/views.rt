@@ -1,47 +1,29 @@
 // What each view prints of a trace: which parts stand before all records, behind each step's record, and at the end; and one loop for all.
 ghost use Rattle.std.specs.Prelude.{◌≡◌};
-ghost use Rattle.trace.specs.Decoding.{next_read};
-ghost use Rattle.text.specs.Put.{Put};
+ghost use Rattle.trace.specs.Decoding.{told_found, told_sizes, next_read};
+ghost use Rattle.buffers.specs.Put.{Puts};
+ghost use Rattle.text.specs.Parts.{part_number};
 ghost use Rattle.text.specs.Views.{view_parts, waking_row, step_line, step_row, row_of, rows_in, head_text, part_text, parts_text, stop_text, fresh_seen, report_of, seen_after, seen_behind, shown_parts, record_of, Listed};
 
-use crate::items::{Item, Line, brief, no_row, numbered, put_row, put_word};
-use crate::sums::{MAILBOX_SUMS, POOL_SUMS, sum_row};
+use crate::items::{Item, Line, brief, no_row, numbered, put_row};
+use crate::parts::{Part, part_of};
+use crate::sums::sum_row;
 use crate::tables::{least, table_row, word_row};
 use crate::why::waited_at;
 use accounts::account::{Account, fresh_account};
 use accounts::accounting::{Report, account_step, call_by};
+use buffers::putting::Sheet;
 use kernel::clock::Clock;
 use kernel::records::Thread;
 use kernel::tables::thread_at;
-use kernel::units::Rate;
 use kernel::words::has_bit;
 use library::calls::Step;
-use library::fresh::make;
+use library::fresh::{Fresh, make, none_made};
 use library::sizes::Sizes;
 use library::tables::Tables;
 use steps::stepping::{Outcome, step};
 use trace::cursor::read_at;
-use trace::decoding::Found;
-
-// The parts that `tables` and `sums` do not have.
-const STEP: u8 = 0;
-
-const ANSWER: u8 = 1;
-
-const CLOCK: u8 = 13;
-
-const STEPS: u8 = 14;
-
-const ANSWERED: u8 = 15;
-
-const WAKINGS: u8 = 16;
-
-const OBJECT_SUMS: u8 = 19;
-
-// Two that are a heading alone.
-const LIST_HEAD: u8 = 20;
-
-const WHY_HEAD: u8 = 21;
+use trace::decoding::{BadRecord, Record};
 
 // What is printed: a line for each step, these with all tables, a line for each waking, or the account at the end; and without a heading a
 // line for each step that has its message and datum too.
@@ -55,6 +37,7 @@ pub enum View {
 }
 
 // A view: from which part on and how many stand before all records, behind each step's, and at the end.
+// Numbers, for a view shows parts in a row, from one on, and `view_parts` (specs/Views.antt) tells it so.
 #[derive(Clone, Copy)]
 pub struct Parts {
     pub head: u8,
@@ -78,12 +61,11 @@ pub struct Seen {
     pub account: Account,
 }
 
-// A trace under way: what is known behind the last record, the place in the trace, and the place in the buffer.
+// A trace under way: what is known behind the last record, and the place in the trace.
 #[derive(Clone, Copy)]
 pub struct Listing {
     pub seen: Seen,
     pub at: usize,
-    pub end: usize,
 }
 
 pub(crate) fn parts_of(view: View) -> Parts
@@ -91,25 +73,25 @@ pub(crate) fn parts_of(view: View) -> Parts
 {
     match view {
         View::Lines => Parts {
-            head: LIST_HEAD,
+            head: Part::ListHead as u8,
             heads: 1,
-            step: STEP,
+            step: Part::Step as u8,
             steps: 1,
             end: 0,
             ends: 0,
         },
         View::AllTables => Parts {
-            head: LIST_HEAD,
+            head: Part::ListHead as u8,
             heads: 1,
-            step: STEP,
+            step: Part::Step as u8,
             steps: 15,
             end: 0,
             ends: 0,
         },
         View::Wakings => Parts {
-            head: WHY_HEAD,
+            head: Part::WhyHead as u8,
             heads: 1,
-            step: WAKINGS,
+            step: Part::Wakings as u8,
             steps: 1,
             end: 0,
             ends: 0,
@@ -119,13 +101,13 @@ pub(crate) fn parts_of(view: View) -> Parts
             heads: 0,
             step: 0,
             steps: 0,
-            end: MAILBOX_SUMS,
+            end: Part::MailboxSums as u8,
             ends: 3,
         },
         View::Answers => Parts {
             head: 0,
             heads: 0,
-            step: ANSWERED,
+            step: Part::Answered as u8,
             steps: 1,
             end: 0,
             ends: 0,
@@ -145,15 +127,13 @@ fn waking_row(x: Seen, i: u8) -> Line
     let is = thread_at(threads, i);
     let outcome = x.outcome;
     if has_bit(outcome.woken, i) {
-        numbered(
-            is.step,
+        numbered(&[
+            Item::Plain(is.step),
             Item::Number(i as u32),
             Item::Cause(is.cause),
             waited_at(call_by(x.step, i, was.call)),
             Item::Signed(is.message),
-            Item::Nothing,
-            Item::Nothing,
-        )
+        ])
     } else {
         no_row()
     }
@@ -164,21 +144,21 @@ fn waking_row(x: Seen, i: u8) -> Line
 fn step_line(number: u32, o: Outcome, message: Item, datum: Item) -> Line
     ensures { result ≡ step_line number o message datum }
 {
-    numbered(
-        number,
+    numbered(&[
+        Item::Plain(number),
         Item::Number(o.code as u32),
         Item::Number(o.running as u32),
         Item::Number(o.woken as u32),
         Item::Number(o.finished as u32),
         message,
         datum,
-    )
+    ])
 }
 
 // A row of a step: its line, its answer, the clock, the number of accepted steps, its line with its answer, or a waking.
 #[tactic(auto, unfolding(crate::specs::Views::step_row))]
-fn step_row(x: Seen, part: u8, i: u8) -> Line
-    ensures { result ≡ step_row x part i }
+fn step_row(x: Seen, part: Part, i: u8) -> Line
+    ensures { result ≡ step_row x (part_number part) i }
 {
     let o = x.outcome;
     let k = x.tables.kernel;
@@ -187,139 +167,120 @@ fn step_row(x: Seen, part: u8, i: u8) -> Line
     let message = Item::Signed(o.message);
     let datum = Item::Number(o.datum);
     match part {
-        STEP => step_line(x.number, o, Item::Nothing, Item::Nothing),
-        ANSWER => brief(*b"answer\0\0\0", message, datum),
-        CLOCK => brief(
+        Part::Step => step_line(x.number, o, Item::Nothing, Item::Nothing),
+        Part::Answer => brief(*b"answer\0\0\0", message, datum),
+        Part::Clock => brief(
             *b"clock\0\0\0\0",
             Item::Number(time.0),
             Item::Number(clock.frequency),
         ),
-        STEPS => brief(*b"steps\0\0\0\0", Item::Number(k.steps), Item::Nothing),
-        ANSWERED => step_line(x.number, o, message, datum),
+        Part::Steps => brief(*b"steps\0\0\0\0", Item::Number(k.steps), Item::Nothing),
+        Part::Answered => step_line(x.number, o, message, datum),
         _ => waking_row(x, i),
     }
 }
 
 // Row i of a part.
 #[tactic(auto, unfolding(crate::specs::Views::row_of))]
-fn row_of(x: Seen, part: u8, i: u8) -> Line
-    ensures { result ≡ row_of x part i }
+fn row_of(x: Seen, part: Part, i: u8) -> Line
+    ensures { result ≡ row_of x (part_number part) i }
 {
     let t = x.tables;
     let k = t.kernel;
     let words = k.words;
     let account = x.account;
-    if part < 2 {
-        step_row(x, part, i)
-    } else if part < 8 {
-        table_row(t, part, i)
-    } else if part < 13 {
-        word_row(words, part, i)
-    } else if part < 17 {
-        step_row(x, part, i)
-    } else {
-        sum_row(account, t, part, i)
+    match part {
+        Part::Step | Part::Answer | Part::Clock | Part::Steps | Part::Answered | Part::Wakings => {
+            step_row(x, part, i)
+        }
+        Part::Threads
+        | Part::Semaphores
+        | Part::Queues
+        | Part::References
+        | Part::Mailboxes
+        | Part::Pools => table_row(t, part, i),
+        Part::ReadyWord
+        | Part::SemaphoreWords
+        | Part::QueueWords
+        | Part::MailboxWords
+        | Part::PoolWords => word_row(words, part, i),
+        _ => sum_row(account, t, part, i),
     }
 }
 
 // What stands before a part's rows.
 #[tactic(auto, unfolding(crate::specs::Views::head_text))]
-fn put_head(out: &mut [u8], at: usize, part: u8) -> usize
-    ensures { Put out.old out.new at result (head_text part) }
+fn heading(part: Part) -> &'static [u8]
+    ensures { result.now ≡ head_text (part_number part) }
 {
     match part {
-        MAILBOX_SUMS => put_word(out, at, b"mailbox posted fetched lost present\n"),
-        POOL_SUMS => put_word(out, at, b"pool added free out\n"),
-        OBJECT_SUMS => put_word(out, at, b"pool object thread step\n"),
-        LIST_HEAD => put_word(out, at, b"step code run woke done\n"),
-        WHY_HEAD => put_word(out, at, b"step thread cause object message\n"),
-        _ => at,
+        Part::MailboxSums => b"mailbox posted fetched lost present\n",
+        Part::PoolSums => b"pool added free out\n",
+        Part::ObjectSums => b"pool object thread step\n",
+        Part::ListHead => b"step code run woke done\n",
+        Part::WhyHead => b"step thread cause object message\n",
+        _ => b"",
     }
 }
 
 // How many rows a part has: as many as there are objects, each mailbox with two words, each pool with two rows and 32 objects.
 #[tactic(auto, unfolding(crate::specs::Views::rows_in))]
-fn rows_in(z: Sizes, part: u8) -> u8
-    ensures { result ≡ rows_in z part }
+fn rows_in(z: Sizes, part: Part) -> u8
+    ensures { result ≡ rows_in z (part_number part) }
 {
-    let t = least(z.threads, 16);
-    let s = least(z.semaphores, 16);
-    let q = least(z.queues, 8);
-    let r = least(z.references, 8);
-    let m = least(z.mailboxes, 4);
-    let p = least(z.pools, 4);
-    let all = [
-        1,
-        1,
-        t,
-        s,
-        q,
-        r,
-        m,
-        2 * p,
-        1,
-        s,
-        q,
-        2 * m,
-        p,
-        1,
-        1,
-        1,
-        16,
-        m,
-        p,
-        32 * p,
-    ];
-    let at = part as usize;
-    if at < 20 { all[at] } else { 0 }
+    match part {
+        Part::Step | Part::Answer | Part::ReadyWord | Part::Clock | Part::Steps | Part::Answered =>
+            1,
+        Part::Threads => least(z.threads, 16),
+        Part::Semaphores | Part::SemaphoreWords => least(z.semaphores, 16),
+        Part::Queues | Part::QueueWords => least(z.queues, 8),
+        Part::References => least(z.references, 8),
+        Part::Mailboxes | Part::MailboxSums => least(z.mailboxes, 4),
+        Part::MailboxWords => 2 * least(z.mailboxes, 4),
+        Part::Pools => 2 * least(z.pools, 4),
+        Part::PoolWords | Part::PoolSums => least(z.pools, 4),
+        Part::ObjectSums => 32 * least(z.pools, 4),
+        Part::Wakings => 16,
+        Part::ListHead | Part::WhyHead => 0,
+    }
 }
 
 // A part: what stands before its rows, and these.
 #[tactic(auto, unfolding(crate::specs::Views::part_text))]
-fn put_part(out: &mut [u8], at: usize, x: Seen, part: u8) -> usize
-    ensures { Put out.old out.new at result (part_text x part) }
+fn put_part(sheet: &mut Sheet, x: Seen, part: Part)
+    ensures { Puts sheet.old sheet.new (part_text x (part_number part)) }
 {
     let t = x.tables;
-    let sizes = t.sizes;
-    let n = rows_in(sizes, part);
-    let mut end = put_head(out, at, part);
-    let mut i: u8 = 0;
-    while i < n {
-        end = put_row(out, end, row_of(x, part, i));
-        i += 1;
+    sheet.put_word(heading(part));
+    for i in 0..rows_in(t.sizes, part) {
+        put_row(sheet, row_of(x, part, i));
     }
-    end
 }
 
 // Some parts, one behind the other.
 #[tactic(auto, unfolding(crate::specs::Views::parts_text))]
-pub(crate) fn put_parts(out: &mut [u8], at: usize, x: Seen, from: u8, n: u8) -> usize
-    ensures { Put out.old out.new at result (parts_text x from n) }
+pub(crate) fn put_parts(sheet: &mut Sheet, x: Seen, from: u8, n: u8)
+    ensures { Puts sheet.old sheet.new (parts_text x from n) }
 {
-    let mut end = at;
-    let mut i: u8 = 0;
-    while i < n {
-        end = put_part(out, end, x, std::num::wrapping_add_u8(from, i));
-        i += 1;
+    for i in 0..n {
+        if let Some(part) = part_of(from.wrapping_add(i)) {
+            put_part(sheet, x, part);
+        }
     }
-    end
 }
 
 // Where reading stopped at a bad record: `stopped`, its number, the code.
-fn put_stop(out: &mut [u8], at: usize, found: Found) -> usize
-    ensures { Put out.old out.new at result (stop_text found) }
+fn put_stop(sheet: &mut Sheet, found: Result<Option<Record>, BadRecord>)
+    ensures { Puts sheet.old sheet.new (stop_text (told_found found)) }
 {
     match found {
-        Found::Opened => at,
-        Found::Stepped(_) => at,
-        Found::Ended => at,
-        Found::Refused(code, number) => put_row(
-            out,
-            at,
+        Ok(_) => {}
+        Err(bad) => put_row(
+            sheet,
             brief(
                 *b"stopped\0\0",
-                Item::Long(number as u64),
-                Item::Number(code as u32),
+                Item::Long(bad.number as u64),
+                Item::Number(bad.why as u32),
             ),
         ),
     }
@@ -333,9 +294,8 @@ const LISTED_FREQUENCY: u32 = 1000;
 pub(crate) fn fresh_seen(sizes: Sizes) -> Seen
     ensures { result ≡ fresh_seen sizes }
 {
-    let m = make(sizes, Rate::Given(LISTED_FREQUENCY));
-    let tables = m.tables;
-    let clock = m.clock;
+    let made = make(sizes, Some(LISTED_FREQUENCY));
+    let Fresh { tables, clock } = made.unwrap_or_else(|_| none_made());
     let found = tables.kernel.threads;
     let account = fresh_account();
     let none = Step {
@@ -402,14 +362,13 @@ fn see(number: u32, x: Seen, s: Step) -> Seen
 }
 
 // What is known behind a record of this number.
-fn see_read(number: u32, x: Seen, sizes: Sizes, found: Found) -> Seen
-    ensures { result ≡ seen_behind number x sizes found }
+fn see_read(number: u32, x: Seen, found: Result<Option<Record>, BadRecord>) -> Seen
+    ensures { result ≡ seen_behind number x (told_sizes found) (told_found found) }
 {
     match found {
-        Found::Opened => fresh_seen(sizes),
-        Found::Stepped(s) => see(number, x, s),
-        Found::Ended => x,
-        Found::Refused(_, _) => x,
+        Ok(Some(Record::Sizes(z))) => fresh_seen(z),
+        Ok(Some(Record::Step(s))) => see(number, x, s),
+        _ => x,
     }
 }
 
@@ -420,40 +379,34 @@ struct Shown {
     n: u8,
 }
 
-fn shown_of(v: Parts, found: Found) -> Shown
-    ensures { result ≡ shown_parts v found }
+fn shown_of(v: Parts, found: Result<Option<Record>, BadRecord>) -> Shown
+    ensures { result ≡ shown_parts v (told_found found) }
 {
     match found {
-        Found::Opened => Shown { from: 0, n: 0 },
-        Found::Stepped(_) => Shown {
+        Ok(Some(Record::Sizes(_))) => Shown { from: 0, n: 0 },
+        Ok(Some(Record::Step(_))) => Shown {
             from: v.step,
             n: v.steps,
         },
-        Found::Ended => Shown {
-            from: v.end,
-            n: v.ends,
-        },
-        Found::Refused(_, _) => Shown {
+        _ => Shown {
             from: v.end,
             n: v.ends,
         },
     }
 }
 
-// The next record of a trace: it is read, and its text stands in the buffer behind what was there.
-pub(crate) fn list_next(out: &mut [u8], s: &[u8], x: Listing, number: u32, v: Parts) -> Listing
-    ensures { Listed out.old out.new x result (record_of v number x.seen (next_read s.now x.at)) }
+// The next record of a trace: it is read, and its text goes on the sheet behind what was there.
+pub(crate) fn list_next(sheet: &mut Sheet, s: &[u8], x: Listing, number: u32, v: Parts) -> Listing
+    ensures { Listed sheet.old sheet.new x result (record_of v number x.seen (next_read s.now x.at)) }
 {
-    let at = x.at;
-    let read = read_at(s, at);
+    let read = read_at(s, x.at);
     let found = read.found;
-    let seen = see_read(number, x.seen, read.sizes, found);
+    let seen = see_read(number, x.seen, found);
     let shown = shown_of(v, found);
-    let text = put_parts(out, x.end, seen, shown.from, shown.n);
-    let end = put_stop(out, text, found);
+    put_parts(sheet, seen, shown.from, shown.n);
+    put_stop(sheet, found);
     Listing {
         seen: seen,
         at: read.next,
-        end: end,
     }
 }

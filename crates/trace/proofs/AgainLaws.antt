@@ -7,7 +7,7 @@ use lib.Dec.{eqb, ltb}
 use lib.ListN.{length, get_or, take, drop, length-drop, take-append-drop, get_or-eq_default}
 use lib.Seq.{drop-length, drop-drop, take-add, length-take-le, get_or-take, get_or-drop}
 use borrow.Author.Tests.{eqb-true, eqb-false, ltb-true, ltb-false}
-use Rattle.trace.specs.declared.decoding.Found.TheVariants.{Ended, Refused}
+use Rattle.trace.specs.Told.{Found}
 use Rattle.trace.specs.Ordered.{bytes_n, get_n}
 use Rattle.trace.specs.TraceBytes.{sizes_body, head_of, step_body, record_of, records_of, trace_of}
 use Rattle.trace.specs.Decoding.{number_at, head_refusal, step_refusal, decoded_sizes, decoded_step, head_sizes, opened_read, next_read}
@@ -75,11 +75,11 @@ record-again s at b r =
     let numbered : bytes_n 2 11 ≡ take 2 (drop at s) = ap (bytes_n 2) (sym r.sized) ∙ bytes-get 2 s at b (omega (arith, r.within)) in
     ap₂ (λ (v w : List ℕ). v ++ w) numbered (same ∙ ap (take 11) (sym (drop-drop 2 at s))) ∙ sym (take-add 2 11 (drop at s))
 
-not-ended : (code number : ℕ) → Refused code number ≡ Ended → ⊥
+not-ended : (code number : ℕ) → Found.Refused code number ≡ Found.Ended → ⊥
 not-ended code number e = let z : ◌≡◌ {A = ℕ} 0 1 = cc in omega arith
 
 -- steps that were read up to the end are the bytes from the place on
-steps-again : (n : ℕ) (s : List ℕ) (at : ℕ) → Bytes s → 0 < at → (read_from n s at).stop ≡ Ended → records_of (read_from n s at).steps ≡ drop at s
+steps-again : (n : ℕ) (s : List ℕ) (at : ℕ) → Bytes s → 0 < at → (read_from n s at).stop ≡ Found.Ended → records_of (read_from n s at).steps ≡ drop at s
 unfolding read_from
 steps-again zero s at b h e = absurd (not-ended 0 0 e)
 steps-again (suc n) s at b h e =
@@ -103,9 +103,9 @@ pub record ReadToItsEnd (s : List ℕ) : Type 0 where
   pub start : Head s
   pub sizes : (read_all s).sizes ≡ head_sizes s
   pub steps : (read_all s).steps ≡ (read_from (length s) s (3 + get_n 2 s 1)).steps
-  pub stop : (read_from (length s) s (3 + get_n 2 s 1)).stop ≡ Ended
+  pub stop : (read_from (length s) s (3 + get_n 2 s 1)).stop ≡ Found.Ended
 
-pub read_whole : (s : List ℕ) → (read_all s).stop ≡ Ended → ReadToItsEnd s
+pub read_whole : (s : List ℕ) → (read_all s).stop ≡ Found.Ended → ReadToItsEnd s
 unfolding read_all read_from next_read opened_read
 read_whole s e =
     split (eqb (head_refusal s) 0)

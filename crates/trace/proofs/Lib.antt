@@ -9,4 +9,5 @@ pub mod WritingLaws
 pub mod ReadingLaws
 pub mod AgainLaws
 pub mod TraceLaws
+pub mod ToldLaws
 pub mod Unique

@@ -2,6 +2,7 @@
 -- that meet are one run.
 use Prim.Native.Nat.{ℕ, suc, ◌+◌, ◌%◌, ◌≤◌, ◌<◌}
 use native.Mathlib.Nat.{add-zero, add-suc, suc-add, mod-eq_of_lt}
+use native.Mathlib.Numerals.{add-one}
 use native.Mathlib.Omega.{arith}
 use mathlib.Core.Path.{◌≡◌, refl, sym, ap, ◌∙◌}
 use mathlib.Core.List.{List, [], ◌∷◌, ◌++◌, append_assoc}
@@ -67,51 +68,52 @@ step_run l at x l₁ l₂ l₃ h e₁ e₂ e₃ =
     e₂ ∙ put-more l m at (at + 5) (bytes_n 2 11 ++ three) named refl 4 x.a (omega arith) in
     e₃ ∙ put-more l l₂ at (at + 9) (bytes_n 2 11 ++ three ++ bytes_n 4 x.a) valued refl 4 x.timeout (omega arith)
 
--- ---- the version byte and record 0, of sizes z within their limits
+-- ---- the version byte and record 0
+
+-- what stands before the slots, and the slots of the first mailboxes
+abbrev fixed : Sizes → List ℕ
+fixed z = 1 ∷ (bytes_n 2 (6 + z.mailboxes) ++ (z.threads ∷ z.semaphores ∷ z.queues ∷ z.references ∷ z.mailboxes ∷ z.pools ∷ []))
+
+abbrev slots : Sizes → List ℕ
+slots z = take z.mailboxes z.slots
+
+abbrev pub head_upto : Sizes → ℕ → List ℕ
+head_upto z i = fixed z ++ take i (slots z)
+
+-- of sizes z within their limits, into a buffer l with room for them
 module _ (l : List ℕ) (z : Sizes) (small : Limits z) (four : length z.slots ≡ 4) (room : Room (length l) 0 (9 + z.mailboxes)) where
-  -- what stands before the slots
-  abbrev fixed : List ℕ
-  fixed = 1 ∷ (bytes_n 2 (6 + z.mailboxes) ++ (z.threads ∷ z.semaphores ∷ z.queues ∷ z.references ∷ z.mailboxes ∷ z.pools ∷ []))
-
-  abbrev slots : List ℕ
-  slots = take z.mailboxes z.slots
-
-  as_many : length slots ≡ z.mailboxes
+  as_many : length (slots z) ≡ z.mailboxes
   as_many = length-take-le z.mailboxes z.slots (omega (arith, small.mailboxes))
 
-  -- mailbox i's slots, behind those of the mailboxes before it
-  slot-more : (m : List ℕ) (i : ℕ) → m ≡ sets l 0 (fixed ++ take i slots) → slot_written z i m ≡ sets l 0 (fixed ++ take (suc i) slots)
-  slot-more m i e =
-      split (ltb i z.mailboxes)
-      (λ t.
-      let h : i < z.mailboxes = ltb-true i z.mailboxes t in
-      let v : slots_at z i % 256 ≡ slots_at z i = mod-eq_of_lt (omega (arith, small.slots i h)) in
-      let n : length (take i slots) ≡ i = length-take-le i slots (omega (arith, as_many)) in
-      let at : 0 + length (fixed ++ take i slots) ≡ 9 + i = omega (arith, length-append fixed (take i slots)) in
-      let more : take (suc i) slots ≡ take i slots ++ (slots_at z i ∷ []) =
-      take-suc slots i 0 (omega (arith, as_many)) ∙ ap (λ (b : ℕ). take i slots ++ (b ∷ [])) (get_or-take z.mailboxes z.slots i 0 h) in
-      rw (t, v, more) (sets_more l m 0 (9 + i) (fixed ++ take i slots) (slots_at z i ∷ []) e at ∙ ap (sets l 0) (append_assoc fixed (take i slots) (slots_at z i ∷ []))))
-      (λ f.
-      let h : length slots ≤ i = omega (arith, ltb-false i z.mailboxes f, as_many) in
-      rw f (e ∙ ap (λ (b : List ℕ). sets l 0 (fixed ++ b)) (take_all i slots h ∙ sym (take_all (suc i) slots (omega arith)))))
-
-  -- l₁ to l₅ are the buffers that the callees left
-  pub head-run : (l₁ l₂ l₃ l₄ l₅ : List ℕ)
-      → l₁ ≡ put_n 2 (set l 0 1) 1 (6 + z.mailboxes)
-      → l₂ ≡ slot_written z 0 (set (set (set (set (set (set l₁ 3 z.threads) 4 z.semaphores) 5 z.queues) 6 z.references) 7 z.mailboxes) 8 z.pools)
-      → l₃ ≡ slot_written z 1 l₂
-      → l₄ ≡ slot_written z 2 l₃
-      → l₅ ≡ slot_written z 3 l₄
-      → l₅ ≡ sets l 0 (head_of z)
-  unfolding head_of
-  head-run l₁ l₂ l₃ l₄ l₅ e₁ e₂ e₃ e₄ e₅ =
+  -- l₁ is the buffer that the callee left
+  pub fixed-run : (l₁ : List ℕ) → l₁ ≡ put_n 2 (set l 0 1) 1 (6 + z.mailboxes)
+      → set (set (set (set (set (set l₁ 3 z.threads) 4 z.semaphores) 5 z.queues) 6 z.references) 7 z.mailboxes) 8 z.pools ≡ sets l 0 (head_upto z 0)
+  fixed-run l₁ e₁ =
       let sized : l₁ ≡ sets l 0 (1 ∷ bytes_n 2 (6 + z.mailboxes)) =
       e₁ ∙ put-more l (set l 0 1) 0 1 (1 ∷ []) refl refl 2 (6 + z.mailboxes) (omega arith) in
       let counts : List ℕ = z.threads ∷ z.semaphores ∷ z.queues ∷ z.references ∷ z.mailboxes ∷ z.pools ∷ [] in
-      let counted : sets l₁ 3 counts ≡ sets l 0 (fixed ++ take 0 slots) = sets_more l l₁ 0 3 (1 ∷ bytes_n 2 (6 + z.mailboxes)) counts sized refl in
-      let s₀ : l₂ ≡ sets l 0 (fixed ++ take 1 slots) = e₂ ∙ slot-more _ 0 counted in
-      let s₁ : l₃ ≡ sets l 0 (fixed ++ take 2 slots) = e₃ ∙ slot-more _ 1 s₀ in
-      let s₂ : l₄ ≡ sets l 0 (fixed ++ take 3 slots) = e₄ ∙ slot-more _ 2 s₁ in
-      let s₃ : l₅ ≡ sets l 0 (fixed ++ take 4 slots) = e₅ ∙ slot-more _ 3 s₂ in
+      sets_more l l₁ 0 3 (1 ∷ bytes_n 2 (6 + z.mailboxes)) counts sized refl
+
+  -- mailbox i's slots, behind those of the mailboxes before it
+  pub slot-more : (m m₂ : List ℕ) (i : ℕ) → m ≡ sets l 0 (head_upto z i) → m₂ ≡ slot_written z i m → m₂ ≡ sets l 0 (head_upto z (i + 1))
+  slot-more m m₂ i e e₂ =
+      e₂
+      ∙ split (ltb i z.mailboxes)
+      (λ t.
+      let h : i < z.mailboxes = ltb-true i z.mailboxes t in
+      let v : slots_at z i % 256 ≡ slots_at z i = mod-eq_of_lt (omega (arith, small.slots i h)) in
+      let n : length (take i (slots z)) ≡ i = length-take-le i (slots z) (omega (arith, as_many)) in
+      let at : 0 + length (fixed z ++ take i (slots z)) ≡ 9 + i = omega (arith, length-append (fixed z) (take i (slots z))) in
+      let more : take (suc i) (slots z) ≡ take i (slots z) ++ (slots_at z i ∷ []) =
+      take-suc (slots z) i 0 (omega (arith, as_many)) ∙ ap (λ (b : ℕ). take i (slots z) ++ (b ∷ [])) (get_or-take z.mailboxes z.slots i 0 h) in
+      rw (t, v, add-one i, more)
+      (sets_more l m 0 (9 + i) (fixed z ++ take i (slots z)) (slots_at z i ∷ []) e at ∙ ap (sets l 0) (append_assoc (fixed z) (take i (slots z)) (slots_at z i ∷ []))))
+      (λ f.
+      let h : length (slots z) ≤ i = omega (arith, ltb-false i z.mailboxes f, as_many) in
+      rw f (e ∙ ap (λ (b : List ℕ). sets l 0 (fixed z ++ b)) (take_all i (slots z) h ∙ sym (take_all (i + 1) (slots z) (omega arith)))))
+
+  pub head-run : (m : List ℕ) → m ≡ sets l 0 (head_upto z 4) → m ≡ sets l 0 (head_of z)
+  unfolding head_of
+  head-run m e =
       let n : 6 + z.mailboxes ≡ length (sizes_body z) = omega (arith, as_many) in
-      s₃ ∙ ap (λ (b : List ℕ). sets l 0 (fixed ++ b)) (take_all 4 slots (omega (arith, as_many, small.mailboxes))) ∙ rw n
+      e ∙ ap (λ (b : List ℕ). sets l 0 (fixed z ++ b)) (take_all 4 (slots z) (omega (arith, as_many, small.mailboxes))) ∙ rw n

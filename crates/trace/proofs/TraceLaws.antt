@@ -10,9 +10,8 @@ use lib.Seq.{take-append_seam}
 use borrow.Author.Tests.{eqb-true, ne_eqb, le-ltb}
 use Rattle.library.specs.declared.calls.Step.{Step}
 use Rattle.library.specs.declared.sizes.Sizes.{Sizes}
-use Rattle.trace.specs.declared.decoding.Found.TheVariants.{Ended}
-use Rattle.trace.specs.declared.writer.Written.TheVariants.{Upto}
 use Rattle.library.specs.Sizes.{sizes_fit}
+use Rattle.trace.specs.Told.{Found, Written}
 use Rattle.trace.specs.TraceBytes.{longest, head_of, record_of, records_of, trace_of}
 use Rattle.trace.specs.Decoding.{found_code, number_at, head_refusal, step_refusal, refused_read, refusal_at, opened_read, stepped_read, next_read}
 use Rattle.trace.specs.Writer.{written_code, write_answer, room_refusal, sizes_refusal, sizes_written, step_written}
@@ -27,9 +26,9 @@ use Rattle.trace.proofs.WritingLaws.{length-record, length-head, all-written}
 
 pub record RoundTrip (z : Sizes) (xs : List Step) (l : List ℕ) : Type 0 where
   -- every record is accepted, and the buffer holds the trace, and behind it what it held before
-  pub written : written_all z xs l ≡ record { answer = Upto (length (trace_of z xs)); buffer = trace_of z xs ++ drop (length (trace_of z xs)) l }
+  pub written : written_all z xs l ≡ record { answer = Written.Upto (length (trace_of z xs)); buffer = trace_of z xs ++ drop (length (trace_of z xs)) l }
   -- what was written is read back as the same sizes and the same steps, and then the end
-  pub read : read_all (take (length (trace_of z xs)) (written_all z xs l).buffer) ≡ record { sizes = z; steps = xs; stop = Ended }
+  pub read : read_all (take (length (trace_of z xs)) (written_all z xs l).buffer) ≡ record { sizes = z; steps = xs; stop = Found.Ended }
 
 pub round_trip : (z : Sizes) (xs : List Step) (l : List ℕ) → sizes_fit z ≡ true → Tabled z → AllEncode xs
     → length (trace_of z xs) ≤ longest → length (trace_of z xs) ≤ length l → RoundTrip z xs l
@@ -42,12 +41,12 @@ round_trip z xs l fit t es h g =
 
 -- ---- what is read, written again, gives the same bytes
 
-pub read_again : (s : List ℕ) → Bytes s → (read_all s).stop ≡ Ended → trace_of (read_all s).sizes (read_all s).steps ≡ s
+pub read_again : (s : List ℕ) → Bytes s → (read_all s).stop ≡ Found.Ended → trace_of (read_all s).sizes (read_all s).steps ≡ s
 read_again s b e = trace-again s b (read_whole s e)
 
 -- and so it is written, into any buffer that holds it
-pub written-again : (s l : List ℕ) → Bytes s → (read_all s).stop ≡ Ended → length s ≤ length l
-    → written_all (read_all s).sizes (read_all s).steps l ≡ record { answer = Upto (length s); buffer = s ++ drop (length s) l }
+pub written-again : (s l : List ℕ) → Bytes s → (read_all s).stop ≡ Found.Ended → length s ≤ length l
+    → written_all (read_all s).sizes (read_all s).steps l ≡ record { answer = Written.Upto (length s); buffer = s ++ drop (length s) l }
 written-again s l b e h =
     let k : ReadToItsEnd s = read_whole s e in
     let same : trace_of (read_all s).sizes (read_all s).steps ≡ s = trace-again s b k in

@@ -12,6 +12,7 @@ use denote.Triple.Clauses.{AtExit}
 use denote.Triple.Entry.{Args, Res}
 use borrow.Fn.Kinds.{Dens, res_t, ended_of}
 use Rattle.kernel.proofs.Unique.{coincide, coincide-lent, Fixes}
+use Rattle.trace.proofs.ToldLaws.{read-one, written-one}
 use Rattle.trace.proofs.ordered.byte_at.Reads as ordered-byte-at
 use Rattle.trace.proofs.ordered.byte_at.Kinds as ordered-byte-at-kinds
 use Rattle.trace.proofs.ordered.read_u16.Reads as ordered-read-u16
@@ -30,7 +31,7 @@ use Rattle.trace.proofs.decoding.decode_step.Reads as decoding-decode-step
 use Rattle.trace.proofs.decoding.decode_step.Kinds as decoding-decode-step-kinds
 use Rattle.trace.proofs.decoding.next_record.Reads as decoding-next-record
 use Rattle.trace.proofs.decoding.next_record.Kinds as decoding-next-record-kinds
-use Rattle.trace.specs.contracts.cursor.next as cursor-next
+use Rattle.trace.specs.contracts.cursor.Reader.next as cursor-next
 use Rattle.trace.proofs.cursor.read_at.Reads as cursor-read-at
 use Rattle.trace.proofs.cursor.read_at.Kinds as cursor-read-at-kinds
 use Rattle.trace.proofs.writer.write_sizes.Reads as writer-write-sizes
@@ -57,10 +58,10 @@ pub decoding-decode-step-one : Fixes 1 decoding-decode-step-kinds.ps decoding-de
 decoding-decode-step-one κs a e x y = coincide
 
 pub decoding-next-record-one : Fixes 1 decoding-next-record-kinds.ps decoding-next-record-kinds.r decoding-next-record.Post
-decoding-next-record-one κs a e x y = coincide
+decoding-next-record-one κs a e x y p q = read-one (coincide p q)
 
 pub cursor-read-at-one : Fixes 1 cursor-read-at-kinds.ps cursor-read-at-kinds.r cursor-read-at.Post
-cursor-read-at-one κs a e x y = coincide
+cursor-read-at-one κs a e x y p q = read-one (coincide p q)
 
 -- The statement of a function over a reader is of the logic: whatever satisfies it twice is the same.
 module _ {M : Type 1} {𝓤 : Ura M} (𝓛 : Logic 𝓤) (at_mem : Memory → SProp 𝓤) (run : Routine → Fun 𝓤) where
@@ -69,8 +70,8 @@ module _ {M : Type 1} {𝓤 : Ura M} (𝓛 : Logic 𝓤) (at_mem : Memory → SP
     next-gives = (cursor-next.clauses 𝓛 at_mem run κs a).ensures tt
 
     -- and where the lent reader stands in the end
-    pub cursor-next-one : ent 𝓤 (sep 𝓤 (next-gives x e) (next-gives y f)) (fact 𝓤 ((x ≡ y) × (e.0.now ≡ f.0.now)))
-    cursor-next-one = coincide-lent 𝓤 (λ p q. (coincide p.0 q.0, coincide p.1 q.1))
+    pub cursor-Reader-next-one : ent 𝓤 (sep 𝓤 (next-gives x e) (next-gives y f)) (fact 𝓤 ((x ≡ y) × (e.0.now ≡ f.0.now)))
+    cursor-Reader-next-one = coincide-lent 𝓤 (λ p q. (read-one (coincide p.0 q.0), coincide p.1 q.1))
 
 module _ (κs : Lfts 1) (a : Dens κs ordered-write-u16-kinds.ps) (x y : (res_t ordered-write-u16-kinds.r κs).Denot)
     (e f : AtExit (ended_of 1 ordered-write-u16-kinds.ps ordered-write-u16-kinds.r) κs) where
@@ -88,10 +89,10 @@ module _ (κs : Lfts 1) (a : Dens κs writer-write-sizes-kinds.ps) (x y : (res_t
     (e f : AtExit (ended_of 1 writer-write-sizes-kinds.ps writer-write-sizes-kinds.r) κs) where
   -- and what the lent slice holds in the end
   pub writer-write-sizes-one : writer-write-sizes.Post κs a x e → writer-write-sizes.Post κs a y f → (x ≡ y) × (e.0.now ≡ f.0.now)
-  writer-write-sizes-one p q = (coincide p.0 q.0, coincide p.1 q.1)
+  writer-write-sizes-one p q = (written-one (coincide p.0 q.0), coincide p.1 q.1)
 
 module _ (κs : Lfts 1) (a : Dens κs writer-write-step-kinds.ps) (x y : (res_t writer-write-step-kinds.r κs).Denot)
     (e f : AtExit (ended_of 1 writer-write-step-kinds.ps writer-write-step-kinds.r) κs) where
   -- and what the lent slice holds in the end
   pub writer-write-step-one : writer-write-step.Post κs a x e → writer-write-step.Post κs a y f → (x ≡ y) × (e.0.now ≡ f.0.now)
-  writer-write-step-one p q = (coincide p.0 q.0, coincide p.1 q.1)
+  writer-write-step-one p q = (written-one (coincide p.0 q.0), coincide p.1 q.1)

@@ -1,13 +1,21 @@
 -- Numbers as bytes, at any width k: by induction on k, since a number is its last byte and the number of the others.
-use Prim.Native.Nat.{ℕ, zero, suc, ◌+◌, ◌*◌, ◌/◌, ◌%◌, ◌^◌, ◌≤◌, ◌<◌}
+use Prim.Native.Nat.{ℕ, zero, suc, ◌+◌, ◌-◌, ◌*◌, ◌/◌, ◌%◌, ◌^◌, ◌≤◌, ◌<◌}
 use native.Mathlib.Nat.{add-zero, zero-add, div-add-mod', div-lt_iff_lt-mul, zero-lt-suc, pow-suc}
 use native.Mathlib.Omega.{arith}
 use mathlib.Core.Path.{◌≡◌, refl, sym, ap, ap₂, ◌∙◌}
-use mathlib.Core.List.{List, [], ◌∷◌, ◌++◌}
-use lib.ListN.{length, get_or, take, drop, length-append, length-drop, get_or-append}
-use lib.Seq.{sets, get_or-append_seam, get_or-append-add, get_or-drop, take-suc}
+use mathlib.Core.Logic.{◌⊎◌, inl, inr}
+use mathlib.Core.List.{List, [], ◌∷◌, ◌++◌, append_assoc}
+use lib.ListN.{length, get_or, take, drop, get_or-eq_default, length-append, length-drop, get_or-append, set, length-set}
+use lib.Seq.{sets, get_or-append_seam, get_or-append-add, get_or-drop, take_all, take-suc, get_or-set_same, get_or-set_other}
+use denote.Ref.{Bor}
+use Rattle.std.specs.Prelude.{Option, Some, None, slice_range}
+use Rattle.std.specs.Option.{MatchOption, unwrap_or}
+use borrow.Rule.Slice.PartMut.{put_mid}
+use Rattle.std.proofs.lemmas.List.Edits.{paste_all, sets-eq}
+use Rattle.std.proofs.lemmas.Slice.{put_mid-paste}
 use borrow.Author.Tests.{le-leb}
-use Rattle.trace.specs.Ordered.{bytes_n, get_n, put_n}
+use Rattle.kernel.proofs.Cases.{same_or}
+use Rattle.trace.specs.Ordered.{bytes_n, get_n, put_bytes, put_n}
 
 pub length-bytes : (k x : ℕ) → length (bytes_n k x) ≡ k
 length-bytes zero x = refl
@@ -63,11 +71,44 @@ bytes-get (suc k) l at b h =
     ∙ ap (λ (m : List ℕ). m ++ (get_or (drop at l) k 0 ∷ [])) (bytes-get k l at b (omega arith))
     ∙ sym (take-suc (drop at l) k 0 (omega (arith, length-drop at l)))
 
+-- the first j of n bytes stand as they do in the rest of a slice
+pub record Filled (n j : ℕ) (rest bytes : List ℕ) : Type 0 where
+  pub long : length bytes ≡ n
+  pub so_far : (i : ℕ) → i < j → get_or bytes i 0 ≡ get_or rest i 0
+
+pub filled-more : (n j : ℕ) (rest bytes : List ℕ) (b : ℕ) → Filled n j rest bytes → j < n → b ≡ get_or rest j 0 → Filled n (j + 1) rest (set bytes j b)
+filled-more n j rest bytes b f h e =
+    record {
+      long = length-set bytes j b ∙ f.long;
+      so_far = λ i l.
+          same_or i j (λ z. rw z (get_or-set_same bytes j b 0 (omega (arith, f.long)) ∙ e))
+          (λ z. get_or-set_other bytes j i b 0 z ∙ f.so_far i (omega arith));
+    }
+
+-- the rest of a slice from a place on, or nothing past its end, reads as the slice
+pub rest-reads : (s : List ℕ) (at : ℕ) (r : Option (Bor (List ℕ))) (e : Bor (List ℕ)) → e.now ≡ []
+    → MatchOption r ((length s < at) ⊎ (length s < length s))
+    (λ y. (at ≤ length s) × (length s ≤ length s) × (y.now ≡ slice_range s at (length s)) × (length y.now + at ≡ length s))
+    → (j : ℕ) → get_or (unwrap_or r e).now j 0 ≡ get_or s (at + j) 0
+rest-reads s at None e n h j =
+    rw n (sym (get_or-eq_default s 0 {n = at + j} (elim h [ inl l ↦ omega arith | inr l ↦ omega arith ])))
+rest-reads s at (Some y) e n h j =
+    ap (λ (l : List ℕ). get_or l j 0) (h.2 ∙ take_all (length s - at) (drop at s) (omega (arith, length-drop at s))) ∙ get_or-drop at s j 0
+
 -- ---- writing
 
 pub put_some : (k : ℕ) (l : List ℕ) (at x : ℕ) → at + k ≤ length l → sets l at (bytes_n k x) ≡ put_n k l at x
 unfolding put_n
 put_some k l at x h = simp (le-leb (at + k) (length l) h)
+
+-- the code's copy into a part of a slice is a run of bytes
+pub part-put : (l : List ℕ) (at : ℕ) (bytes ys : List ℕ) → at ≤ length l → length bytes ≤ length l - at → ys ≡ bytes
+    → put_mid at (at + length bytes - at) l ys ≡ put_bytes l at bytes
+part-put l at bytes ys h g e =
+    let within : at + length bytes ≤ length l = omega arith in
+    rw (le-leb (at + length bytes) (length l) within)
+    (put_mid-paste at (at + length bytes - at) l ys bytes (length bytes) e (omega arith) refl ∙ paste_all l at bytes (length bytes) refl
+    ∙ sym (append_assoc (take at l) bytes _) ∙ sym (sets-eq bytes l at within))
 
 -- ---- the two widths, written out: a, b, c, d are the bytes from the place on
 module _ (l : List ℕ) (at a b : ℕ) (ea : a ≡ get_or l at 0) (eb : b ≡ get_or l (at + 1) 0) where

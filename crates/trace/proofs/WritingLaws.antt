@@ -8,9 +8,8 @@ use lib.ListN.{length, drop, length-append, length-drop}
 use lib.Seq.{sets, sets-eq, take-append_seam, drop-append-add, drop-drop, length-take-le}
 use Rattle.library.specs.declared.calls.Step.{Step}
 use Rattle.library.specs.declared.sizes.Sizes.{Sizes}
-use Rattle.trace.specs.declared.writer.Written.{Written}
-use Rattle.trace.specs.declared.writer.Written.TheVariants.{Upto}
 use Rattle.library.specs.Sizes.{sizes_fit}
+use Rattle.trace.specs.Told.{Written}
 use Rattle.trace.specs.TraceBytes.{longest, head_of, record_of, records_of, trace_of}
 use Rattle.trace.specs.Writer.{room_refusal, sizes_answer, sizes_written, step_answer, step_written}
 use Rattle.trace.specs.Traces.{written_from, written_all}
@@ -41,7 +40,7 @@ step-written p q x h g =
     let room : 0 ≡ room_refusal (length (p ++ q)) (length p) 13 = fits (length (p ++ q)) (length p) 13 h (omega (arith, length-append p q)) in
     rw (← room) (pasted p q (record_of x) g)
 
-step-answered : (p q : List ℕ) → length p + 13 ≤ longest → 13 ≤ length q → step_answer (length p) (p ++ q) ≡ Upto (length p + 13)
+step-answered : (p q : List ℕ) → length p + 13 ≤ longest → 13 ≤ length q → step_answer (length p) (p ++ q) ≡ Written.Upto (length p + 13)
 unfolding step_answer
 step-answered p q h g =
     let room : 0 ≡ room_refusal (length (p ++ q)) (length p) 13 = fits (length (p ++ q)) (length p) 13 h (omega (arith, length-append p q)) in
@@ -49,8 +48,8 @@ step-answered p q h g =
 
 -- steps are pasted as their records, one behind the other
 steps-written : (p q : List ℕ) (xs : List Step) → length p + length (records_of xs) ≤ longest → length (records_of xs) ≤ length q
-    → written_from (record { answer = Upto (length p); buffer = p ++ q }) xs
-    ≡ record { answer = Upto (length (p ++ records_of xs)); buffer = p ++ records_of xs ++ drop (length (records_of xs)) q }
+    → written_from (record { answer = Written.Upto (length p); buffer = p ++ q }) xs
+    ≡ record { answer = Written.Upto (length (p ++ records_of xs)); buffer = p ++ records_of xs ++ drop (length (records_of xs)) q }
 unfolding written_from
 steps-written p q [] h g = rw append-nil
 steps-written p q (x ∷ xs) h g =
@@ -64,15 +63,15 @@ steps-written p q (x ∷ xs) h g =
     let behind : drop (length (records_of xs)) q' ≡ drop (length (record_of x ++ records_of xs)) q =
     drop-drop (length (records_of xs)) 13 q ∙ ap (λ (k : ℕ). drop k q) (sym n) in
     ap₂ (λ (a : Written) (b : List ℕ). written_from (record { answer = a; buffer = b }) xs)
-    (step-answered p q (omega arith) (omega arith) ∙ ap Upto (sym next))
+    (step-answered p q (omega arith) (omega arith) ∙ ap Written.Upto (sym next))
     (step-written p q x (omega arith) (omega arith))
     ∙ steps-written p' q' xs (omega arith) (omega arith)
-    ∙ ap₂ (λ (a b : List ℕ). record { answer = Upto (length a); buffer = a ++ b }) same behind
+    ∙ ap₂ (λ (a b : List ℕ). record { answer = Written.Upto (length a); buffer = a ++ b }) same behind
 
 -- sizes and steps are pasted as their trace
 pub all-written : (z : Sizes) (xs : List Step) (l : List ℕ) → sizes_fit z ≡ true → length z.slots ≡ 4
     → length (trace_of z xs) ≤ longest → length (trace_of z xs) ≤ length l
-    → written_all z xs l ≡ record { answer = Upto (length (trace_of z xs)); buffer = trace_of z xs ++ drop (length (trace_of z xs)) l }
+    → written_all z xs l ≡ record { answer = Written.Upto (length (trace_of z xs)); buffer = trace_of z xs ++ drop (length (trace_of z xs)) l }
 unfolding written_all trace_of sizes_answer sizes_written
 all-written z xs l fit four h g =
     let n : length (head_of z) ≡ 9 + z.mailboxes = length-head z (limits z fit) four in
@@ -80,7 +79,7 @@ all-written z xs l fit four h g =
     let room : 0 ≡ room_refusal (length l) 0 (9 + z.mailboxes) = fits (length l) 0 (9 + z.mailboxes) (omega arith) (omega arith) in
     let left : length (drop (length (head_of z)) l) ≡ length l - length (head_of z) = length-drop (length (head_of z)) l in
     rw (fit, ← room, ← n)
-    (ap (λ (b : List ℕ). written_from (record { answer = Upto (length (head_of z)); buffer = b }) xs) (pasted [] l (head_of z) (omega arith))
+    (ap (λ (b : List ℕ). written_from (record { answer = Written.Upto (length (head_of z)); buffer = b }) xs) (pasted [] l (head_of z) (omega arith))
     ∙ steps-written (head_of z) (drop (length (head_of z)) l) xs (omega arith) (omega arith)
-    ∙ ap (λ (b : List ℕ). record { answer = Upto (length (head_of z ++ records_of xs)); buffer = head_of z ++ records_of xs ++ b })
+    ∙ ap (λ (b : List ℕ). record { answer = Written.Upto (length (head_of z ++ records_of xs)); buffer = head_of z ++ records_of xs ++ b })
     (drop-drop (length (records_of xs)) (length (head_of z)) l ∙ ap (λ (k : ℕ). drop k l) (sym m)))

@@ -1,21 +1,42 @@
 -- What stands at a place of a trace. "Refusals: 15 longer than 60,000 bytes; 11 empty or another version; 12 the input ends inside a
 -- length or body, or before record 0; 13 wrong length; 14 a size out of its limits; in that order, per record."
-use Rattle.std.specs.Prelude.{ℕ, ◌+◌, ◌-◌, ◌/◌, Bool, true, cond, List, [], ◌∷◌, eqb, ltb, length, get_or, take, drop}
+use Rattle.std.specs.Prelude.{ℕ, Result, Ok, Err, Option, Some, None, ◌+◌, ◌-◌, ◌/◌, Bool, true, cond, List, [], ◌∷◌, eqb, ltb, length, get_or, take, drop}
 use Rattle.library.specs.declared.calls.Step.{Step}
 use Rattle.library.specs.declared.sizes.Sizes.{Sizes}
-use Rattle.trace.specs.declared.decoding.Read.{Read}
-use Rattle.trace.specs.declared.decoding.Found.{Found}
-use Rattle.trace.specs.declared.decoding.Found.TheVariants.{Opened, Stepped, Ended, Refused}
+use Rattle.trace.specs.declared.decoding.Record.{Record}
+use Rattle.trace.specs.declared.decoding.Record.TheVariants as read
+use Rattle.trace.specs.declared.decoding.BadRecord.{BadRecord}
+use Rattle.trace.specs.declared.decoding.Read as declared
+use Rattle.kernel.specs.Told.{number}
+use Rattle.trace.specs.Told.{Found, Read}
 use Rattle.trace.specs.Ordered.{get_n}
 use Rattle.library.specs.Sizes.{sizes_fit, no_sizes}
 use Rattle.trace.specs.TraceBytes.{longest}
 
 -- the refusal's number in each case, 0 where nothing is refused
 abbrev pub found_code : Found → ℕ
-found_code Opened = 0
-found_code (Stepped x) = 0
-found_code Ended = 0
-found_code (Refused code number) = code
+found_code Found.Opened = 0
+found_code (Found.Stepped x) = 0
+found_code Found.Ended = 0
+found_code (Found.Refused code number) = code
+
+-- what a read of the code found, as it is told
+abbrev pub told_found : Result (Option Record) BadRecord → Found
+told_found (Ok (Some (read.Sizes z))) = Found.Opened
+told_found (Ok (Some (read.Step s))) = Found.Stepped s
+told_found (Ok None) = Found.Ended
+told_found (Err bad) = Found.Refused (number bad.why) bad.number
+
+-- the sizes beside it: record 0's, else none
+abbrev pub told_sizes : Result (Option Record) BadRecord → Sizes
+told_sizes (Ok (Some (read.Sizes z))) = z
+told_sizes (Ok (Some (read.Step s))) = no_sizes
+told_sizes (Ok None) = no_sizes
+told_sizes (Err bad) = no_sizes
+
+-- how a read of the code is told
+abbrev pub told_read : declared.Read → Read
+told_read r = record { found = told_found r.found; sizes = told_sizes r.found; next = r.next }
 
 -- the record's number, from its place: record 0's length is 8 to 12 bytes after the version byte, a later record's 13
 abbrev pub number_at : ℕ → ℕ
@@ -60,7 +81,7 @@ stopped_read f at = record { found = f; sizes = no_sizes; next = at }
 
 -- "A refused read gives the number, the record's number and no step, and moves no reader"
 abbrev pub refused_read : ℕ → ℕ → Read
-refused_read code at = stopped_read (Refused code (number_at at)) at
+refused_read code at = stopped_read (Found.Refused code (number_at at)) at
 
 -- the read of a refusal's number: 0 is what stands there, any other a refusal
 abbrev pub read_of : ℕ → ℕ → Read → Read
@@ -76,15 +97,15 @@ head_refusal s = cond (eqb (length_refusal s) 0) (cond (sizes_fit (head_sizes s)
 
 -- the version byte and record 0
 unfoldable pub opened_read : List ℕ → Read
-opened_read s = read_of (head_refusal s) 0 (record { found = Opened; sizes = head_sizes s; next = 3 + get_n 2 s 1 })
+opened_read s = read_of (head_refusal s) 0 (record { found = Found.Opened; sizes = head_sizes s; next = 3 + get_n 2 s 1 })
 
 -- a later record, or the end: "a body is handed to the step decoder as the part of the trace it is"
 unfoldable pub stepped_read : List ℕ → ℕ → Read
 stepped_read s at =
     cond (eqb at (length s))
-    (stopped_read Ended at)
+    (stopped_read Found.Ended at)
     (read_of (step_refusal s at) at
-    (record { found = Stepped (decoded_step (take 11 (drop (at + 2) s))); sizes = no_sizes; next = at + 13 }))
+    (record { found = Found.Stepped (decoded_step (take 11 (drop (at + 2) s))); sizes = no_sizes; next = at + 13 }))
 
 -- the refusal's number at a place, 0 where a record stands there or the trace ends
 abbrev pub refusal_at : List ℕ → ℕ → ℕ

@@ -2,11 +2,7 @@
 use Rattle.std.specs.Prelude.{ℕ, zero, suc, ◌<◌, ◌≤◌, ◌^◌, ◌≡◌, List, [], ◌∷◌, length, get_or}
 use Rattle.library.specs.declared.calls.Step.{Step}
 use Rattle.library.specs.declared.sizes.Sizes.{Sizes}
-use Rattle.trace.specs.declared.decoding.Read.{Read}
-use Rattle.trace.specs.declared.decoding.Found.{Found}
-use Rattle.trace.specs.declared.decoding.Found.TheVariants as found
-use Rattle.trace.specs.declared.writer.Written.{Written}
-use Rattle.trace.specs.declared.writer.Written.TheVariants as written
+use Rattle.trace.specs.Told.{Found, Read, Written}
 use Rattle.trace.specs.Decoding.{next_read}
 use Rattle.library.specs.Sizes.{slots_at, no_sizes}
 use Rattle.trace.specs.Writer.{sizes_answer, sizes_written, step_answer, step_written}
@@ -25,14 +21,14 @@ stopped f = record { sizes = no_sizes; steps = []; stop = f }
 
 -- one read, and the reads after it: the end and a refusal stop them
 abbrev pub read_on : Read → Found → Reading → Reading
-read_on r found.Opened rest = record { sizes = r.sizes; steps = rest.steps; stop = rest.stop }
-read_on r (found.Stepped x) rest = record { sizes = rest.sizes; steps = x ∷ rest.steps; stop = rest.stop }
-read_on r found.Ended rest = stopped found.Ended
-read_on r (found.Refused code number) rest = stopped (found.Refused code number)
+read_on r Found.Opened rest = record { sizes = r.sizes; steps = rest.steps; stop = rest.stop }
+read_on r (Found.Stepped x) rest = record { sizes = rest.sizes; steps = x ∷ rest.steps; stop = rest.stop }
+read_on r Found.Ended rest = stopped Found.Ended
+read_on r (Found.Refused code number) rest = stopped (Found.Refused code number)
 
 -- at most n reads from a place on; a refusal without a number where they do not come to a stop
 unfoldable pub read_from : ℕ → List ℕ → ℕ → Reading
-read_from zero s at = stopped (found.Refused 0 0)
+read_from zero s at = stopped (Found.Refused 0 0)
 read_from (suc n) s at = let rest = read_from n s (next_read s at).next in read_on (next_read s at) (next_read s at).found rest
 
 -- all of a trace: a record is longer than a byte, so these reads come to a stop (`comes-to-a-stop` in proofs/ReadingLaws.antt)
@@ -48,8 +44,8 @@ pub record Writing : Type 0 where
 
 -- one step more; after a refusal nothing is written
 abbrev pub written_on : Written → List ℕ → Step → Writing
-written_on (written.Upto at) l x = record { answer = step_answer at l; buffer = step_written x at l }
-written_on (written.Refused code) l x = record { answer = written.Refused code; buffer = l }
+written_on (Written.Upto at) l x = record { answer = step_answer at l; buffer = step_written x at l }
+written_on (Written.Refused code) l x = record { answer = Written.Refused code; buffer = l }
 
 -- steps, one after the other
 unfoldable pub written_from : Writing → List Step → Writing

@@ -4,19 +4,18 @@ use Rattle.std.specs.Prelude.{ℕ, ◌+◌, ◌%◌, cond, List, eqb, ltb, lengt
 use Rattle.std.proofs.lemmas.List.Edits.{sets}
 use Rattle.library.specs.declared.calls.Step.{Step}
 use Rattle.library.specs.declared.sizes.Sizes.{Sizes}
-use Rattle.trace.specs.declared.writer.Written.{Written}
-use Rattle.trace.specs.declared.writer.Written.TheVariants.{Upto, Refused}
 use Rattle.library.specs.Sizes.{slots_at, sizes_fit}
+use Rattle.trace.specs.Told.{Written}
 use Rattle.trace.specs.TraceBytes.{longest, head_of, record_of}
 
 -- the refusal's number in each case, 0 where the record was written
 abbrev pub written_code : Written → ℕ
-written_code (Upto next) = 0
-written_code (Refused code) = code
+written_code (Written.Upto next) = 0
+written_code (Written.Refused code) = code
 
 -- the answer of a number: 0 is the place after the record, any other a refusal
 abbrev pub write_answer : ℕ → ℕ → Written
-write_answer code next = cond (eqb code 0) (Upto next) (Refused code)
+write_answer code next = cond (eqb code 0) (Written.Upto next) (Written.Refused code)
 
 -- "15 above 60,000 bytes, 16 if its buffer is too short": n bytes from a place on, in a buffer of so many
 abbrev pub room_refusal : ℕ → ℕ → ℕ → ℕ

@@ -1,7 +1,7 @@
 // A trace reader that keeps hold of the trace and its place in it: a thin layer over `decoding`.
 // Whoever keeps the place elsewhere reads by `read_at`.
 ghost use Rattle.std.specs.Prelude.{◌≡◌};
-ghost use Rattle.trace.specs.Decoding.{next_read};
+ghost use Rattle.trace.specs.Decoding.{next_read, told_read};
 ghost use Rattle.trace.specs.Cursor.{moved};
 
 use crate::decoding::{Read, next_record};
@@ -12,22 +12,24 @@ pub struct Reader<'a> {
     pub at: usize,
 }
 
-// The next record. The reader is moved on only by a record that was read.
-#[tactic(auto, unfolding(crate::specs::Decoding::next_read))]
-pub fn next<'s, 'a>(r: &'s mut Reader<'a>) -> Read
-    ensures { (result ≡ next_read r.old.trace.now r.old.at) × (r.new ≡ moved r.old) }
-{
-    let at = r.at;
-    let found = next_record(r.trace, at);
-    r.at = found.next;
-    found
+impl<'a> Reader<'a> {
+    // The next record. The reader is moved on only by a record that was read.
+    #[tactic(auto, unfolding(crate::specs::Decoding::next_read))]
+    pub fn next(&mut self) -> Read
+        ensures { (told_read result ≡ next_read self.old.trace.now self.old.at) × (self.new ≡ moved self.old) }
+    {
+        let at = self.at;
+        let found = next_record(self.trace, at);
+        self.at = found.next;
+        found
+    }
 }
 
 // The record at a place, by a reader that stands there.
 #[tactic(auto, unfolding(crate::specs::Decoding::next_read))]
 pub fn read_at(s: &[u8], at: usize) -> Read
-    ensures { result ≡ next_read s.now at }
+    ensures { told_read result ≡ next_read s.now at }
 {
     let mut r = Reader { trace: s, at: at };
-    next(&mut r)
+    r.next()
 }

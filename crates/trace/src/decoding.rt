@@ -1,31 +1,35 @@
 // What stands at a place of a trace, decoded or refused, and the place after it. Nothing is kept here: `cursor` has the reader that
 // keeps hold of the trace and its place, a thin layer over `next_record`.
 ghost use Rattle.std.specs.Prelude.{◌≡◌};
-ghost use Rattle.trace.specs.Decoding.{number_at, ends_inside, length_refusal, step_refusal, decoded_sizes, decoded_step, stopped_read, refused_read, opened_read, stepped_read, next_read};
+ghost use Rattle.kernel.specs.Told.{number, code_of};
+ghost use Rattle.trace.specs.Decoding.{number_at, ends_inside, length_refusal, step_refusal, decoded_sizes, decoded_step, told_read, refused_read, opened_read, stepped_read, next_read};
 
 use crate::numbers::{LONGEST, STEP_BODY, STEP_RECORD, VERSION};
 use crate::ordered::{byte_at, read_u16, read_u32};
+use kernel::refusals::Refusal;
 use library::calls::Step;
-use library::sizes::{Sizes, no_sizes, sizes_fit};
+use library::sizes::{Sizes, sizes_fit};
 
-// What a read finds.
+// A record that was read.
 #[derive(Clone, Copy)]
-pub enum Found {
-    // record 0, whose sizes stand beside it
-    Opened,
-    // a later record
-    Stepped(Step),
-    // no more records
-    Ended,
-    // the refusal's number and the record's
-    Refused(u8, usize),
+pub enum Record {
+    // record 0
+    Sizes(Sizes),
+    // a later one
+    Step(Step),
 }
 
-// A read: what it found, record 0's sizes (else none), and the place after it, which is the same place unless a record was read.
+// Why a record is refused, and its number.
+#[derive(Clone, Copy)]
+pub struct BadRecord {
+    pub why: Refusal,
+    pub number: usize,
+}
+
+// A read: the record, or none at the trace's end, or a refusal; and the place after it, which is the same place unless a record was read.
 #[derive(Clone, Copy)]
 pub struct Read {
-    pub found: Found,
-    pub sizes: Sizes,
+    pub found: Result<Option<Record>, BadRecord>,
     pub next: usize,
 }
 
@@ -56,35 +60,40 @@ fn ends_inside(s: &[u8], at: usize) -> bool
     left - 2 < n
 }
 
-// The refusal of the version byte and of record 0's length, or 0. A length below 6 is none of 6 plus a byte.
+// The refusal of the version byte and of record 0's length, if any. A length below 6 is none of 6 plus a byte.
 #[tactic(auto, unfolding(crate::specs::Decoding::length_refusal))]
-fn judge_head(s: &[u8]) -> u8
-    ensures { result ≡ length_refusal s.now }
+fn judge_head(s: &[u8]) -> Result<(), Refusal>
+    ensures { code_of result ≡ length_refusal s.now }
 {
     if LONGEST < s.len() {
-        return 15;
+        return Err(Refusal::Long);
     }
     if byte_at(s, 0) != VERSION {
-        return 11;
+        return Err(Refusal::Version);
     }
     if ends_inside(s, 1) {
-        return 12;
+        return Err(Refusal::Cut);
     }
     let n = read_u16(s, 1) as usize;
     let mailboxes = byte_at(s, 7) as usize;
-    if n != 6 + mailboxes { 13 } else { 0 }
+    if n != 6 + mailboxes {
+        return Err(Refusal::Length);
+    }
+    Ok(())
 }
 
-// The refusal of a later record's length, or 0.
+// The refusal of a later record's length, if any.
 #[tactic(auto, unfolding(crate::specs::Decoding::step_refusal))]
-fn judge_step(s: &[u8], at: usize) -> u8
-    ensures { result ≡ step_refusal s.now at }
+fn judge_step(s: &[u8], at: usize) -> Result<(), Refusal>
+    ensures { code_of result ≡ step_refusal s.now at }
 {
     if ends_inside(s, at) {
-        return 12;
+        return Err(Refusal::Cut);
     }
-    let n = read_u16(s, at);
-    if n != STEP_BODY { 13 } else { 0 }
+    if read_u16(s, at) != STEP_BODY {
+        return Err(Refusal::Length);
+    }
+    Ok(())
 }
 
 // Record 0's body. It ends with the slots of the last mailbox, so those of absent ones are 0.
@@ -134,66 +143,61 @@ pub fn decode_step(body: &[u8]) -> Step
 }
 
 // Nothing was read: the place stays.
-fn stop(found: Found, at: usize) -> Read
-    ensures { result ≡ stopped_read found at }
+fn stop(found: Result<Option<Record>, BadRecord>, at: usize) -> Read
+    ensures { result ≡ record { found = found; next = at } }
 {
-    let sizes = no_sizes();
     Read {
         found: found,
-        sizes: sizes,
         next: at,
     }
 }
 
-fn refuse(code: u8, at: usize) -> Read
-    ensures { result ≡ refused_read code at }
+fn refuse(why: Refusal, at: usize) -> Read
+    ensures { told_read result ≡ refused_read (number why) at }
 {
-    let number = number_at(at);
-    stop(Found::Refused(code, number), at)
+    let bad = BadRecord {
+        why: why,
+        number: number_at(at),
+    };
+    stop(Err(bad), at)
 }
 
 // The version byte and record 0.
 #[tactic(auto, unfolding(crate::specs::Decoding::opened_read))]
 fn read_head(s: &[u8]) -> Read
-    ensures { result ≡ opened_read s.now }
+    ensures { told_read result ≡ opened_read s.now }
 {
-    let code = judge_head(s);
-    if code != 0 {
-        return refuse(code, 0);
+    if let Err(why) = judge_head(s) {
+        return refuse(why, 0);
     }
     let from = 3;
     let to = from + read_u16(s, 1) as usize;
     let sizes = decode_sizes(&s[from..to]);
-    if sizes_fit(sizes) {
-        Read {
-            found: Found::Opened,
-            sizes: sizes,
-            next: to,
-        }
-    } else {
-        refuse(14, 0)
+    if !sizes_fit(sizes) {
+        return refuse(Refusal::Size, 0);
+    }
+    Read {
+        found: Ok(Some(Record::Sizes(sizes))),
+        next: to,
     }
 }
 
 // A later record, or the end. The decoder is handed the part of the trace that the body is.
 #[tactic(auto, unfolding(crate::specs::Decoding::stepped_read))]
 fn read_step(s: &[u8], at: usize) -> Read
-    ensures { result ≡ stepped_read s.now at }
+    ensures { told_read result ≡ stepped_read s.now at }
 {
     if at == s.len() {
-        return stop(Found::Ended, at);
+        return stop(Ok(None), at);
     }
-    let code = judge_step(s, at);
-    if code != 0 {
-        return refuse(code, at);
+    if let Err(why) = judge_step(s, at) {
+        return refuse(why, at);
     }
     let from = at + 2;
     let to = at + STEP_RECORD;
     let step = decode_step(&s[from..to]);
-    let sizes = no_sizes();
     Read {
-        found: Found::Stepped(step),
-        sizes: sizes,
+        found: Ok(Some(Record::Step(step))),
         next: to,
     }
 }
@@ -201,7 +205,7 @@ fn read_step(s: &[u8], at: usize) -> Read
 // The record at a place: at place 0 the version byte and record 0, elsewhere a step or the end.
 #[tactic(auto, unfolding(crate::specs::Decoding::next_read))]
 pub fn next_record(s: &[u8], at: usize) -> Read
-    ensures { result ≡ next_read s.now at }
+    ensures { told_read result ≡ next_read s.now at }
 {
     if at == 0 {
         read_head(s)

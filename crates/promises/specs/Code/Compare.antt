@@ -1,6 +1,6 @@
 -- COMPARING BY THE CODE: what the exported functions are proved to give of the bytes that a host lends.
 use Rattle.std.specs.Prelude.{ℕ, ◌*◌, List, length, take}
-use Rattle.compare.specs.declared.comparing.Compared.{Compared}
+use Rattle.compare.specs.Told.{Compared}
 use Rattle.compare.specs.declared.applying.Applied.{Applied}
 use Rattle.compare.specs.Laid.{kept_of}
 use Rattle.compare.specs.Compared.{compared, compared_list}

@@ -1,7 +1,6 @@
 -- RUNS OF THE CODE: the paper's words of a run (Paper.Run, Paper.Ledger), of the meanings that each function is proved to compute.
-use Rattle.std.specs.Prelude.{ℕ, List}
+use Rattle.std.specs.Prelude.{ℕ, List, Option}
 use Rattle.kernel.specs.declared.clock.Clock.{Clock}
-use Rattle.kernel.specs.declared.units.Rate.{Rate}
 use Rattle.kernel.specs.declared.records.Call.{Call}
 use Rattle.library.specs.declared.calls.Step.{Step}
 use Rattle.library.specs.declared.sizes.Sizes.{Sizes}
@@ -26,10 +25,10 @@ abbrev pub ran : Tables → Clock → List Step → Ran
 ran t c ss = ran_by stepped t c ss
 
 -- the same from fresh tables of the sizes y
-abbrev pub fresh_moments : Sizes → Rate → List Step → List Moment
+abbrev pub fresh_moments : Sizes → Option ℕ → List Step → List Moment
 fresh_moments y r ss = moments (made y r).tables (made y r).clock ss
 
-abbrev pub fresh_ran : Sizes → Rate → List Step → Ran
+abbrev pub fresh_ran : Sizes → Option ℕ → List Step → Ran
 fresh_ran y r ss = ran (made y r).tables (made y r).clock ss
 
 -- the account of a run whose first moment is the n-th

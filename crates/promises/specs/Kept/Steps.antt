@@ -1,8 +1,7 @@
 -- "Fresh tables pass, and accepted steps keep it so".
-use Rattle.std.specs.Prelude.{ℕ, ◌≤◌, ◌≡◌, refl, true, [], eqb}
+use Rattle.std.specs.Prelude.{ℕ, ◌≤◌, ◌≡◌, refl, true, [], eqb, Option}
 use Rattle.std.proofs.Common.{arith, sym, ◌∙◌, subst, eqb-true}
 use Rattle.kernel.specs.declared.clock.Clock.{Clock}
-use Rattle.kernel.specs.declared.units.Rate.{Rate}
 use Rattle.kernel.specs.Records.{begun, ended}
 use Rattle.kernel.specs.Units.{frequency_of, frequency_fits}
 use Rattle.kernel.specs.Waiters.{first_ready}
@@ -12,7 +11,7 @@ use Rattle.library.specs.declared.sizes.Sizes.{Sizes}
 use Rattle.library.specs.declared.tables.Tables.{Tables}
 use Rattle.library.specs.declared.tables.Plant.{Plant}
 use Rattle.library.specs.Acting.{acted}
-use Rattle.library.specs.declared.fresh.Made.{Made}
+use Rattle.library.specs.Told.{Made}
 use Rattle.library.specs.Fresh.{fresh_tables, made}
 use Rattle.library.specs.Sizes.{sizes_fit, no_sizes}
 use Rattle.library.specs.Settling.{is_settled, settled}
@@ -99,13 +98,13 @@ fresh-sized y =
       pool = λ q h. rw (all-blank 4 blank_pool q) (record { list = refl; marks = refl });
     }
 
-made-sized : (y : Sizes) (r : Rate) → PlantSized (opened (made y r).tables)
+made-sized : (y : Sizes) (r : Option ℕ) → PlantSized (opened (made y r).tables)
 unfolding made
 made-sized y r =
     let P : Made → Type 0 = λ m. PlantSized (opened m.tables) in
     chosen P (sizes_fit y) (λ e. chosen P (frequency_fits (frequency_of r)) (λ f. fresh-sized y) (λ f. fresh-sized no_sizes))
     (λ e. fresh-sized no_sizes)
 
-pub made-hang : (y : Sizes) (r : Rate) → (made y r).code ≡ 0 → Hangs (made y r).tables (made y r).clock
+pub made-hang : (y : Sizes) (r : Option ℕ) → (made y r).code ≡ 0 → Hangs (made y r).tables (made y r).clock
 made-hang y r e =
     record { together = test-hangs (opened (made y r).tables) (made y r).clock (made-hangs y r e); sized = made-sized y r }

@@ -13,13 +13,14 @@ use Rattle.accounts.specs.Account.{fresh_account}
 use Rattle.accounts.specs.Accounting.{accounted_step}
 use Rattle.library.specs.declared.calls.Step.{Step}
 use Rattle.library.specs.declared.sizes.Sizes.{Sizes}
-use Rattle.library.specs.declared.fresh.Made.{Made}
+use Rattle.library.specs.Told.{Made}
 use Rattle.library.specs.declared.tables.Tables.{Tables}
 use Rattle.library.specs.Fresh.{made}
 use Rattle.steps.specs.Stepping.{stepped}
 use Rattle.text.specs.declared.items.Item.TheVariants.{Nothing, Number}
 use Rattle.text.specs.declared.views.Seen.{Seen}
-use Rattle.text.specs.Rows.{rows, row_text, numbered}
+use Rattle.buffers.specs.Put.{rows}
+use Rattle.text.specs.Rows.{row_text, numbered}
 use Rattle.text.specs.Sums.{object_row, mailbox_sums, pool_sums, sum_row}
 use Rattle.text.specs.Views.{row_of, rows_in, head_text, part_text, parts_text, listed_rate, fresh_seen, seen_after}
 use Rattle.promises.specs.Paper.Together.{number}

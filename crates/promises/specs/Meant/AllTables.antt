@@ -13,7 +13,8 @@ use Rattle.steps.specs.Stepping.{stepped}
 use Rattle.text.specs.declared.items.Item.{Item}
 use Rattle.text.specs.declared.items.Item.TheVariants.{Nothing, Number, Signed}
 use Rattle.text.specs.declared.views.Seen.{Seen}
-use Rattle.text.specs.Rows.{rows, word_text, field, row_text, brief}
+use Rattle.buffers.specs.Put.{rows}
+use Rattle.text.specs.Rows.{word_text, field, row_text, brief}
 use Rattle.text.specs.Tables.{place_item, wait_item, free_row, marks_row, word_row, table_row}
 use Rattle.text.specs.Tables as tables
 use Rattle.text.specs.Views.{step_line, step_row, rows_in, head_text, part_text, parts_text, seen_after}

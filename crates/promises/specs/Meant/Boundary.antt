@@ -1,32 +1,26 @@
 -- What the functions of the boundary are proved to leave is what the paper's relations tell, and they leave no choice. Of each function
 -- it is said of the meanings that its contract cites.
-use Rattle.std.specs.Prelude.{ℕ, ◌<◌, ◌≡◌, refl, List, [], ◌∷◌, eqb, ℤ, length}
+use Rattle.std.specs.Prelude.{ℕ, ◌<◌, ◌≡◌, refl, List, [], ◌∷◌, eqb, ℤ, length, Some}
 use Rattle.std.proofs.Common.{arith, sym, ap, ◌∙◌, eqb-true}
 use Rattle.std.proofs.lemmas.Bool.{eqb-false}
 use Rattle.kernel.specs.declared.clock.Clock.{Clock}
 use Rattle.kernel.specs.declared.time.SystemTime.{SystemTime}
 use Rattle.kernel.specs.declared.time.Interval.{Interval}
 use Rattle.kernel.specs.declared.units.Unit.{Unit}
-use Rattle.kernel.specs.declared.units.Rate.TheVariants.{Given}
-use Rattle.kernel.specs.declared.units.Ticks.{Ticks}
-use Rattle.kernel.specs.declared.units.Units.{Units}
+use Rattle.kernel.specs.Told.{Ticks, Units}
 use Rattle.kernel.specs.Time.{in_range}
 use Rattle.kernel.proofs.Cases.{split, contrary}
 use Rattle.library.specs.declared.sizes.Sizes.{Sizes}
 use Rattle.library.specs.declared.tables.Tables.{Tables}
-use Rattle.library.specs.declared.fresh.Made.{Made}
+use Rattle.library.specs.Told.{Made}
 use Rattle.library.specs.Fresh.{made}
 use Rattle.steps.specs.declared.stepping.Stepped.{Stepped}
 use Rattle.steps.specs.Stepping.{stepped}
-use Rattle.trace.specs.declared.decoding.Found.{Found}
-use Rattle.trace.specs.declared.decoding.Found.TheVariants as found
-use Rattle.trace.specs.declared.writer.Written.{Written}
-use Rattle.trace.specs.declared.writer.Written.TheVariants as written
+use Rattle.trace.specs.Told.{Found, Written}
 use Rattle.trace.specs.Decoding.{found_code, next_read}
 use Rattle.trace.specs.Writer.{written_code, sizes_answer, sizes_written, step_answer, step_written}
 use Rattle.pipes.specs.declared.table.Pipes.{Pipes}
-use Rattle.pipes.specs.declared.opening.Opened.{Opened}
-use Rattle.pipes.specs.declared.transfer.Moved.{Moved}
+use Rattle.pipes.specs.Told.{Opened, Moved}
 use Rattle.pipes.specs.Opening.{pipes_fresh, pipe_reset, pipe_resumed}
 use Rattle.pipes.specs.Transfer.{write_answer, buffer_written, read_answer, target_read}
 use Rattle.host.specs.declared.request.Request.{Request}
@@ -99,8 +93,8 @@ fresh-call-is z f t c =
     split (eqb (made_for z f).code 0)
     (λ e. rw e
     (let ok : (made_for z f).code ≡ 0 = eqb-true (made_for z f).code 0 e in
-    FreshCall.set-up (made z (Given f)) (made-is z (Given f)) ok ok refl refl))
-    (λ e. rw e (FreshCall.refused (made z (Given f)) (made-is z (Given f)) (eqb-false (made_for z f).code 0 e) refl refl refl))
+    FreshCall.set-up (made z (Some f)) (made-is z (Some f)) ok ok refl refl))
+    (λ e. rw e (FreshCall.refused (made z (Some f)) (made-is z (Some f)) (eqb-false (made_for z f).code 0 e) refl refl refl))
 
 pub fresh-call-one : {z : Sizes} {f : ℕ} {t : Tables} {c : Clock} {m n : ℕ} {u v : Tables} {d e : Clock}
     → FreshCall z f t c m u d → FreshCall z f t c n v e → (m ≡ n) × ((u ≡ v) × (d ≡ e))
@@ -114,22 +108,22 @@ fresh-call-one (FreshCall.set-up m a b c d e) (FreshCall.set-up n f g h i j) =
 -- ---- nil_read
 
 step_given : (f : Found) → StepGiven (found_said f) (request_in f)
-step_given found.Opened = StepGiven.none (λ e. omega arith) refl
-step_given (found.Stepped x) = StepGiven.step refl refl refl
-step_given found.Ended = StepGiven.none (λ e. omega arith) refl
-step_given (found.Refused c n) = StepGiven.none (λ e. omega arith) refl
+step_given Found.Opened = StepGiven.none (λ e. omega arith) refl
+step_given (Found.Stepped x) = StepGiven.step refl refl refl
+step_given Found.Ended = StepGiven.none (λ e. omega arith) refl
+step_given (Found.Refused c n) = StepGiven.none (λ e. omega arith) refl
 
 found-number : (f : Found) → found_number f ≡ (found_said f).gives
-found-number found.Opened = refl
-found-number (found.Stepped x) = refl
-found-number found.Ended = refl
-found-number (found.Refused c n) = refl
+found-number Found.Opened = refl
+found-number (Found.Stepped x) = refl
+found-number Found.Ended = refl
+found-number (Found.Refused c n) = refl
 
 found-code : (f : Found) → found_code f ≡ (found_said f).code
-found-code found.Opened = refl
-found-code (found.Stepped x) = refl
-found-code found.Ended = refl
-found-code (found.Refused c n) = refl
+found-code Found.Opened = refl
+found-code (Found.Stepped x) = refl
+found-code Found.Ended = refl
+found-code (Found.Refused c n) = refl
 
 pub read-call-is : (s : List ℕ) (at : ℕ) → ReadCall s at (read_at s at)
 read-call-is s at =
@@ -175,12 +169,12 @@ read-call-one {s} {at} {x} {y} a b =
 -- ---- nil_write_sizes, nil_write_step
 
 written-coded : (w : Written) → written_code w ≡ (written_said w).code
-written-coded (written.Upto n) = refl
-written-coded (written.Refused c) = refl
+written-coded (Written.Upto n) = refl
+written-coded (Written.Refused c) = refl
 
 place_kept : (w : Written) (place : ℕ) → PlaceKept (written_said w) place (place_written w place)
-place_kept (written.Upto n) place = PlaceKept.moves refl refl
-place_kept (written.Refused c) place = PlaceKept.stays (λ e. omega arith) refl
+place_kept (Written.Upto n) place = PlaceKept.moves refl refl
+place_kept (Written.Refused c) place = PlaceKept.stays (λ e. omega arith) refl
 
 kept-one : (x : Said) (place m n : ℕ) → PlaceKept x place m → PlaceKept x place n → m ≡ n
 kept-one x place m n (PlaceKept.moves a b) (PlaceKept.moves c d) = let v : m ∷ [] ≡ n ∷ [] = b ∙ sym d in cc
@@ -255,7 +249,7 @@ range-call-one (RangeCall.outside a) (RangeCall.inside b) = contrary refl (range
 range-call-one (RangeCall.outside a) (RangeCall.outside b) = refl
 
 pub ticks-call-is : (u : Unit) (x frequency : ℕ) → TicksCall u x frequency (ticks_code u x frequency) (ticks_in u x frequency)
-ticks-call-is u x frequency = ticks-is u x (Given frequency)
+ticks-call-is u x frequency = ticks-is u x (Some frequency)
 
 pub ticks-call-one : {u : Unit} {x frequency c d m n : ℕ} → TicksCall u x frequency c m → TicksCall u x frequency d n → (c ≡ d) × (m ≡ n)
 ticks-call-one a b =
@@ -264,7 +258,7 @@ ticks-call-one a b =
 
 pub units-call-is : (u : Unit) (ticks frequency : ℕ) → ticks < 4294967296
     → UnitsCall u ticks frequency (units_code u ticks frequency) (units_of u ticks frequency)
-units-call-is u ticks frequency h = units-is u (record { 0 = ticks }) (Given frequency) h
+units-call-is u ticks frequency h = units-is u (record { 0 = ticks }) (Some frequency) h
 
 pub units-call-one : {u : Unit} {ticks frequency c d m n : ℕ} → UnitsCall u ticks frequency c m → UnitsCall u ticks frequency d n
     → (c ≡ d) × (m ≡ n)

@@ -16,7 +16,7 @@ use Rattle.library.specs.Tables.{opened}
 use Rattle.rules.specs.Hanging.{hangs_together}
 use Rattle.compare.specs.declared.cells.Kept.{Kept}
 use Rattle.compare.specs.declared.order.Name.{Name}
-use Rattle.compare.specs.declared.comparing.Compared.{Compared}
+use Rattle.compare.specs.Told.{Compared}
 use Rattle.compare.specs.Changes.{Change, differs, change_at}
 use Rattle.compare.specs.Cells.{sizes_head, size_cell}
 use Rattle.compare.specs.Held.{Held}

@@ -1,8 +1,7 @@
 -- What is made is fresh as the paper tells it, and the paper leaves no choice: every field of the tables is written out.
-use Rattle.std.specs.Prelude.{ℕ, ◌≤◌, ◌≡◌, refl, List, ℤ}
+use Rattle.std.specs.Prelude.{ℕ, ◌≤◌, ◌≡◌, refl, List, ℤ, Option}
 use Rattle.std.proofs.Common.{arith, sym, ◌∙◌}
 use Rattle.kernel.specs.declared.clock.Clock.{Clock}
-use Rattle.kernel.specs.declared.units.Rate.{Rate}
 use Rattle.kernel.specs.declared.records.Thread.{Thread}
 use Rattle.kernel.specs.declared.records.Words.{Words}
 use Rattle.kernel.specs.Units.{frequency_fits}
@@ -12,7 +11,7 @@ use Rattle.library.specs.declared.sizes.Sizes.{Sizes}
 use Rattle.library.specs.declared.tables.Mailbox.{Mailbox}
 use Rattle.library.specs.declared.tables.Pool.{Pool}
 use Rattle.library.specs.declared.tables.Tables.{Tables}
-use Rattle.library.specs.declared.fresh.Made.{Made}
+use Rattle.library.specs.Told.{Made}
 use Rattle.library.specs.Sizes.{sizes_fit}
 use Rattle.library.specs.Fresh.{fresh_tables, fresh_clock, made}
 use Rattle.promises.specs.Paper.Time.{ticks_in_second}
@@ -36,7 +35,7 @@ fresh-tables z few =
 pub fresh-clock : (f : ℕ) → FreshClock f (fresh_clock f)
 fresh-clock f = record { time = refl; frequency = refl }
 
-pub made-is : (z : Sizes) (rate : Rate) → MadeOf z rate (made z rate)
+pub made-is : (z : Sizes) (rate : Option ℕ) → MadeOf z rate (made z rate)
 unfolding made
 made-is z rate =
     let f : ℕ = ticks_in_second rate in
@@ -52,18 +51,18 @@ made-is z rate =
     (λ e. rw e (MadeOf.no_size (out-of-limits z e) (record { code = refl; tables = fresh-tables nothing (omega arith); clock = fresh-clock 0 }))))
 
 -- of legal sizes and frequency fresh tables are made, and are not refused
-pub made-fresh : (z : Sizes) (rate : Rate) → Legal z rate
+pub made-fresh : (z : Sizes) (rate : Option ℕ) → Legal z rate
     → made z rate ≡ record { code = 0; tables = fresh_tables z; clock = fresh_clock (ticks_in_second rate) }
 unfolding made
 made-fresh z rate legal = rw (same-rate rate, limits-fit z legal.sizes, fits-possible (ticks_in_second rate) legal.frequency)
 
-pub made-legal : (z : Sizes) (rate : Rate) → Legal z rate → MadeWith 0 z (ticks_in_second rate) (made z rate)
+pub made-legal : (z : Sizes) (rate : Option ℕ) → Legal z rate → MadeWith 0 z (ticks_in_second rate) (made z rate)
 made-legal z rate legal =
     rw (made-fresh z rate legal)
     (record { code = refl; tables = fresh-tables z legal.sizes.threads.1; clock = fresh-clock (ticks_in_second rate) })
 
 -- and of no others
-pub code-legal : (z : Sizes) (rate : Rate) → (made z rate).code ≡ 0 → Legal z rate
+pub code-legal : (z : Sizes) (rate : Option ℕ) → (made z rate).code ≡ 0 → Legal z rate
 code-legal z rate e = by (made-is z rate)
   where
     by : MadeOf z rate (made z rate) → Legal z rate
@@ -101,7 +100,7 @@ same-held {n} {z} {f} {m} {k} a b =
     rw (a.code ∙ sym b.code, same_tables a.tables b.tables, same-clock a.clock b.clock) in
     parts
 
-pub made_one : {z : Sizes} {rate : Rate} {m k : Made} → MadeOf z rate m → MadeOf z rate k → m ≡ k
+pub made_one : {z : Sizes} {rate : Option ℕ} {m k : Made} → MadeOf z rate m → MadeOf z rate k → m ≡ k
 made_one (MadeOf.no_size a b) (MadeOf.no_size c d) = same-held b d
 made_one (MadeOf.no_size a b) (MadeOf.no-frequency c e d) = absurd (a c)
 made_one (MadeOf.no_size a b) (MadeOf.fresh c e d) = absurd (a c)

@@ -1,23 +1,20 @@
 -- What the meanings print is what the paper tells: digits by digits, record by record; and the paper leaves no choice.
-use Rattle.std.specs.Prelude.{ℕ, zero, suc, ◌+◌, ◌*◌, ◌/◌, ◌%◌, ◌≤◌, ◌<◌, ◌≡◌, refl, ◌≢◌, eqb, ltb, length, get_or, take, drop}
+use Rattle.std.specs.Prelude.{ℕ, zero, suc, ◌+◌, ◌*◌, ◌/◌, ◌%◌, ◌≤◌, ◌<◌, ◌≡◌, refl, ◌≢◌, eqb, ltb, length, get_or, take, drop, Some}
 use Rattle.std.proofs.Common.{arith, add-one, sym, subst, ◌∙◌, eqb-true, ltb-true, ltb-false}
 use Rattle.std.proofs.Math.Path.{ap}
 use mathlib.Core.List.{List, [], ◌∷◌, ◌++◌, append_assoc, append-nil}
 use Rattle.std.proofs.lemmas.Bool.{eqb-false}
 use Rattle.kernel.specs.declared.clock.Clock.{Clock}
-use Rattle.kernel.specs.declared.units.Rate.TheVariants.{Given}
 use Rattle.kernel.proofs.Cases.{split}
 use Rattle.library.specs.declared.calls.Step.{Step}
 use Rattle.library.specs.declared.sizes.Sizes.{Sizes}
-use Rattle.library.specs.declared.fresh.Made.{Made}
+use Rattle.library.specs.Told.{Made}
 use Rattle.library.specs.declared.tables.Tables.{Tables}
 use Rattle.library.specs.Fresh.{made}
 use Rattle.library.specs.Sizes.{no_sizes}
 use Rattle.steps.specs.declared.stepping.Stepped.{Stepped}
 use Rattle.steps.specs.Stepping.{stepped}
-use Rattle.trace.specs.declared.decoding.Found.{Found}
-use Rattle.trace.specs.declared.decoding.Found.TheVariants as found
-use Rattle.trace.specs.declared.decoding.Read.{Read}
+use Rattle.trace.specs.Told.{Found, Read}
 use Rattle.trace.specs.Ordered.{get_n}
 use Rattle.trace.specs.Decoding.{head_refusal, step_refusal, decoded_step, next_read}
 use Rattle.trace.specs.Traces.{Reading, read_from, read_all}
@@ -26,10 +23,11 @@ use Rattle.trace.proofs.ReadingLaws.{ends, steps_on, refuses}
 use Rattle.text.specs.declared.views.Parts.{Parts}
 use Rattle.text.specs.declared.views.Seen.{Seen}
 use Rattle.text.specs.declared.views.View.{View}
-use Rattle.text.specs.Decimal.{digits_n, decimal}
-use Rattle.text.specs.Rows.{rows, word_text, row_text}
+use Rattle.buffers.specs.Decimal.{digits_n, decimal}
+use Rattle.buffers.specs.Put.{rows}
+use Rattle.text.specs.Rows.{word_text, row_text}
 use Rattle.text.specs.Views.{parts_text, view_parts, listed_rate, fresh_seen, seen_after, stop_text, records_text, reading_text, view_text}
-use Rattle.text.proofs.DecimalLaws.{one-digit, more-digits}
+use Rattle.buffers.proofs.DecimalLaws.{one-digit, more-digits}
 use Rattle.text.proofs.ViewLaws.{opens, refused}
 use Rattle.promises.specs.Paper.Answers.{Said, found_said}
 use Rattle.promises.specs.Paper.Time.{Possible}
@@ -101,10 +99,10 @@ numbers-line n (m ∷ ns) =
 
 -- how a reading stopped
 abbrev stop_of : Found → Stop
-stop_of found.Opened = Stop.ended
-stop_of (found.Stepped x) = Stop.ended
-stop_of found.Ended = Stop.ended
-stop_of (found.Refused code number) = Stop.bad number code
+stop_of Found.Opened = Stop.ended
+stop_of (Found.Stepped x) = Stop.ended
+stop_of Found.Ended = Stop.ended
+stop_of (Found.Refused code number) = Stop.bad number code
 
 said : {a b : Read} → a ≡ b → found_said a.found ≡ found_said b.found
 said e = ap (λ (r : Read). found_said r.found) e
@@ -225,7 +223,7 @@ module _ (each : ℕ → Moment → List ℕ → Type 0) (end : Made → List Mo
       → Printed f heading each end k s q → p ≡ q
   printed-one {f} {heading} {k} (Printed.printed {z} {xs} {stop} {m} {a} {b} {c} t d e n l h) (Printed.printed {xs = ys} {m = o} {a = a'} {b = b'} {c = c'} t' d' e' n' l' h') =
       let same = trace-one t t' in
-      let making : m ≡ o = made_one (subst (λ (y : Sizes). MadeOf y (Given f) m) same.0 d) d' in
+      let making : m ≡ o = made_one (subst (λ (y : Sizes). MadeOf y (Some f) m) same.0 d) d' in
       let run : moments_by k m.tables m.clock xs ≡ moments_by k o.tables o.clock ys =
       ap (λ (x : Made). moments_by k x.tables x.clock xs) making ∙ ap (λ (zs : List Step). moments_by k o.tables o.clock zs) same.1.0 in
       let lines = texts-one (subst (λ (ms : List Moment). EachText each 1 ms a) run e) e' in
@@ -256,10 +254,10 @@ records-split v n x (s ∷ ss) stop =
 
 stop_is : (f : Found) → StopLine (stop_of f) (stop_text f)
 unfolding row_text word_text rows
-stop_is found.Opened = StopLine.none
-stop_is (found.Stepped x) = StopLine.none
-stop_is found.Ended = StopLine.none
-stop_is (found.Refused code number) =
+stop_is Found.Opened = StopLine.none
+stop_is (Found.Stepped x) = StopLine.none
+stop_is Found.Ended = StopLine.none
+stop_is (Found.Refused code number) =
     rw (append-nil (decimal code), append_assoc (decimal number) (32 ∷ decimal code) (10 ∷ [])) (StopLine.stopped (line-is number (code ∷ [])))
 
 module _ (w : View) (heading : List ℕ) (each : ℕ → Moment → List ℕ → Type 0) (end : Made → List Moment → List ℕ → Type 0)
@@ -284,7 +282,7 @@ module _ (w : View) (heading : List ℕ) (each : ℕ → Moment → List ℕ →
 
   -- the run at the frequency f of what a trace holds
   abbrev run_at : ℕ → List ℕ → List Moment
-  run_at f s = moments_by stepped (made (read_all s).sizes (Given f)).tables (made (read_all s).sizes (Given f)).clock (read_all s).steps
+  run_at f s = moments_by stepped (made (read_all s).sizes (Some f)).tables (made (read_all s).sizes (Some f)).clock (read_all s).steps
 
   abbrev steps_text : List ℕ → List ℕ
   steps_text s = each_text (view_parts w) 1 (fresh_seen (read_all s).sizes) (read_all s).steps
@@ -293,7 +291,7 @@ module _ (w : View) (heading : List ℕ) (each : ℕ → Moment → List ℕ →
   end_text s = parts_text (last_seen 1 (fresh_seen (read_all s).sizes) (read_all s).steps) (view_parts w).end (view_parts w).ends
 
   -- the view's text, if that run has it, is what the paper tells, and nothing else is
-  told_at : (f : ℕ) → ((s : List ℕ) → EachText each 1 (run_at f s) (steps_text s)) → ((s : List ℕ) → end (made (read_all s).sizes (Given f)) (run_at f s) (end_text s))
+  told_at : (f : ℕ) → ((s : List ℕ) → EachText each 1 (run_at f s) (steps_text s)) → ((s : List ℕ) → end (made (read_all s).sizes (Some f)) (run_at f s) (end_text s))
       → Told f heading each end stepped (view_text w)
   unfolding view_text
   told_at f texts ends = record { is = is; only = λ s text p. printed-one each end each-one end-one p (is s) }
@@ -301,7 +299,7 @@ module _ (w : View) (heading : List ℕ) (each : ℕ → Moment → List ℕ →
       is : (s : List ℕ) → Printed f heading each end stepped s (view_text w s)
       is s =
           let r : Reading = read_all s in
-          Printed.printed (all_found s) (made-is r.sizes (Given f)) (texts s) (ends s) (stop_is r.stop)
+          Printed.printed (all_found s) (made-is r.sizes (Some f)) (texts s) (ends s) (stop_is r.stop)
           (ap (λ (l : List ℕ). l ++ reading_text (view_parts w) r) head-is
           ∙ ap (λ (l : List ℕ). heading ++ l) (records-split (view_parts w) 1 (fresh_seen r.sizes) r.steps r.stop))
 
@@ -323,5 +321,5 @@ module _ (w : View) (heading : List ℕ) (each : ℕ → Moment → List ℕ →
     view-any f possible =
         told_at f (λ s. texts-alike (same s).1 (given-texts s)) (λ s. end-blind _ _ _ _ _ (same s).0 (same s).1 (end_is (read_all s).sizes (read_all s).steps))
       where
-        same : (s : List ℕ) → ((made (read_all s).sizes (Given 1000)).tables ≡ (made (read_all s).sizes (Given f)).tables) × Alike (run_at 1000 s) (run_at f s)
+        same : (s : List ℕ) → ((made (read_all s).sizes (Some 1000)).tables ≡ (made (read_all s).sizes (Some f)).tables) × Alike (run_at 1000 s) (run_at f s)
         same s = fresh-alike (read_all s).sizes 1000 f (record { low = omega arith; high = omega arith }) possible (read_all s).steps

@@ -11,8 +11,7 @@ use Rattle.library.specs.Ring.{positions_fit}
 use Rattle.library.proofs.RingLaws.{fit_of}
 use Rattle.pipes.specs.declared.table.Pipe.{Pipe}
 use Rattle.pipes.specs.declared.table.Pipes.{Pipes}
-use Rattle.pipes.specs.declared.opening.Opened.{Opened}
-use Rattle.pipes.specs.declared.transfer.Moved.{Moved}
+use Rattle.pipes.specs.Told.{Opened, Moved}
 use Rattle.pipes.specs.Table.{pipe_at, with_pipe}
 use Rattle.pipes.specs.Carrying.{smaller_of, carried}
 use Rattle.pipes.specs.Judging.{is_there, length_fits, pipe_refusal}

@@ -10,10 +10,11 @@ use Rattle.library.specs.declared.calls.Step.{Step}
 use Rattle.library.specs.Sizes.{no_sizes}
 use Rattle.steps.specs.Stepping.{stepped}
 use Rattle.text.specs.declared.items.Item.{Item}
-use Rattle.text.specs.Decimal.{decimal}
+use Rattle.buffers.specs.Decimal.{decimal}
 use Rattle.text.specs.declared.views.Seen.{Seen}
 use Rattle.text.specs.declared.items.Item.TheVariants.{Nothing, Number, Signed, Cause}
-use Rattle.text.specs.Rows.{rows, word_text, signed_text, cause_word, field, row_text, no_row, numbered}
+use Rattle.buffers.specs.Put.{rows}
+use Rattle.text.specs.Rows.{word_text, signed_text, cause_word, field, row_text, no_row, numbered}
 use Rattle.text.specs.Why.{waited_item}
 use Rattle.text.specs.Views.{step_row, rows_in, head_text, part_text, parts_text, fresh_seen, seen_after}
 use Rattle.text.specs.Views as views

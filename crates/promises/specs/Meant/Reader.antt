@@ -9,8 +9,7 @@ use borrow.Author.Tests.{ltb-true, ltb-false, eqb-true, eqb-false, ne_eqb}
 use Rattle.kernel.proofs.Cases.{split, same_or, in-or-out}
 use Rattle.library.specs.declared.sizes.Sizes.{Sizes}
 use Rattle.library.specs.Sizes.{sizes_fit}
-use Rattle.trace.specs.declared.decoding.Found.TheVariants as found
-use Rattle.trace.specs.declared.decoding.Read.{Read}
+use Rattle.trace.specs.Told.{Found, Read}
 use Rattle.trace.specs.declared.cursor.Reader.{Reader}
 use Rattle.trace.specs.Ordered.{get_n}
 use Rattle.trace.specs.Decoding.{
@@ -100,7 +99,7 @@ head-sizes s e =
     )
 
 pub step-said : (s : List ℕ) (at : ℕ)
-    → found_said (found.Stepped (decoded_step (take 11 (drop (at + 2) s))))
+    → found_said (Found.Stepped (decoded_step (take 11 (drop (at + 2) s))))
     ≡ record {
       code = 0;
       gives = 2;

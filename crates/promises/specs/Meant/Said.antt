@@ -2,10 +2,7 @@
 use Rattle.std.specs.Prelude.{ℕ, ◌≡◌, refl, [], ◌∷◌}
 use Rattle.std.proofs.Common.{arith, ap}
 use Rattle.library.specs.declared.calls.Step.{Step}
-use Rattle.trace.specs.declared.decoding.Found.{Found}
-use Rattle.trace.specs.declared.decoding.Found.TheVariants as found
-use Rattle.trace.specs.declared.writer.Written.{Written}
-use Rattle.trace.specs.declared.writer.Written.TheVariants as written
+use Rattle.trace.specs.Told.{Found, Written}
 use Rattle.promises.specs.Paper.Answers.{Said, found_said}
 use Rattle.promises.specs.Paper.Writer.{written_said}
 
@@ -27,31 +24,31 @@ same_step x y a b c d e =
     parts
 
 pub found-one : (f g : Found) → found_said f ≡ found_said g → f ≡ g
-found-one found.Opened found.Opened e = refl
-found-one found.Opened (found.Stepped y) e = other (found_said found.Opened) (found_said (found.Stepped y)) e (λ n. omega arith)
-found-one found.Opened found.Ended e = other (found_said found.Opened) (found_said found.Ended) e (λ n. omega arith)
-found-one found.Opened (found.Refused c n) e = other (found_said found.Opened) (found_said (found.Refused c n)) e (λ n. omega arith)
-found-one (found.Stepped x) found.Opened e = other (found_said (found.Stepped x)) (found_said found.Opened) e (λ n. omega arith)
-found-one (found.Stepped x) (found.Stepped y) e =
+found-one Found.Opened Found.Opened e = refl
+found-one Found.Opened (Found.Stepped y) e = other (found_said Found.Opened) (found_said (Found.Stepped y)) e (λ n. omega arith)
+found-one Found.Opened Found.Ended e = other (found_said Found.Opened) (found_said Found.Ended) e (λ n. omega arith)
+found-one Found.Opened (Found.Refused c n) e = other (found_said Found.Opened) (found_said (Found.Refused c n)) e (λ n. omega arith)
+found-one (Found.Stepped x) Found.Opened e = other (found_said (Found.Stepped x)) (found_said Found.Opened) e (λ n. omega arith)
+found-one (Found.Stepped x) (Found.Stepped y) e =
     let v : x.kind ∷ x.caller ∷ x.object ∷ x.a ∷ x.timeout ∷ [] ≡ y.kind ∷ y.caller ∷ y.object ∷ y.a ∷ y.timeout ∷ [] =
     ap (λ (s : Said). s.values) e in
-    ap found.Stepped (same_step x y (cc) (cc) (cc) (cc) (cc))
-found-one (found.Stepped x) found.Ended e = other (found_said (found.Stepped x)) (found_said found.Ended) e (λ n. omega arith)
-found-one (found.Stepped x) (found.Refused c n) e = other (found_said (found.Stepped x)) (found_said (found.Refused c n)) e (λ n. omega arith)
-found-one found.Ended found.Opened e = other (found_said found.Ended) (found_said found.Opened) e (λ n. omega arith)
-found-one found.Ended (found.Stepped y) e = other (found_said found.Ended) (found_said (found.Stepped y)) e (λ n. omega arith)
-found-one found.Ended found.Ended e = refl
-found-one found.Ended (found.Refused c n) e = no_value (ap (λ (s : Said). s.values) e)
-found-one (found.Refused c n) found.Opened e = other (found_said (found.Refused c n)) (found_said found.Opened) e (λ n. omega arith)
-found-one (found.Refused c n) (found.Stepped y) e = other (found_said (found.Refused c n)) (found_said (found.Stepped y)) e (λ n. omega arith)
-found-one (found.Refused c n) found.Ended e = some-value (ap (λ (s : Said). s.values) e)
-found-one (found.Refused c n) (found.Refused d m) e =
+    ap Found.Stepped (same_step x y (cc) (cc) (cc) (cc) (cc))
+found-one (Found.Stepped x) Found.Ended e = other (found_said (Found.Stepped x)) (found_said Found.Ended) e (λ n. omega arith)
+found-one (Found.Stepped x) (Found.Refused c n) e = other (found_said (Found.Stepped x)) (found_said (Found.Refused c n)) e (λ n. omega arith)
+found-one Found.Ended Found.Opened e = other (found_said Found.Ended) (found_said Found.Opened) e (λ n. omega arith)
+found-one Found.Ended (Found.Stepped y) e = other (found_said Found.Ended) (found_said (Found.Stepped y)) e (λ n. omega arith)
+found-one Found.Ended Found.Ended e = refl
+found-one Found.Ended (Found.Refused c n) e = no_value (ap (λ (s : Said). s.values) e)
+found-one (Found.Refused c n) Found.Opened e = other (found_said (Found.Refused c n)) (found_said Found.Opened) e (λ n. omega arith)
+found-one (Found.Refused c n) (Found.Stepped y) e = other (found_said (Found.Refused c n)) (found_said (Found.Stepped y)) e (λ n. omega arith)
+found-one (Found.Refused c n) Found.Ended e = some-value (ap (λ (s : Said). s.values) e)
+found-one (Found.Refused c n) (Found.Refused d m) e =
     let code : c ≡ d = ap (λ (s : Said). s.code) e in
     let v : n ∷ [] ≡ m ∷ [] = ap (λ (s : Said). s.values) e in
     cc
 
 pub written_one : (v w : Written) → written_said v ≡ written_said w → v ≡ w
-written_one (written.Upto a) (written.Upto b) e = let v : a ∷ [] ≡ b ∷ [] = ap (λ (s : Said). s.values) e in cc
-written_one (written.Upto a) (written.Refused c) e = other (written_said (written.Upto a)) (written_said (written.Refused c)) e (λ n. omega arith)
-written_one (written.Refused c) (written.Upto b) e = other (written_said (written.Refused c)) (written_said (written.Upto b)) e (λ n. omega arith)
-written_one (written.Refused c) (written.Refused d) e = ap written.Refused (ap (λ (s : Said). s.code) e)
+written_one (Written.Upto a) (Written.Upto b) e = let v : a ∷ [] ≡ b ∷ [] = ap (λ (s : Said). s.values) e in cc
+written_one (Written.Upto a) (Written.Refused c) e = other (written_said (Written.Upto a)) (written_said (Written.Refused c)) e (λ n. omega arith)
+written_one (Written.Refused c) (Written.Upto b) e = other (written_said (Written.Refused c)) (written_said (Written.Upto b)) e (λ n. omega arith)
+written_one (Written.Refused c) (Written.Refused d) e = ap Written.Refused (ap (λ (s : Said). s.code) e)

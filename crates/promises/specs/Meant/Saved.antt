@@ -13,7 +13,7 @@ use Rattle.kernel.proofs.Cases.{split, same_or, in-or-out, contrary}
 use Rattle.library.specs.declared.tables.Tables.{Tables}
 use Rattle.compare.specs.declared.cells.Kept.{Kept}
 use Rattle.compare.specs.declared.checksum.Sums.{Sums}
-use Rattle.compare.specs.declared.saving.Loaded.{Loaded}
+use Rattle.compare.specs.Told.{Loaded}
 use Rattle.compare.specs.Cells.{cell_count}
 use Rattle.compare.specs.Bytes.{bytes_of}
 use Rattle.compare.specs.Laid.{tables_length, clock_length, image_of, blank_kept, kept_of, tables_put, clock_put}

@@ -1,6 +1,6 @@
 -- Time as the code is proved to have it is time as the paper tells it, and the paper leaves no choice: sums and differences modulo 2 ^ 32
 -- are those that wrap once, and a quotient rounded up is the least number that covers.
-use Rattle.std.specs.Prelude.{ℕ, suc, ◌+◌, ◌*◌, ◌≤◌, ◌<◌, ◌≡◌, refl, Bool, true, eqb, leb, ltb}
+use Rattle.std.specs.Prelude.{ℕ, suc, ◌+◌, ◌*◌, ◌≤◌, ◌<◌, ◌≡◌, refl, Bool, true, eqb, leb, ltb, Option, Some, None}
 use Rattle.std.proofs.Common.{mul-le-mul, mul-le-mul_left, mul-le-mul_right, le_antisymm, le_of_lt, arith, sym, ap, ap₂, ◌∙◌, ltb-true, ltb-false, le-leb, leb-true, eqb-true}
 use Rattle.std.proofs.lemmas.Bool.{eqb-false}
 use Rattle.kernel.specs.declared.time.SystemTime.{SystemTime}
@@ -8,10 +8,7 @@ use Rattle.kernel.specs.declared.time.Interval.{Interval}
 use Rattle.kernel.specs.declared.clock.Clock.{Clock}
 use Rattle.kernel.specs.declared.units.Unit.{Unit}
 use Rattle.kernel.specs.declared.units.Unit.TheVariants.{Seconds, Milliseconds, Microseconds}
-use Rattle.kernel.specs.declared.units.Rate.{Rate}
-use Rattle.kernel.specs.declared.units.Rate.TheVariants.{Given, Standard}
-use Rattle.kernel.specs.declared.units.Ticks.{Ticks}
-use Rattle.kernel.specs.declared.units.Units.{Units}
+use Rattle.kernel.specs.Told.{Ticks, Units}
 use Rattle.kernel.specs.Time.{added, differed, in_range, advanced}
 use Rattle.kernel.specs.Clock.{ticked_clock}
 use Rattle.kernel.specs.Units.{per_second, frequency_of, frequency_fits, rounded_up, in_ticks, of_ticks}
@@ -112,9 +109,9 @@ same-unit Seconds = refl
 same-unit Milliseconds = refl
 same-unit Microseconds = refl
 
-pub same-rate : (r : Rate) → frequency_of r ≡ ticks_in_second r
-same-rate (Given f) = refl
-same-rate Standard = refl
+pub same-rate : (r : Option ℕ) → frequency_of r ≡ ticks_in_second r
+same-rate (Some f) = refl
+same-rate None = refl
 
 -- the code's test of a frequency passes exactly where it is possible
 pub possible-fits : (f : ℕ) → frequency_fits f ≡ true → Possible f
@@ -146,7 +143,7 @@ same-ticks a b c e = ap₂ (λ (k n : ℕ). record { code = k; interval = record
 same_units : (a b : Units) → a.code ≡ b.code → a.value ≡ b.value → a ≡ b
 same_units a b c e = ap₂ (λ (k n : ℕ). record { code = k; value = n }) c e
 
-pub ticks-is : (u : Unit) (x : ℕ) (rate : Rate) → TicksOf u x rate (in_ticks u x rate)
+pub ticks-is : (u : Unit) (x : ℕ) (rate : Option ℕ) → TicksOf u x rate (in_ticks u x rate)
 unfolding in_ticks
 ticks-is u x rate =
     let f : ℕ = ticks_in_second rate in
@@ -160,7 +157,7 @@ ticks-is u x rate =
     (λ l. rw l (TicksOf.too_long (possible-fits f e) n up (omega (arith, ltb-false n 4294967295 l)) refl refl))))
     (λ e. rw e (TicksOf.no-frequency (λ p. contrary (fits-possible f p) e) refl refl)))
 
-pub ticks-one : {u : Unit} {x : ℕ} {rate : Rate} {r q : Ticks} → TicksOf u x rate r → TicksOf u x rate q → r ≡ q
+pub ticks-one : {u : Unit} {x : ℕ} {rate : Option ℕ} {r q : Ticks} → TicksOf u x rate r → TicksOf u x rate q → r ≡ q
 ticks-one {r = r} {q = q} (TicksOf.no-frequency a b c) (TicksOf.no-frequency d e f) = same-ticks r q (omega arith) (omega arith)
 ticks-one {r = r} {q = q} (TicksOf.no-frequency a b c) (TicksOf.too_long p n g h d e) = absurd (a p)
 ticks-one {r = r} {q = q} (TicksOf.no-frequency a b c) (TicksOf.ticks p n g h d e) = absurd (a p)
@@ -183,7 +180,7 @@ wide d p f n hd hp hf up =
     let more : d * p * 1 ≤ d * p * f = mul-le-mul_left (d * p) hf in
     omega (arith, up.least (d * p) (omega arith))
 
-pub units-is : (u : Unit) (d : Interval) (rate : Rate) → d.0 < 4294967296 → UnitsOf u d rate (of_ticks u d rate)
+pub units-is : (u : Unit) (d : Interval) (rate : Option ℕ) → d.0 < 4294967296 → UnitsOf u d rate (of_ticks u d rate)
 unfolding of_ticks
 units-is u d rate h =
     let f : ℕ = ticks_in_second rate in
@@ -200,7 +197,7 @@ units-is u d rate h =
     UnitsOf.units p less n up (wide d.0 (in_second u) f n less (narrow u) p.low up) refl refl))))
     (λ e. rw e (UnitsOf.no-frequency (λ p. contrary (fits-possible f p) e) refl refl)))
 
-pub units-one : {u : Unit} {d : Interval} {rate : Rate} {r q : Units} → UnitsOf u d rate r → UnitsOf u d rate q → r ≡ q
+pub units-one : {u : Unit} {d : Interval} {rate : Option ℕ} {r q : Units} → UnitsOf u d rate r → UnitsOf u d rate q → r ≡ q
 units-one {r = r} {q = q} (UnitsOf.no-frequency a b c) (UnitsOf.no-frequency d e f) = same_units r q (omega arith) (omega arith)
 units-one {r = r} {q = q} (UnitsOf.no-frequency a b c) (UnitsOf.infinite p i d e) = absurd (a p)
 units-one {r = r} {q = q} (UnitsOf.no-frequency a b c) (UnitsOf.units p i n g w d e) = absurd (a p)

@@ -8,10 +8,7 @@ use Rattle.kernel.proofs.Cases.{split, same_or, in-or-out}
 use Rattle.library.specs.declared.calls.Step.{Step}
 use Rattle.library.specs.declared.sizes.Sizes.{Sizes}
 use Rattle.library.specs.Sizes.{sizes_fit}
-use Rattle.trace.specs.declared.decoding.Found.TheVariants as found
-use Rattle.trace.specs.declared.decoding.Read.{Read}
-use Rattle.trace.specs.declared.writer.Written.{Written}
-use Rattle.trace.specs.declared.writer.Written.TheVariants as written
+use Rattle.trace.specs.Told.{Found, Read, Written}
 use Rattle.promises.specs.Paper.Together.{SizesFit}
 use Rattle.promises.specs.Paper.Fresh.{nothing}
 use Rattle.promises.specs.Paper.Answers.{Said, found_said}
@@ -56,7 +53,7 @@ same_place : {m n : ℕ} → placed m ≡ placed n → m ≡ n
 same_place e = ap (λ (s : Said). get_or s.values 0 0) e
 
 same_step : {x y : Step} → step_read x ≡ step_read y → x ≡ y
-same_step {x} {y} e = let f = found-one (found.Stepped x) (found.Stepped y) e in cc
+same_step {x} {y} e = let f = found-one (Found.Stepped x) (Found.Stepped y) e in cc
 
 -- sizes that cannot be out of their limits are in them
 within-limits : (z : Sizes) → ((SizesFit z → ⊥) → ⊥) → SizesFit z
@@ -454,7 +451,7 @@ module _ (s l : List ℕ) (small : (i : ℕ) → byte s i < 256) (long : length 
     steps-again {at = at} (StepsRead.more {x = x} {xs = xs} e c) h g short =
         let t : Stood s at x (f.read s at).next = stood (told.reads s at) h e in
         let size : length (up_to at) ≡ length l = upto-size at g in
-        let mine : WriteOfStep x at (up_to at) (written.Upto (at + 13)) (up_to (at + 13)) =
+        let mine : WriteOfStep x at (up_to at) (Written.Upto (at + 13)) (up_to (at + 13)) =
         WriteOfStep.written (step_fits (omega (arith, t.within)) (omega (arith, size, t.within))) refl (step-again t) in
         let done = step-write-one (told.steps x at (up_to at)) mine in
         let rest = steps-again c (omega (arith, t.place)) (omega (arith, t.place, t.within)) short in
@@ -468,7 +465,7 @@ module _ (s l : List ℕ) (small : (i : ℕ) → byte s i < 256) (long : length 
         let boxes : z.mailboxes ≡ byte s 7 = ap (λ (y : Sizes). y.mailboxes) t.is in
         let fit : SizesFit z = subst SizesFit (sym t.is) t.limits in
         let place : (f.read s 0).next ≡ 9 + z.mailboxes = t.place ∙ ap (λ (m : ℕ). 9 + m) (sym boxes) in
-        let mine : WriteOfSizes z l (written.Upto (9 + z.mailboxes)) (up_to (9 + byte s 7)) =
+        let mine : WriteOfSizes z l (Written.Upto (9 + z.mailboxes)) (up_to (9 + byte s 7)) =
         WriteOfSizes.written (sizes-fit fit (omega (arith, boxes, t.within))) refl (head-again t) in
         let done = sizes-write-one (told.sizes z l) mine in
         let rest = steps-again c (omega (arith, t.place)) (omega (arith, t.place, t.within)) t.short in

@@ -13,7 +13,7 @@ use Rattle.kernel.proofs.Cases.{split, same_or, in-or-out}
 use Rattle.library.specs.declared.calls.Step.{Step}
 use Rattle.library.specs.declared.sizes.Sizes.{Sizes}
 use Rattle.library.specs.Sizes.{sizes_fit}
-use Rattle.trace.specs.declared.writer.Written.{Written}
+use Rattle.trace.specs.Told.{Written}
 use Rattle.trace.specs.Ordered.{bytes_n, put_n}
 use Rattle.trace.specs.TraceBytes.{sizes_body, head_of, record_of}
 use Rattle.trace.specs.Writer.{room_refusal, sizes_refusal, sizes_answer, sizes_written, step_answer, step_written}

@@ -1,8 +1,7 @@
 -- ANSWERS THAT ARE ENUMS: "Where an answer is an enum, a definition gives this paper's number and values for each of its cases, and the
 -- promises use that definition." The record is here, with the reader's; the writer's is `written_said` (Paper.Writer).
 use Rattle.std.specs.Prelude.{ℕ, List, [], ◌∷◌}
-use Rattle.trace.specs.declared.decoding.Found.{Found}
-use Rattle.trace.specs.declared.decoding.Found.TheVariants.{Opened, Stepped, Ended, Refused}
+use Rattle.trace.specs.Told.{Found}
 
 -- an answer in numbers: the refusal's number, 0 where nothing is refused; what is given; and its values, in the paper's order
 pub record Said : Type 0 where
@@ -13,8 +12,8 @@ pub record Said : Type 0 where
 
 -- what a read found. "A refused read gives the number, the record's number and no step"; a step is "kind, caller, object .. a, timeout"
 abbrev pub found_said : Found → Said
-found_said Opened = record { code = 0; gives = 1; values = [] }
-found_said (Stepped x) =
+found_said Found.Opened = record { code = 0; gives = 1; values = [] }
+found_said (Found.Stepped x) =
     record { code = 0; gives = 2; values = x.kind ∷ x.caller ∷ x.object ∷ x.a ∷ x.timeout ∷ [] }
-found_said Ended = record { code = 0; gives = 0; values = [] }
-found_said (Refused code number) = record { code = code; gives = 0; values = number ∷ [] }
+found_said Found.Ended = record { code = 0; gives = 0; values = [] }
+found_said (Found.Refused code number) = record { code = code; gives = 0; values = number ∷ [] }

@@ -1,16 +1,14 @@
 -- THE BOUNDARY TO A HOST: what each function that a host calls leaves of what it was lent, told over the paper's relations.
 -- Where a function is refused, what it was lent stays as it was.
-use Rattle.std.specs.Prelude.{ℕ, ◌<◌, ◌≡◌, ◌≢◌, Bool, true, false, List, [], ◌∷◌, ℤ, get_or}
+use Rattle.std.specs.Prelude.{ℕ, ◌<◌, ◌≡◌, ◌≢◌, Bool, true, false, List, [], ◌∷◌, ℤ, get_or, Some}
 use Rattle.kernel.specs.declared.clock.Clock.{Clock}
 use Rattle.kernel.specs.declared.units.Unit.{Unit}
-use Rattle.kernel.specs.declared.units.Rate.TheVariants.{Given}
 use Rattle.library.specs.declared.calls.Step.{Step}
 use Rattle.library.specs.declared.sizes.Sizes.{Sizes}
 use Rattle.library.specs.declared.tables.Tables.{Tables}
-use Rattle.library.specs.declared.fresh.Made.{Made}
+use Rattle.library.specs.Told.{Made}
 use Rattle.steps.specs.declared.stepping.Stepped.{Stepped}
-use Rattle.trace.specs.declared.decoding.Read.{Read}
-use Rattle.trace.specs.declared.writer.Written.{Written}
+use Rattle.trace.specs.Told.{Read, Written}
 use Rattle.pipes.specs.declared.table.Pipes.{Pipes}
 use Rattle.host.specs.declared.request.Request.{Request}
 use Rattle.host.specs.declared.request.StepResult.{StepResult}
@@ -46,8 +44,8 @@ pub record StepCall (t : Tables) (c : Clock) (q : Request) (u : Tables) (d : Clo
 
 -- nil_fresh: fresh tables of the sizes z at the frequency f, and the code; the tables t and the clock c become u and d
 pub data FreshCall (z : Sizes) (f : ℕ) (t : Tables) (c : Clock) (code : ℕ) (u : Tables) (d : Clock) : Type 0 where
-  refused : (m : Made) → MadeOf z (Given f) m → m.code ≢ 0 → code ≡ m.code → u ≡ t → d ≡ c → FreshCall z f t c code u d
-  set-up : (m : Made) → MadeOf z (Given f) m → m.code ≡ 0 → code ≡ 0 → u ≡ m.tables → d ≡ m.clock → FreshCall z f t c code u d
+  refused : (m : Made) → MadeOf z (Some f) m → m.code ≢ 0 → code ≡ m.code → u ≡ t → d ≡ c → FreshCall z f t c code u d
+  set-up : (m : Made) → MadeOf z (Some f) m → m.code ≡ 0 → code ≡ 0 → u ≡ m.tables → d ≡ m.clock → FreshCall z f t c code u d
 
 -- the step of a read as a host gets it: its values where the read gave one (2), else zeros
 pub data StepGiven (x : Said) (q : Request) : Type 0 where
@@ -102,11 +100,11 @@ pub data RangeCall (time start end : ℕ) : ℕ → Type 0 where
 
 -- nil_s2i, nil_ms2i, nil_us2i: so much of a unit, as a code and ticks
 abbrev pub TicksCall : Unit → ℕ → ℕ → ℕ → ℕ → Type 0
-TicksCall u x frequency code ticks = TicksOf u x (Given frequency) (record { code = code; interval = record { 0 = ticks } })
+TicksCall u x frequency code ticks = TicksOf u x (Some frequency) (record { code = code; interval = record { 0 = ticks } })
 
 -- nil_i2s, nil_i2ms, nil_i2us: so many ticks, as a code and a number of a unit
 abbrev pub UnitsCall : Unit → ℕ → ℕ → ℕ → ℕ → Type 0
-UnitsCall u ticks frequency code value = UnitsOf u (record { 0 = ticks }) (Given frequency) (record { code = code; value = value })
+UnitsCall u ticks frequency code value = UnitsOf u (record { 0 = ticks }) (Some frequency) (record { code = code; value = value })
 
 -- ---- for a screen: they read the words alone, on any tables
 

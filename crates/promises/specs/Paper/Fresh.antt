@@ -1,10 +1,9 @@
 -- FRESH TABLES, AS DOCUMENT 01 TELLS THEM: a relation between the sizes and the frequency that are given and what is made of them.
-use Rattle.std.specs.Prelude.{ℕ, ◌-◌, ◌^◌, ◌≡◌, [], ◌∷◌, replicate, pos}
+use Rattle.std.specs.Prelude.{ℕ, ◌-◌, ◌^◌, ◌≡◌, [], ◌∷◌, replicate, pos, Option}
 use Rattle.kernel.specs.declared.clock.Clock.{Clock}
-use Rattle.kernel.specs.declared.units.Rate.{Rate}
 use Rattle.library.specs.declared.sizes.Sizes.{Sizes}
 use Rattle.library.specs.declared.tables.Tables.{Tables}
-use Rattle.library.specs.declared.fresh.Made.{Made}
+use Rattle.library.specs.Told.{Made}
 use Rattle.promises.specs.Paper.Time.{ticks_in_second, Possible}
 use Rattle.promises.specs.Paper.Together.{SizesFit}
 
@@ -40,7 +39,7 @@ pub record FreshClock (f : ℕ) (c : Clock) : Type 0 where
   pub frequency : c.frequency ≡ f
 
 -- what fresh tables can be made of: sizes within their limits, and a frequency in its range
-pub record Legal (z : Sizes) (rate : Rate) : Type 0 where
+pub record Legal (z : Sizes) (rate : Option ℕ) : Type 0 where
   pub sizes : SizesFit z
   pub frequency : Possible (ticks_in_second rate)
 
@@ -56,7 +55,7 @@ pub record MadeWith (n : ℕ) (z : Sizes) (f : ℕ) (m : Made) : Type 0 where
   pub clock : FreshClock f m.clock
 
 -- "14 a size out of its limits", then 6 for "a frequency outside its range": a refusal holds tables of no sizes and a clock of frequency 0
-pub data MadeOf (z : Sizes) (rate : Rate) (m : Made) : Type 0 where
+pub data MadeOf (z : Sizes) (rate : Option ℕ) (m : Made) : Type 0 where
   no_size : (SizesFit z → ⊥) → MadeWith 14 nothing 0 m → MadeOf z rate m
   no-frequency : SizesFit z → (Possible (ticks_in_second rate) → ⊥) → MadeWith 6 nothing 0 m → MadeOf z rate m
   fresh : SizesFit z → Possible (ticks_in_second rate) → MadeWith 0 z (ticks_in_second rate) m → MadeOf z rate m

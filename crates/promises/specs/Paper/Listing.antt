@@ -1,16 +1,15 @@
 -- WHAT IS PRINTED OF A TRACE, BYTE FOR BYTE, AS DOCUMENT 01 TELLS IT: "The program prints in decimal the heading, a line per step (record
 -- number, code, running, woken, finished), and at a bad record `stopped`, its number (0 for 15 and 11), the code; then it ends." It is told of
 -- any kernel k, over the steps that the paper's reader finds (Paper.Reader).
-use Rattle.std.specs.Prelude.{ℕ, zero, suc, ◌+◌, ◌*◌, ◌/◌, ◌%◌, ◌<◌, ◌-◌, ◌≡◌, cond, List, [], ◌∷◌, ◌++◌, eqb, ltb, get_or, ℤ, pos, negsuc}
+use Rattle.std.specs.Prelude.{ℕ, zero, suc, ◌+◌, ◌*◌, ◌/◌, ◌%◌, ◌<◌, ◌-◌, ◌≡◌, cond, List, [], ◌∷◌, ◌++◌, eqb, ltb, get_or, ℤ, pos, negsuc, Some}
 use Rattle.kernel.specs.declared.clock.Clock.{Clock}
 use Rattle.kernel.specs.declared.records.Call.{Call}
-use Rattle.kernel.specs.declared.units.Rate.TheVariants.{Given}
 use Rattle.library.specs.declared.calls.Step.{Step}
 use Rattle.library.specs.declared.sizes.Sizes.{Sizes}
-use Rattle.library.specs.declared.fresh.Made.{Made}
+use Rattle.library.specs.Told.{Made}
 use Rattle.library.specs.declared.tables.Tables.{Tables}
 use Rattle.steps.specs.declared.stepping.Stepped.{Stepped}
-use Rattle.trace.specs.declared.decoding.Read.{Read}
+use Rattle.trace.specs.Told.{Read}
 use Rattle.accounts.specs.declared.account.Account.{Account}
 use Rattle.promises.specs.Paper.World.{found, signed}
 use Rattle.promises.specs.Paper.Together.{number}
@@ -72,7 +71,7 @@ pub data EachText (each : ℕ → Moment → List ℕ → Type 0) : ℕ → List
 -- a view, from fresh tables at the frequency f: its heading, what stands for each step, what stands at the end, and where reading stopped
 pub data Printed (f : ℕ) (heading : List ℕ) (each : ℕ → Moment → List ℕ → Type 0) (end : Made → List Moment → List ℕ → Type 0)
     (k : Tables → Clock → Step → Stepped) (s text : List ℕ) : Type 0 where
-  printed : {z : Sizes} {xs : List Step} {stop : Stop} {m : Made} {a b c : List ℕ} → TraceFound s z xs stop → MadeOf z (Given f) m
+  printed : {z : Sizes} {xs : List Step} {stop : Stop} {m : Made} {a b c : List ℕ} → TraceFound s z xs stop → MadeOf z (Some f) m
       → EachText each 1 (moments_by k m.tables m.clock xs) a → end m (moments_by k m.tables m.clock xs) b → StopLine stop c
       → text ≡ heading ++ (a ++ (b ++ c)) → Printed f heading each end k s text
 

@@ -4,8 +4,7 @@ use Rattle.std.specs.Prelude.{ℕ, zero, suc, ◌+◌, ◌-◌, ◌%◌, ◌≤�
 use Rattle.library.specs.declared.ring.Positions.{Positions}
 use Rattle.pipes.specs.declared.table.Pipe.{Pipe}
 use Rattle.pipes.specs.declared.table.Pipes.{Pipes}
-use Rattle.pipes.specs.declared.opening.Opened.{Opened}
-use Rattle.pipes.specs.declared.transfer.Moved.{Moved}
+use Rattle.pipes.specs.Told.{Opened, Moved}
 use Rattle.promises.specs.Paper.Together.{PositionsFit}
 use Rattle.promises.specs.Paper.Writer.{LeastOf}
 

@@ -1,15 +1,12 @@
 -- TIME, AS DOCUMENT 01 TELLS IT: sums and differences that wrap, the range test, the tick, and the conversions, each as a relation between
 -- what is given and the answer, with the paper's own numbers.
-use Rattle.std.specs.Prelude.{ℕ, ◌+◌, ◌*◌, ◌≤◌, ◌<◌, ◌≡◌, Bool, true, false}
+use Rattle.std.specs.Prelude.{ℕ, ◌+◌, ◌*◌, ◌≤◌, ◌<◌, ◌≡◌, Bool, true, false, Option, Some, None}
 use Rattle.kernel.specs.declared.time.SystemTime.{SystemTime}
 use Rattle.kernel.specs.declared.time.Interval.{Interval}
 use Rattle.kernel.specs.declared.clock.Clock.{Clock}
 use Rattle.kernel.specs.declared.units.Unit.{Unit}
 use Rattle.kernel.specs.declared.units.Unit.TheVariants.{Seconds, Milliseconds, Microseconds}
-use Rattle.kernel.specs.declared.units.Rate.{Rate}
-use Rattle.kernel.specs.declared.units.Rate.TheVariants.{Given, Standard}
-use Rattle.kernel.specs.declared.units.Ticks.{Ticks}
-use Rattle.kernel.specs.declared.units.Units.{Units}
+use Rattle.kernel.specs.Told.{Ticks, Units}
 
 -- ---- times and intervals
 
@@ -47,9 +44,9 @@ in_second Milliseconds = 1000
 in_second Microseconds = 1000000
 
 -- "Where no frequency is given, take 10000 instead of 1000" (document 02)
-abbrev pub ticks_in_second : Rate → ℕ
-ticks_in_second (Given f) = f
-ticks_in_second Standard = 10000
+abbrev pub ticks_in_second : Option ℕ → ℕ
+ticks_in_second (Some f) = f
+ticks_in_second None = 10000
 
 -- "Frequency is 1 to 1,000,000"
 pub record Possible (f : ℕ) : Type 0 where
@@ -62,7 +59,7 @@ pub record RoundedUp (a b n : ℕ) : Type 0 where
   pub least : (m : ℕ) → a ≤ m * b → n ≤ m
 
 -- "Seconds, milliseconds and microseconds (32-bit) become ticks rounded upward": x of the unit u, at a rate
-pub data TicksOf (u : Unit) (x : ℕ) (rate : Rate) (r : Ticks) : Type 0 where
+pub data TicksOf (u : Unit) (x : ℕ) (rate : Option ℕ) (r : Ticks) : Type 0 where
   -- ".. and so is a frequency outside its range"; "A refused conversion returns 6 and value 0"
   no-frequency : (Possible (ticks_in_second rate) → ⊥) → r.code ≡ 6 → r.interval.0 ≡ 0 → TicksOf u x rate r
   -- "a result above 4294967294 is refused with 6"
@@ -72,7 +69,7 @@ pub data TicksOf (u : Unit) (x : ℕ) (rate : Rate) (r : Ticks) : Type 0 where
       → r.code ≡ 0 → r.interval.0 ≡ n → TicksOf u x rate r
 
 -- "Ticks become the other units rounded upward as 64-bit numbers": d in the unit u, at a rate
-pub data UnitsOf (u : Unit) (d : Interval) (rate : Rate) (r : Units) : Type 0 where
+pub data UnitsOf (u : Unit) (d : Interval) (rate : Option ℕ) (r : Units) : Type 0 where
   no-frequency : (Possible (ticks_in_second rate) → ⊥) → r.code ≡ 6 → r.value ≡ 0 → UnitsOf u d rate r
   -- "infinite is refused with 6"
   infinite : Possible (ticks_in_second rate) → d.0 ≡ 4294967295 → r.code ≡ 6 → r.value ≡ 0 → UnitsOf u d rate r

@@ -3,8 +3,7 @@
 use Rattle.std.specs.Prelude.{ℕ, ◌+◌, ◌*◌, ◌≤◌, ◌<◌, ◌≡◌, cond, List, [], ◌∷◌, ◌++◌, ltb, length, get_or, take, drop}
 use Rattle.library.specs.declared.calls.Step.{Step}
 use Rattle.library.specs.declared.sizes.Sizes.{Sizes}
-use Rattle.trace.specs.declared.decoding.Read.{Read}
-use Rattle.trace.specs.declared.writer.Written.{Written}
+use Rattle.trace.specs.Told.{Read, Written}
 use Rattle.promises.specs.Paper.Together.{SizesFit}
 use Rattle.promises.specs.Paper.Answers.{found_said}
 use Rattle.promises.specs.Paper.Reader.{byte, ReadOf}

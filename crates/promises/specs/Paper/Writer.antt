@@ -2,16 +2,15 @@
 use Rattle.std.specs.Prelude.{ℕ, ◌+◌, ◌/◌, ◌%◌, ◌≤◌, ◌<◌, ◌≡◌, List, [], ◌∷◌, length, get_or}
 use Rattle.library.specs.declared.calls.Step.{Step}
 use Rattle.library.specs.declared.sizes.Sizes.{Sizes}
-use Rattle.trace.specs.declared.writer.Written.{Written}
-use Rattle.trace.specs.declared.writer.Written.TheVariants.{Upto, Refused}
+use Rattle.trace.specs.Told.{Written}
 use Rattle.promises.specs.Paper.Together.{SizesFit}
 use Rattle.promises.specs.Paper.Answers.{Said}
 use Rattle.promises.specs.Paper.Reader.{byte}
 
 -- what a writer answers: the place after the record, or "The writer refuses, .. with 14 .., 15 .., 16"
 abbrev pub written_said : Written → Said
-written_said (Upto next) = record { code = 0; gives = 3; values = next ∷ [] }
-written_said (Refused code) = record { code = code; gives = 0; values = [] }
+written_said (Written.Upto next) = record { code = 0; gives = 3; values = next ∷ [] }
+written_said (Written.Refused code) = record { code = code; gives = 0; values = [] }
 
 -- ---- what is written, byte by byte: the buffer is l before and k after
 

@@ -1,10 +1,9 @@
 -- No step reads the frequency but to test that it is possible: so two clocks of one time and of possible frequencies get the same refusal,
 -- the same act and the same result, step by step.
-use Rattle.std.specs.Prelude.{ℕ, ◌≡◌, refl, Bool, true, ◌&&◌, List, [], ◌∷◌, eqb, leb}
+use Rattle.std.specs.Prelude.{ℕ, ◌≡◌, refl, Bool, true, ◌&&◌, List, [], ◌∷◌, eqb, leb, Some}
 use Rattle.std.proofs.Math.Path.{sym, ap}
 use Rattle.std.proofs.Common.{◌∙◌}
 use Rattle.kernel.specs.declared.clock.Clock.{Clock}
-use Rattle.kernel.specs.declared.units.Rate.TheVariants.{Given}
 use Rattle.kernel.specs.Units.{frequency_fits}
 use Rattle.kernel.specs.Waiters.{running_free}
 use Rattle.kernel.proofs.Cases.{split}
@@ -106,7 +105,7 @@ moments-at f h t c (s ∷ ss) e =
 
 -- from fresh tables: the same tables, and the same moments
 pub fresh-alike : (z : Sizes) (f g : ℕ) → Possible f → Possible g → (ss : List Step)
-    → ((made z (Given f)).tables ≡ (made z (Given g)).tables) × Alike (fresh_moments z (Given f) ss) (fresh_moments z (Given g) ss)
+    → ((made z (Some f)).tables ≡ (made z (Some g)).tables) × Alike (fresh_moments z (Some f) ss) (fresh_moments z (Some g) ss)
 unfolding made
 fresh-alike z f g p q ss =
     rw (fits-possible f p, fits-possible g q)

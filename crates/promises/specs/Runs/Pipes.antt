@@ -7,8 +7,7 @@ use Rattle.kernel.proofs.Cases.{same_or}
 use Rattle.library.specs.declared.ring.Positions.{Positions}
 use Rattle.pipes.specs.declared.table.Pipe.{Pipe}
 use Rattle.pipes.specs.declared.table.Pipes.{Pipes}
-use Rattle.pipes.specs.declared.opening.Opened.{Opened}
-use Rattle.pipes.specs.declared.transfer.Moved.{Moved}
+use Rattle.pipes.specs.Told.{Opened, Moved}
 use Rattle.pipes.specs.Opening.{pipe_reset, pipe_resumed}
 use Rattle.pipes.specs.Transfer.{write_answer, buffer_written, read_answer, target_read}
 use Rattle.pipes.proofs.CarryingLaws.{place-on, places-apart}

@@ -1,5 +1,5 @@
 -- The test that the code runs says exactly that the tables hang together, and fresh tables do: every row of them is blank.
-use Rattle.std.specs.Prelude.{ℕ, zero, suc, ◌≤◌, ◌<◌, ◌≡◌, refl, ◌↔◌, true, leb, pos, get_or, replicate}
+use Rattle.std.specs.Prelude.{ℕ, zero, suc, ◌≤◌, ◌<◌, ◌≡◌, refl, ◌↔◌, true, leb, pos, get_or, replicate, Option}
 use Rattle.std.proofs.Common.{not-suc-le-zero, arith, ap, ◌∙◌, inl}
 use Rattle.std.proofs.Math.Nat.{zero-mod}
 use Rattle.std.proofs.Math.Path.{sym}
@@ -7,7 +7,6 @@ use borrow.Author.Tests.{eqb-true, eq-eqb, leb-true, le-leb}
 use Rattle.kernel.specs.declared.clock.Clock.{Clock}
 use Rattle.kernel.specs.declared.records.Thread.{Thread}
 use Rattle.kernel.specs.declared.records.Kernel.{Kernel}
-use Rattle.kernel.specs.declared.units.Rate.{Rate}
 use Rattle.kernel.specs.Numbers.{nobody}
 use Rattle.kernel.specs.Places.{pool_place, queue_place, writers_place, readers_place}
 use Rattle.kernel.specs.Records.{blank, fresh_records, begun}
@@ -243,7 +242,7 @@ fresh-hangs z f e h =
     })
 
 -- what `made` makes, it makes so that it passes
-pub made-hangs : (z : Sizes) (r : Rate) → (made z r).code ≡ 0 → hangs_together (opened (made z r).tables) (made z r).clock ≡ true
+pub made-hangs : (z : Sizes) (r : Option ℕ) → (made z r).code ≡ 0 → hangs_together (opened (made z r).tables) (made z r).clock ≡ true
 unfolding made
 made-hangs z r h =
     split (sizes_fit z)

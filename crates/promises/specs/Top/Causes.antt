@@ -1,11 +1,10 @@
 -- DOCUMENT 02, 7/13: WHY A THREAD WOKE. From any tables that hang together, over any steps, refused ones included: the cause and the number in
 -- each thread's record are those of its last waking, and the step number counts the accepted steps; and from fresh tables. What each step
 -- makes of them is in `one-waking`, and which causes a waiter's turn has in `turn-of-semaphore` (Top.Demands).
-use Rattle.std.specs.Prelude.{ℕ, ◌≤◌, ◌<◌, ◌≡◌, refl, ◌≢◌, true, false, List, pos}
+use Rattle.std.specs.Prelude.{ℕ, ◌≤◌, ◌<◌, ◌≡◌, refl, ◌≢◌, true, false, List, pos, Option}
 use Rattle.std.proofs.Common.{arith, ap, ◌∙◌, subst, inl, inr, eq-eqb, ne_eqb}
 use Rattle.kernel.specs.declared.clock.Clock.{Clock}
 use Rattle.kernel.specs.declared.records.Thread.{Thread}
-use Rattle.kernel.specs.declared.units.Rate.{Rate}
 use Rattle.library.specs.declared.calls.Step.{Step}
 use Rattle.library.specs.declared.sizes.Sizes.{Sizes}
 use Rattle.library.specs.declared.tables.Tables.{Tables}
@@ -114,7 +113,7 @@ module _ (t : Tables) (c : Clock) (g : Going t c) (s : Step) (h : HostStep s) (a
 
 -- ---- from fresh tables
 
-module _ (y : Sizes) (r : Rate) (legal : Legal y r) (ss : List Step) (hs : HostSteps ss) where
+module _ (y : Sizes) (r : Option ℕ) (legal : Legal y r) (ss : List Step) (hs : HostSteps ss) where
   abbrev pub run : List Moment
   run = fresh_moments y r ss
 

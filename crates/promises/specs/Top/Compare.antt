@@ -8,7 +8,7 @@ use Rattle.kernel.proofs.Cases.{same_or, in-or-out}
 use Rattle.library.specs.declared.tables.Tables.{Tables}
 use Rattle.kernel.specs.declared.clock.Clock.{Clock}
 use Rattle.compare.specs.declared.cells.Kept.{Kept}
-use Rattle.compare.specs.declared.comparing.Compared.{Compared}
+use Rattle.compare.specs.Told.{Compared}
 use Rattle.compare.specs.Laid.{kept_of, tables_put, clock_put}
 use Rattle.compare.specs.Order.{fields}
 use Rattle.compare.specs.Compared.{changed, numbers, compared}

@@ -1,11 +1,10 @@
 -- THE THREE DEMANDS, AND WHAT DOCUMENT 02 ADDS. The first two are of any tables, clock and step of a host; the third of any run, refused
 -- steps included, from any tables that hang together, and so from fresh ones. Their words are those of room Paper: what they cite of the
 -- code is `stepped` alone, which each function is proved to compute.
-use Rattle.std.specs.Prelude.{ℕ, ◌+◌, ◌≤◌, ◌<◌, ◌≡◌, ◌≢◌, ◌⊎◌, true, false, List, [], ◌∷◌}
+use Rattle.std.specs.Prelude.{ℕ, ◌+◌, ◌≤◌, ◌<◌, ◌≡◌, ◌≢◌, ◌⊎◌, true, false, List, [], ◌∷◌, Option}
 use Rattle.std.proofs.Common.{arith, sym, ◌∙◌, subst, eq-eqb}
 use Rattle.kernel.specs.declared.clock.Clock.{Clock}
 use Rattle.kernel.specs.declared.records.Thread.{Thread}
-use Rattle.kernel.specs.declared.units.Rate.{Rate}
 use Rattle.kernel.proofs.Cases.{same_or, in-or-out}
 use Rattle.library.specs.declared.calls.Step.{Step}
 use Rattle.library.specs.declared.sizes.Sizes.{Sizes}
@@ -142,7 +141,7 @@ module _ (t : Tables) (c : Clock) (g : Going t c) (ss : List Step) (hs : HostSte
 
 -- ---- "Fresh tables pass, and accepted steps keep it so"
 
-pub fresh-going : (y : Sizes) (r : Rate) → Legal y r → Going (made y r).tables (made y r).clock
+pub fresh-going : (y : Sizes) (r : Option ℕ) → Legal y r → Going (made y r).tables (made y r).clock
 fresh-going y r legal =
     let m = made-legal y r legal in
     let h = made-hang y r m.code in
@@ -193,7 +192,7 @@ module _ (t : Tables) (c : Clock) (g : Going t c) where
       (rw (eq-eqb (stepped t c s).outcome.code 0 e, eq-eqb s.kind 13 k, eq-eqb s.object i o) f)
 
 -- ---- DEMAND 3, from fresh tables of the sizes y, after any steps xs, over any steps ss
-module _ (y : Sizes) (r : Rate) (legal : Legal y r) (xs : List Step) (hx : HostSteps xs) where
+module _ (y : Sizes) (r : Option ℕ) (legal : Legal y r) (xs : List Step) (hx : HostSteps xs) where
   abbrev pub t₁ : Tables
   t₁ = (fresh_ran y r xs).tables
 

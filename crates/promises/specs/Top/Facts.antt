@@ -1,10 +1,9 @@
 -- "Prove in a single statement over a single list the twelve facts": what is computed by the definitions that the contracts cite,
 -- beside what document 01 says.
-use Rattle.std.specs.Prelude.{ℕ, suc, ◌≡◌, refl, List, [], ◌∷◌, ◌++◌}
+use Rattle.std.specs.Prelude.{ℕ, suc, ◌≡◌, refl, List, [], ◌∷◌, ◌++◌, Some, None}
 use Rattle.kernel.specs.declared.time.SystemTime.{SystemTime}
 use Rattle.kernel.specs.declared.units.Unit.TheVariants.{Milliseconds, Microseconds}
-use Rattle.kernel.specs.declared.units.Rate.TheVariants.{Given, Standard}
-use Rattle.kernel.specs.declared.units.Ticks.{Ticks}
+use Rattle.kernel.specs.Told.{Ticks}
 use Rattle.kernel.specs.Time.{differed, in_range}
 use Rattle.kernel.specs.Units.{in_ticks}
 use Rattle.kernel.specs.Walk.{bit, first_from, all_from, count_of}
@@ -14,7 +13,7 @@ use Rattle.kernel.specs.Moves.{taken_off, put_on, woken, slept, finished, blocke
 use Rattle.kernel.specs.Queue.{enqueued, released_first, released_all}
 use Rattle.kernel.specs.Semaphore.{taken, waited, signalled}
 use Rattle.kernel.specs.Ticking.{ticked}
-use Rattle.library.specs.declared.fresh.Made.{Made}
+use Rattle.library.specs.Told.{Made}
 use Rattle.library.specs.Ring.{positions_fit}
 use Rattle.library.specs.Sizes.{sizes_fit}
 use Rattle.library.specs.Fresh.{made}
@@ -30,7 +29,7 @@ use Rattle.rules.specs.Hanging.{hangs_together}
 use Rattle.steps.specs.declared.stepping.Outcome.{Outcome}
 use Rattle.steps.specs.Refusal.{refusal_of}
 use Rattle.steps.specs.Stepping.{mask_of, outcome_of, done_with, refused_with, stepped}
-use Rattle.trace.specs.declared.decoding.Found.TheVariants.{Ended}
+use Rattle.trace.specs.Told.{Found}
 use Rattle.trace.specs.Ordered.{get_n}
 use Rattle.trace.specs.Decoding.{ends_inside, length_refusal, step_refusal, decoded_sizes, decoded_step, opened_read, stepped_read, next_read}
 use Rattle.trace.specs.Traces.{Reading, read_from, read_all}
@@ -52,7 +51,7 @@ ran_fresh r m = ran m.tables m.clock r.steps
 
 -- the lines of a trace, from its bytes; record 0 is the sizes, and the listing program gives 1000 (document 02)
 abbrev pub lines_of : Reading → List (List ℕ)
-lines_of r = lines_from 1 (ran_fresh r (made r.sizes (Given 1000))).outcomes
+lines_of r = lines_from 1 (ran_fresh r (made r.sizes (Some 1000))).outcomes
 
 -- "Trace `01 0006 020100000000` and six 11-byte steps", with their length bytes
 abbrev pub six_steps : List ℕ
@@ -76,9 +75,9 @@ at n = record { 0 = n }
 -- the facts on time, each as the definitions compute it
 abbrev pub time_facts : List (List ℕ)
 time_facts =
-    ticks_row (in_ticks Microseconds 1500 (Given 1000))
-    ∷ ticks_row (in_ticks Milliseconds 1 (Given 100))
-    ∷ ticks_row (in_ticks Milliseconds 0 Standard)
+    ticks_row (in_ticks Microseconds 1500 (Some 1000))
+    ∷ ticks_row (in_ticks Milliseconds 1 (Some 100))
+    ∷ ticks_row (in_ticks Milliseconds 0 None)
     ∷ ((differed (at 4294967290) (at 5)).0 ∷ [])
     ∷ (bit (in_range (at 3) (at 3) (at 3)) ∷ [])
     ∷ (bit (in_range (at 0) (at 4294967295) (at 1)) ∷ [])
@@ -112,6 +111,6 @@ unfolding first_from all_from count_of word_of first_of first_ready first_waiter
 twelve-facts = refl
 
 -- and the trace of the six steps is read to its end
-pub six-read : (read_all six_steps).stop ≡ Ended
+pub six-read : (read_all six_steps).stop ≡ Found.Ended
 unfolding all_from sizes_fit get_n ends_inside length_refusal step_refusal decoded_sizes decoded_step opened_read stepped_read next_read read_from read_all
 six-read = refl

@@ -1,9 +1,8 @@
 -- DOCUMENT 02, 5/13: NOTHING LOST, NOTHING INVENTED. From any tables that hang together, over any steps, refused ones included: what is in each
 -- mailbox, and where each object of each pool is, follows from the history of the steps; and from fresh tables the plain sentences.
-use Rattle.std.specs.Prelude.{ℕ, ◌+◌, ◌≤◌, ◌<◌, ◌≡◌, refl, ◌≢◌, true, false, List, [], ◌∷◌, ◌++◌}
+use Rattle.std.specs.Prelude.{ℕ, ◌+◌, ◌≤◌, ◌<◌, ◌≡◌, refl, ◌≢◌, true, false, List, [], ◌∷◌, ◌++◌, Option}
 use Rattle.std.proofs.Common.{zero-add, arith, sym, ap, ◌∙◌, subst, eq-eqb}
 use Rattle.kernel.specs.declared.clock.Clock.{Clock}
-use Rattle.kernel.specs.declared.units.Rate.{Rate}
 use Rattle.library.specs.declared.calls.Step.{Step}
 use Rattle.library.specs.declared.sizes.Sizes.{Sizes}
 use Rattle.library.specs.declared.tables.Tables.{Tables}
@@ -81,7 +80,7 @@ module _ {z : Sizes} {l : ℕ → Ledger} {st : ℕ → ℕ → Standing} {ms : 
 
 -- ---- from fresh tables, where nothing was posted and no object added
 
-module _ (y : Sizes) (r : Rate) (legal : Legal y r) (ss : List Step) (hs : HostSteps ss) where
+module _ (y : Sizes) (r : Option ℕ) (legal : Legal y r) (ss : List Step) (hs : HostSteps ss) where
   abbrev pub run : List Moment
   run = fresh_moments y r ss
 

@@ -32,8 +32,9 @@ use Rattle.accounts.specs.Account.{fresh_account, entered}
 use Rattle.accounts.specs.Accounting.{threads_entered, accounted_step}
 use Rattle.text.specs.declared.views.Seen.{Seen}
 use Rattle.text.specs.declared.views.View.TheVariants.{Lines, AllTables, Wakings, Sums}
-use Rattle.text.specs.Rows.{rows, word_text, row_text}
-use Rattle.text.specs.Decimal.{digits_n, decimal}
+use Rattle.buffers.specs.Put.{rows}
+use Rattle.text.specs.Rows.{word_text, row_text}
+use Rattle.buffers.specs.Decimal.{digits_n, decimal}
 use Rattle.text.specs.Views.{step_line, step_row, row_of, rows_in, head_text, part_text, parts_text, fresh_seen, seen_after, records_text, view_text}
 use Rattle.promises.specs.Paper.Time.{Possible}
 use Rattle.promises.specs.Paper.Listing.{StepLine, list_heading, ListingTold, TablesTold, WhyTold, AccountTold}

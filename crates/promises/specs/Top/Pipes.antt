@@ -5,8 +5,7 @@ use Rattle.std.proofs.Math.Nat.{zero-mod}
 use Rattle.std.proofs.Common.{arith, sym, ap, ◌∙◌}
 use Rattle.std.proofs.Math.Seq.{take-append_seam, drop-append_seam}
 use Rattle.pipes.specs.declared.table.Pipes.{Pipes}
-use Rattle.pipes.specs.declared.opening.Opened.{Opened}
-use Rattle.pipes.specs.declared.transfer.Moved.{Moved}
+use Rattle.pipes.specs.Told.{Opened, Moved}
 use Rattle.pipes.specs.Opening.{pipes_fresh, pipe_reset, pipe_resumed}
 use Rattle.pipes.specs.Transfer.{write_answer, buffer_written, read_answer, target_read}
 use Rattle.promises.specs.Paper.Together.{PositionsFit}

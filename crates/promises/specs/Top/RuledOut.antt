@@ -13,7 +13,7 @@ use Rattle.kernel.proofs.WordsLaws.{and-test, less-test}
 use Rattle.library.specs.declared.calls.Step.{Step}
 use Rattle.library.specs.declared.tables.Tables.{Tables}
 use Rattle.pipes.specs.declared.table.Pipes.{Pipes}
-use Rattle.pipes.specs.declared.transfer.Moved.{Moved}
+use Rattle.pipes.specs.Told.{Moved}
 use Rattle.steps.specs.declared.stepping.Stepped.{Stepped}
 use Rattle.promises.specs.Paper.World.{World, found, signed, Highest}
 use Rattle.promises.specs.Paper.Rows.{slots_of}

@@ -1,9 +1,8 @@
 -- The demands' hypotheses, met by runs from fresh tables, by computation: two threads, a semaphore and a pool.
-use Rattle.std.specs.Prelude.{ℕ, ◌<◌, ◌≡◌, refl, List, [], ◌∷◌, ◌++◌, pos, negsuc}
+use Rattle.std.specs.Prelude.{ℕ, ◌<◌, ◌≡◌, refl, List, [], ◌∷◌, ◌++◌, pos, negsuc, Some, None}
 use Rattle.std.proofs.Common.{arith}
 use Rattle.kernel.specs.declared.records.Answer.{Answer}
 use Rattle.kernel.specs.declared.records.Thread.{Thread}
-use Rattle.kernel.specs.declared.units.Rate.TheVariants.{Given, Standard}
 use Rattle.kernel.specs.Walk.{first_from, all_from, count_of}
 use Rattle.kernel.specs.Words.{word_of, ones_of, first_of}
 use Rattle.kernel.specs.Moves.{taken_off, put_on, woken, slept, finished, blocked}
@@ -49,9 +48,9 @@ abbrev pub two : Sizes
 two = record { threads = 2; semaphores = 1; queues = 0; references = 0; mailboxes = 0; pools = 1; slots = 0 ∷ 0 ∷ 0 ∷ 0 ∷ [] }
 
 -- such tables are made
-pub made-shown : Legal two Standard
+pub made-shown : Legal two None
 unfolding all_from sizes_fit made
-made-shown = code-legal two Standard refl
+made-shown = code-legal two None refl
 
 abbrev pub alone : Step → List Step
 alone s = s ∷ []
@@ -72,10 +71,10 @@ waits-typed timeout = one 0 2 0 timeout (omega arith)
 
 pub demand-3b-shown :
     Throughout EachThread
-    (moments (fresh_ran two Standard (alone (waits 0 1))).tables (fresh_ran two Standard (alone (waits 0 1))).clock (alone tick))
+    (moments (fresh_ran two None (alone (waits 0 1))).tables (fresh_ran two None (alone (waits 0 1))).clock (alone tick))
 unfolding first_from all_from count_of word_of first_of first_ready first_waiter taken_off put_on woken slept finished blocked enqueued released_first released_all taken waited signalled ticked sizes_fit made signal_acted call_made effected acted_on_kernel acted went_on settled call_fits wait_fits ticks_fit flags_fit row_fits rows_fit queued_count counters_fit ready_word waiting_word ready_fits waiting_fits words_fit holder_fits references_fit positions_fit mailboxes_fit promised_count occurrences entries_fit objects_fit pool_fits pools_fit hangs_together refusal_of mask_of outcome_of done_with refused_with stepped
 demand-3b-shown =
-    demand-3b two Standard made-shown (alone (waits 0 1)) (waits-typed 1) (alone tick) (one 255 1 0 0 (omega arith)) 0 (omega arith)
+    demand-3b two None made-shown (alone (waits 0 1)) (waits-typed 1) (alone tick) (one 255 1 0 0 (omega arith)) 0 (omega arith)
 
 -- ---- c: both threads wait for ever, and an interrupt signals twice: thread 1, with one higher waiter before it, is woken by the second
 
@@ -94,10 +93,10 @@ signals-typed = HostSteps.more (typed 255 3 0 0 (omega arith)) (HostSteps.more (
 
 pub demand-3c-shown :
     WokenIn 1 (TurnAt 0 1)
-    (moments (fresh_ran two Standard both_wait).tables (fresh_ran two Standard both_wait).clock two_signals)
+    (moments (fresh_ran two None both_wait).tables (fresh_ran two None both_wait).clock two_signals)
 unfolding first_from all_from count_of word_of first_of first_ready first_waiter taken_off put_on woken slept finished blocked enqueued released_first released_all taken waited signalled ticked sizes_fit made signal_acted call_made effected acted_on_kernel acted went_on settled call_fits wait_fits ticks_fit flags_fit row_fits rows_fit queued_count counters_fit ready_word waiting_word ready_fits waiting_fits words_fit holder_fits references_fit positions_fit mailboxes_fit promised_count occurrences entries_fit objects_fit pool_fits pools_fit hangs_together refusal_of mask_of outcome_of done_with refused_with stepped
 demand-3c-shown =
-    demand-3c two Standard made-shown both_wait both_typed two_signals signals-typed 1 (omega arith) 0 (omega arith) refl refl refl (omega arith)
+    demand-3c two None made-shown both_wait both_typed two_signals signals-typed 1 (omega arith) 0 (omega arith) refl refl refl (omega arith)
 
 -- ---- c, of a pool: thread 0 waits for an object, and an interrupt adds one
 
@@ -106,25 +105,25 @@ allocs = by 0 20 0 4294967295
 
 pub demand-3c-pools-shown :
     WokenIn 0 (TurnAt 16 0)
-    (moments (fresh_ran two Standard (alone allocs)).tables
-    (fresh_ran two Standard (alone allocs)).clock (alone (by 255 22 5 0)))
+    (moments (fresh_ran two None (alone allocs)).tables
+    (fresh_ran two None (alone allocs)).clock (alone (by 255 22 5 0)))
 unfolding first_from all_from count_of word_of first_of first_ready first_waiter taken_off put_on woken slept finished blocked enqueued released_first released_all taken waited signalled ticked sizes_fit made signal_acted call_made effected acted_on_kernel acted went_on settled call_fits wait_fits ticks_fit flags_fit row_fits rows_fit queued_count counters_fit ready_word waiting_word ready_fits waiting_fits words_fit holder_fits references_fit positions_fit mailboxes_fit promised_count occurrences entries_fit objects_fit pool_fits pools_fit hangs_together refusal_of mask_of outcome_of done_with refused_with stepped popped pushed handed_over alloc_tried put_back box_effected acted_on_box
 demand-3c-pools-shown =
-    demand-3c-pools two Standard made-shown (alone allocs) (one 0 20 0 4294967295 (omega arith)) (alone (by 255 22 5 0))
+    demand-3c-pools two None made-shown (alone allocs) (one 0 20 0 4294967295 (omega arith)) (alone (by 255 22 5 0))
     (one 255 22 5 0 (omega arith)) 0 (omega arith) 0 (omega arith) refl refl refl (omega arith)
 
 -- ---- the frequency of document 02: where none is given a wait ends at the tick at which it ends where 1000 is
 
-pub frequency-shown : fresh_ran two Standard (waits 0 1 ∷ tick ∷ []) ≡ ran_at 10000 (fresh_ran two (Given 1000) (waits 0 1 ∷ tick ∷ []))
+pub frequency-shown : fresh_ran two None (waits 0 1 ∷ tick ∷ []) ≡ ran_at 10000 (fresh_ran two (Some 1000) (waits 0 1 ∷ tick ∷ []))
 unfolding all_from sizes_fit made
-frequency-shown = any-frequency-fresh two (Given 1000) Standard (code-legal two (Given 1000) refl) made-shown (waits 0 1 ∷ tick ∷ [])
+frequency-shown = any-frequency-fresh two (Some 1000) None (code-legal two (Some 1000) refl) made-shown (waits 0 1 ∷ tick ∷ [])
 
 -- ---- the words of document 02, in runs: fresh; thread 0 waits; both wait, and idle runs; a signal wakes thread 0. Each row has the ready word,
 -- the word of semaphore 0, how many are ready, who is first
 
 abbrev words_after : List Step → List ℕ
 words_after ss =
-    let t : Tables = (fresh_ran two Standard ss).tables in
+    let t : Tables = (fresh_ran two None ss).tables in
     t.kernel.words.ready ∷ waiters_at t 0 ∷ ready_count t ∷ ready_first t ∷ []
 
 pub words-shown : words_after [] ∷ words_after (alone (waits 0 5)) ∷ words_after both_wait ∷ words_after (both_wait ++ alone (by 255 3 0 0)) ∷ []
@@ -148,7 +147,7 @@ goes_on = by 0 11 0 1 ∷ []
 -- thread 1 then: its state, the kind of its unfinished call, its pending flags, and its last answer
 abbrev slow_after : List Step → (List ℕ) × Answer
 slow_after ss =
-    let u : Thread = row_of (fresh_ran two Standard ss).tables 1 in
+    let u : Thread = row_of (fresh_ran two None ss).tables 1 in
     (u.state ∷ u.call.kind ∷ u.pending ∷ [], u.answer)
 
 -- "a slow thread awaiting flags 1 or 2 was signalled 1, then 2 before it ran, and saw both"; flag 4 is not its

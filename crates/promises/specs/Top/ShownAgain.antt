@@ -1,8 +1,7 @@
 -- A mailbox call that was woken by an earlier step, is tried again and sleeps again, by computation: it has its FULL timeout then. That it ends by its
 -- last tick is in proofs/ShownSleeps.antt. Two threads, a mailbox of one slot.
 use Rattle.std.proofs.Common.{arith}
-use Rattle.std.specs.Prelude.{◌≡◌, refl, List, [], ◌∷◌, ◌++◌}
-use Rattle.kernel.specs.declared.units.Rate.TheVariants.{Standard}
+use Rattle.std.specs.Prelude.{◌≡◌, refl, List, [], ◌∷◌, ◌++◌, None}
 use Rattle.kernel.specs.Walk.{first_from, all_from, count_of}
 use Rattle.kernel.specs.Words.{word_of, first_of}
 use Rattle.kernel.specs.Moves.{taken_off, put_on, woken, slept, finished, blocked}
@@ -43,9 +42,9 @@ use Rattle.promises.specs.Top.ShownSteps.{by, more}
 abbrev pub narrow : Sizes
 narrow = record { threads = 2; semaphores = 0; queues = 0; references = 0; mailboxes = 1; pools = 0; slots = 1 ∷ 0 ∷ 0 ∷ 0 ∷ [] }
 
-pub made-narrow : Legal narrow Standard
+pub made-narrow : Legal narrow None
 unfolding all_from sizes_fit made
-made-narrow = code-legal narrow Standard refl
+made-narrow = code-legal narrow None refl
 
 -- thread 0 sleeps for a tick, and thread 1 waits for a message, for at most two; thread 0 posts one, which wakes thread 1, and fetches it itself
 abbrev pub taken_away : List Step
@@ -65,10 +64,10 @@ ticks = by 255 1 0 0 ∷ by 255 1 0 0 ∷ []
 
 -- the state of thread 1 before and after that step, the timeout that it begins with, and its remaining ticks then
 pub again-shown :
-    (row_of (fresh_ran narrow Standard taken_away).tables 1).state
-    ∷ (row_of (fresh_ran narrow Standard (taken_away ++ (leaves ∷ []))).tables 1).state
-    ∷ begun_with (fresh_ran narrow Standard taken_away).tables (fresh_ran narrow Standard taken_away).clock leaves 1
-    ∷ (row_of (fresh_ran narrow Standard (taken_away ++ (leaves ∷ []))).tables 1).remaining
+    (row_of (fresh_ran narrow None taken_away).tables 1).state
+    ∷ (row_of (fresh_ran narrow None (taken_away ++ (leaves ∷ []))).tables 1).state
+    ∷ begun_with (fresh_ran narrow None taken_away).tables (fresh_ran narrow None taken_away).clock leaves 1
+    ∷ (row_of (fresh_ran narrow None (taken_away ++ (leaves ∷ []))).tables 1).remaining
     ∷ []
     ≡ 0 ∷ 3 ∷ 2 ∷ 2 ∷ []
 unfolding first_from all_from count_of word_of first_of first_ready first_waiter taken_off put_on woken slept finished blocked enqueued released_first released_all taken waited signalled reset_to suspended_on resumed slept_for slept_until took_flags event_signalled event_waited ticked binary_signalled ring_posted posted_ahead ring_fetched emptied post_done post_tried fetch_done fetch_tried both_released mailbox_reset mailbox_resumed popped pushed handed_over alloc_tried put_back sizes_fit made signal_acted call_made effected acted_on_kernel box_effected acted_on_box acted went_on settled call_fits wait_fits ticks_fit flags_fit row_fits rows_fit queued_count counters_fit ready_word waiting_word ready_fits waiting_fits words_fit holder_fits references_fit positions_fit mailboxes_fit promised_count occurrences entries_fit objects_fit pool_fits pools_fit hangs_together refusal_of mask_of outcome_of done_with refused_with stepped

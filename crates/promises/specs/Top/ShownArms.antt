@@ -1,9 +1,8 @@
 -- Every arm of every row of the paper's table is met by a step that is accepted, after a run from fresh tables: by computation. Two threads,
 -- one object of each sort, and a mailbox of one slot.
-use Rattle.std.specs.Prelude.{ℕ, ◌≡◌, refl, Bool, true, not, ◌&&◌, List, [], ◌∷◌, eqb, replicate, pos}
+use Rattle.std.specs.Prelude.{ℕ, ◌≡◌, refl, Bool, true, not, ◌&&◌, List, [], ◌∷◌, eqb, replicate, pos, None}
 use Rattle.std.specs.Int.Bits.{bit_and}
 use Rattle.std.specs.Int.Signed.{lt_z}
-use Rattle.kernel.specs.declared.units.Rate.TheVariants.{Standard}
 use Rattle.kernel.specs.Walk.{first_from, all_from, count_of}
 use Rattle.kernel.specs.Words.{word_of, first_of}
 use Rattle.kernel.specs.Tables.{thread_at, counter_at, holder_at}
@@ -45,7 +44,7 @@ one = record { threads = 2; semaphores = 1; queues = 1; references = 1; mailboxe
 -- after the steps xs the step s is accepted, and the arm's test passes before it
 abbrev met : List Step → Step → (Plant → Bool) → Bool
 met xs s test =
-    let r = fresh_ran one Standard xs in
+    let r = fresh_ran one None xs in
     eqb (stepped r.tables r.clock s).outcome.code 0 && test (opened r.tables)
 
 -- the tests

@@ -1,8 +1,7 @@
 -- Why threads woke, in a run from fresh tables, by computation: a signal, a timeout and a reset at one semaphore, with a refused step in between;
 -- and a fetch that waits and is woken by a post that goes on in the same step. Two threads, a semaphore, and a mailbox of one slot.
-use Rattle.std.specs.Prelude.{ℕ, ◌≡◌, refl, List, [], ◌∷◌}
+use Rattle.std.specs.Prelude.{ℕ, ◌≡◌, refl, List, [], ◌∷◌, None}
 use Rattle.std.proofs.Common.{arith}
-use Rattle.kernel.specs.declared.units.Rate.TheVariants.{Standard}
 use Rattle.kernel.specs.Walk.{first_from, all_from, count_of}
 use Rattle.kernel.specs.Words.{word_of, first_of}
 use Rattle.kernel.specs.Moves.{taken_off, put_on, woken, slept, finished, blocked}
@@ -45,9 +44,9 @@ use Rattle.promises.specs.Top.Causes.{why-fresh, steps-fresh}
 abbrev valve : Sizes
 valve = record { threads = 2; semaphores = 1; queues = 0; references = 0; mailboxes = 1; pools = 0; slots = 1 ∷ 0 ∷ 0 ∷ 0 ∷ [] }
 
-pub made-valve : Legal valve Standard
+pub made-valve : Legal valve None
 unfolding all_from sizes_fit made
-made-valve = code-legal valve Standard refl
+made-valve = code-legal valve None refl
 
 -- thread 0 waits, and an interrupt signals; it waits for a tick, signals where it does not run, which is refused, and the tick comes; it waits, and
 -- the interrupt resets. It sleeps for a tick, thread 1 posts, posts again and waits, and the tick comes; it fetches, which wakes thread 1,
@@ -97,7 +96,7 @@ shown (m ∷ ms) =
     ∷ [])
     ∷ shown ms
 
-pub shift-shown : shown (fresh_moments valve Standard shift)
+pub shift-shown : shown (fresh_moments valve None shift)
     ≡ (0 ∷ 0 ∷ 1 ∷ 0 ∷ 0 ∷ 0 ∷ 0 ∷ [])
     ∷ (0 ∷ 1 ∷ 2 ∷ 1 ∷ 2 ∷ 0 ∷ 0 ∷ [])
     ∷ (0 ∷ 0 ∷ 3 ∷ 1 ∷ 2 ∷ 0 ∷ 0 ∷ [])
@@ -116,11 +115,11 @@ unfolding first_from all_from count_of word_of first_of first_ready first_waiter
 shift-shown = refl
 
 -- the promise speaks of it
-pub shift-why : LastWaking 0 (why_of (row_of (fresh_ran valve Standard shift).tables 0)) 0 not_yet (fresh_moments valve Standard shift)
-shift-why = why-fresh valve Standard made-valve shift shift-typed 0 (omega arith)
+pub shift-why : LastWaking 0 (why_of (row_of (fresh_ran valve None shift).tables 0)) 0 not_yet (fresh_moments valve None shift)
+shift-why = why-fresh valve None made-valve shift shift-typed 0 (omega arith)
 
 -- and its step number is the number of accepted steps: thirteen, less the refused one
-pub shift-steps : (how_many is_accepted (fresh_moments valve Standard shift) ≡ 12)
-    × ((fresh_ran valve Standard shift).tables.kernel.steps ≡ 12)
+pub shift-steps : (how_many is_accepted (fresh_moments valve None shift) ≡ 12)
+    × ((fresh_ran valve None shift).tables.kernel.steps ≡ 12)
 unfolding first_from all_from count_of word_of first_of first_ready first_waiter taken_off put_on woken slept finished blocked enqueued released_first released_all taken waited signalled reset_to suspended_on resumed slept_for slept_until took_flags event_signalled event_waited ticked binary_signalled ring_posted posted_ahead ring_fetched emptied post_done post_tried fetch_done fetch_tried both_released mailbox_reset mailbox_resumed popped pushed handed_over alloc_tried put_back sizes_fit made signal_acted call_made effected acted_on_kernel box_effected acted_on_box acted went_on settled call_fits wait_fits ticks_fit flags_fit row_fits rows_fit queued_count counters_fit ready_word waiting_word ready_fits waiting_fits words_fit holder_fits references_fit positions_fit mailboxes_fit promised_count occurrences entries_fit objects_fit pool_fits pools_fit hangs_together refusal_of mask_of outcome_of done_with refused_with stepped
-shift-steps = (refl, steps-fresh valve Standard made-valve shift shift-typed (omega arith))
+shift-steps = (refl, steps-fresh valve None made-valve shift shift-typed (omega arith))

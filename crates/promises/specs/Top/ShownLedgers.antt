@@ -1,9 +1,8 @@
 -- A run in which everything happens that a ledger must know, by computation: a reader that sleeps is woken by a post and fetches it in the same
 -- step, a thread's and then an interrupt's; a post goes ahead; a reset loses two messages; and an object that is promised to a woken thread is
 -- still free. Two threads, a mailbox of three slots, a pool.
-use Rattle.std.specs.Prelude.{ℕ, ◌≡◌, refl, List, [], ◌∷◌}
+use Rattle.std.specs.Prelude.{ℕ, ◌≡◌, refl, List, [], ◌∷◌, None}
 use Rattle.std.proofs.Common.{arith, ◌∙◌}
-use Rattle.kernel.specs.declared.units.Rate.TheVariants.{Standard}
 use Rattle.kernel.specs.Walk.{first_from, all_from, count_of}
 use Rattle.kernel.specs.Words.{word_of, first_of}
 use Rattle.kernel.specs.Moves.{taken_off, put_on, woken, slept, finished, blocked}
@@ -51,9 +50,9 @@ use Rattle.promises.specs.Top.Ledgers.{nothing-lost-fresh}
 abbrev line : Sizes
 line = record { threads = 2; semaphores = 0; queues = 0; references = 0; mailboxes = 1; pools = 1; slots = 3 ∷ 0 ∷ 0 ∷ 0 ∷ [] }
 
-pub made-line : Legal line Standard
+pub made-line : Legal line None
 unfolding all_from sizes_fit made
-made-line = code-legal line Standard refl
+made-line = code-legal line None refl
 
 abbrev forever : ℕ
 forever = 4294967295
@@ -88,8 +87,8 @@ day-typed =
     (more 255 15 9 0 _ (omega arith) (more 0 18 0 0 _ (omega arith) (more 0 22 3 0 _ (omega arith) HostSteps.none))))))))))
 
 -- the promise speaks of it
-pub day-accounted : Accounted line (λ b. no_postings) (λ q o. Standing.absent) (fresh_moments line Standard day) (fresh_ran line Standard day).tables
-day-accounted = nothing-lost-fresh line Standard made-line day day-typed
+pub day-accounted : Accounted line (λ b. no_postings) (λ q o. Standing.absent) (fresh_moments line None day) (fresh_ran line None day).tables
+day-accounted = nothing-lost-fresh line None made-line day day-typed
 
 abbrev event : ℕ → ℕ → ℕ → ℕ → Event
 event step who kind value = record { step = step; who = who; kind = kind; object = 0; value = value }
@@ -108,7 +107,7 @@ later =
     ∷ []
 
 -- what its results show
-pub day-shown : shown_in 1 (fresh_moments line Standard day) ≡ (event 2 0 17 5 ∷ event 2 1 15 5 ∷ later)
+pub day-shown : shown_in 1 (fresh_moments line None day) ≡ (event 2 0 17 5 ∷ event 2 1 15 5 ∷ later)
 unfolding first_from all_from count_of word_of first_of first_ready first_waiter taken_off put_on woken slept finished blocked enqueued released_first released_all taken waited signalled reset_to suspended_on resumed slept_for slept_until took_flags event_signalled event_waited ticked binary_signalled ring_posted posted_ahead ring_fetched emptied post_done post_tried fetch_done fetch_tried both_released mailbox_reset mailbox_resumed popped pushed handed_over alloc_tried put_back sizes_fit made signal_acted call_made effected acted_on_kernel box_effected acted_on_box acted went_on settled call_fits wait_fits ticks_fit flags_fit row_fits rows_fit queued_count counters_fit ready_word waiting_word ready_fits waiting_fits words_fit holder_fits references_fit positions_fit mailboxes_fit promised_count occurrences entries_fit objects_fit pool_fits pools_fit hangs_together refusal_of mask_of outcome_of done_with refused_with stepped
 day-shown = refl
 
@@ -125,13 +124,13 @@ day-ledger = refl
 abbrev pub sums_of : List Event → List ℕ
 sums_of es = total (each (posted 0)) es ∷ total (each (fetched 0)) es ∷ total (lost_at 0) es ∷ total (each (added 0)) es ∷ []
 
-pub day-sums : sums_of (shown_in 1 (fresh_moments line Standard day)) ≡ (5 ∷ 3 ∷ 2 ∷ 1 ∷ [])
+pub day-sums : sums_of (shown_in 1 (fresh_moments line None day)) ≡ (5 ∷ 3 ∷ 2 ∷ 1 ∷ [])
 unfolding first_from all_from count_of word_of first_of first_ready first_waiter taken_off put_on woken slept finished blocked enqueued released_first released_all taken waited signalled reset_to suspended_on resumed slept_for slept_until took_flags event_signalled event_waited ticked binary_signalled ring_posted posted_ahead ring_fetched emptied post_done post_tried fetch_done fetch_tried both_released mailbox_reset mailbox_resumed popped pushed handed_over alloc_tried put_back sizes_fit made signal_acted call_made effected acted_on_kernel box_effected acted_on_box acted went_on settled call_fits wait_fits ticks_fit flags_fit row_fits rows_fit queued_count counters_fit ready_word waiting_word ready_fits waiting_fits words_fit holder_fits references_fit positions_fit mailboxes_fit promised_count occurrences entries_fit objects_fit pool_fits pools_fit hangs_together refusal_of mask_of outcome_of done_with refused_with stepped
 day-sums = refl
 
 -- and the object that thread 1 was promised is free still
-pub day-promised : (free_in (found (fresh_ran line Standard day).tables) 0
-    ∷ number (is_promised (found (fresh_ran line Standard day).tables) 0) 2
+pub day-promised : (free_in (found (fresh_ran line None day).tables) 0
+    ∷ number (is_promised (found (fresh_ran line None day).tables) 0) 2
     ∷ []) ≡ (1 ∷ 1 ∷ [])
 unfolding first_from all_from count_of word_of first_of first_ready first_waiter taken_off put_on woken slept finished blocked enqueued released_first released_all taken waited signalled reset_to suspended_on resumed slept_for slept_until took_flags event_signalled event_waited ticked binary_signalled ring_posted posted_ahead ring_fetched emptied post_done post_tried fetch_done fetch_tried both_released mailbox_reset mailbox_resumed popped pushed handed_over alloc_tried put_back sizes_fit made signal_acted call_made effected acted_on_kernel box_effected acted_on_box acted went_on settled call_fits wait_fits ticks_fit flags_fit row_fits rows_fit queued_count counters_fit ready_word waiting_word ready_fits waiting_fits words_fit holder_fits references_fit positions_fit mailboxes_fit promised_count occurrences entries_fit objects_fit pool_fits pools_fit hangs_together refusal_of mask_of outcome_of done_with refused_with stepped
 day-promised = refl
@@ -142,9 +141,9 @@ day-promised = refl
 abbrev narrow : Sizes
 narrow = record { threads = 2; semaphores = 0; queues = 0; references = 0; mailboxes = 1; pools = 0; slots = 1 ∷ 0 ∷ 0 ∷ 0 ∷ [] }
 
-pub made-narrow : Legal narrow Standard
+pub made-narrow : Legal narrow None
 unfolding all_from sizes_fit made
-made-narrow = code-legal narrow Standard refl
+made-narrow = code-legal narrow None refl
 
 -- thread 0 posts 7, and sleeps to post 8 ahead; thread 1 fetches
 abbrev turn : List Step
@@ -154,15 +153,15 @@ pub turn_typed : HostSteps turn
 turn_typed = more 0 15 7 0 _ (omega arith) (more 0 16 8 forever _ (omega arith) (more 1 17 0 0 _ (omega arith) HostSteps.none))
 
 -- 7 is fetched, and then 8 goes ahead
-turn-events : events_in 1 (made narrow Standard).tables (made narrow Standard).clock turn ≡ (event 1 0 15 7 ∷ event 3 1 17 7 ∷ event 3 0 16 8 ∷ [])
+turn-events : events_in 1 (made narrow None).tables (made narrow None).clock turn ≡ (event 1 0 15 7 ∷ event 3 1 17 7 ∷ event 3 0 16 8 ∷ [])
 unfolding first_from all_from count_of word_of first_of first_ready first_waiter taken_off put_on woken slept finished blocked enqueued released_first released_all taken waited signalled reset_to suspended_on resumed slept_for slept_until took_flags event_signalled event_waited ticked binary_signalled ring_posted posted_ahead ring_fetched emptied post_done post_tried fetch_done fetch_tried both_released mailbox_reset mailbox_resumed popped pushed handed_over alloc_tried put_back sizes_fit made signal_acted call_made effected acted_on_kernel box_effected acted_on_box acted went_on settled call_fits wait_fits ticks_fit flags_fit row_fits rows_fit queued_count counters_fit ready_word waiting_word ready_fits waiting_fits words_fit holder_fits references_fit positions_fit mailboxes_fit promised_count occurrences entries_fit objects_fit pool_fits pools_fit hangs_together refusal_of mask_of outcome_of done_with refused_with stepped turns turns_of events_in
 turn-events = refl
 
 -- and there is no other history of it, such as the post ahead before the fetch
-pub turn-only : (es : List Event) → History 1 (fresh_moments narrow Standard turn) es
+pub turn-only : (es : List Event) → History 1 (fresh_moments narrow None turn) es
     → es ≡ (event 1 0 15 7 ∷ event 3 1 17 7 ∷ event 3 0 16 8 ∷ [])
 turn-only es h =
-    history-only h (recorded turn turn_typed 1 (made narrow Standard).tables (made narrow Standard).clock (fresh-going narrow Standard made-narrow)).0
+    history-only h (recorded turn turn_typed 1 (made narrow None).tables (made narrow None).clock (fresh-going narrow None made-narrow)).0
     ∙ turn-events
 
 -- the posting 8 is in the mailbox, and 7 was handed over

@@ -1,14 +1,12 @@
 -- Time, fresh tables, traces and the boundary, by computation: a case for each arm of each relation, and for the hypotheses of the theorems
 -- that have some, so that they speak of something.
-use Rattle.std.specs.Prelude.{ℕ, zero, suc, ◌<◌, ◌≡◌, refl, List, [], ◌∷◌, ◌++◌, length, get_or, drop, replicate}
+use Rattle.std.specs.Prelude.{ℕ, zero, suc, ◌<◌, ◌≡◌, refl, List, [], ◌∷◌, ◌++◌, length, get_or, drop, replicate, Some, None}
 use Rattle.std.proofs.Common.{arith}
 use Rattle.kernel.specs.declared.time.SystemTime.{SystemTime}
 use Rattle.kernel.specs.declared.time.Interval.{Interval}
 use Rattle.kernel.specs.declared.clock.Clock.{Clock}
 use Rattle.kernel.specs.declared.units.Unit.TheVariants.{Seconds, Milliseconds, Microseconds}
-use Rattle.kernel.specs.declared.units.Rate.TheVariants.{Given, Standard}
-use Rattle.kernel.specs.declared.units.Ticks.{Ticks}
-use Rattle.kernel.specs.declared.units.Units.{Units}
+use Rattle.kernel.specs.Told.{Ticks, Units}
 use Rattle.kernel.specs.Time.{added, differed, in_range, advanced}
 use Rattle.kernel.specs.Units.{in_ticks, of_ticks}
 use Rattle.kernel.specs.Walk.{bit, all_from}
@@ -17,8 +15,7 @@ use Rattle.library.specs.declared.sizes.Sizes.{Sizes}
 use Rattle.library.specs.Sizes.{sizes_fit}
 use Rattle.library.specs.Tables.{blank_mailbox}
 use Rattle.library.specs.Fresh.{made}
-use Rattle.trace.specs.declared.decoding.Read.{Read}
-use Rattle.trace.specs.declared.writer.Written.{Written}
+use Rattle.trace.specs.Told.{Read, Written}
 use Rattle.trace.specs.Ordered.{get_n}
 use Rattle.trace.specs.TraceBytes.{head_of, record_of}
 use Rattle.trace.specs.Decoding.{ends_inside, length_refusal, step_refusal, decoded_sizes, decoded_step, opened_read, stepped_read, next_read}
@@ -70,26 +67,26 @@ abbrev units_row : Units → List ℕ
 units_row r = r.code ∷ r.value ∷ []
 
 -- to ticks: frequencies 0 and 1,000,001, where none is given, and where 1000 is, the longest result, and one above it
-pub ticks-shown : ticks_row (in_ticks Seconds 1 (Given 0))
-    ∷ ticks_row (in_ticks Seconds 1 (Given 1000001))
-    ∷ ticks_row (in_ticks Seconds 2 Standard)
-    ∷ ticks_row (in_ticks Seconds 2 (Given 1000))
-    ∷ ticks_row (in_ticks Seconds 4294967294 (Given 1))
-    ∷ ticks_row (in_ticks Seconds 4294967295 (Given 1))
-    ∷ ticks_row (in_ticks Milliseconds 1 (Given 3))
-    ∷ ticks_row (in_ticks Microseconds 1000001 (Given 1))
+pub ticks-shown : ticks_row (in_ticks Seconds 1 (Some 0))
+    ∷ ticks_row (in_ticks Seconds 1 (Some 1000001))
+    ∷ ticks_row (in_ticks Seconds 2 None)
+    ∷ ticks_row (in_ticks Seconds 2 (Some 1000))
+    ∷ ticks_row (in_ticks Seconds 4294967294 (Some 1))
+    ∷ ticks_row (in_ticks Seconds 4294967295 (Some 1))
+    ∷ ticks_row (in_ticks Milliseconds 1 (Some 3))
+    ∷ ticks_row (in_ticks Microseconds 1000001 (Some 1))
     ∷ []
     ≡ (6 ∷ 0 ∷ []) ∷ (6 ∷ 0 ∷ []) ∷ (0 ∷ 20000 ∷ []) ∷ (0 ∷ 2000 ∷ []) ∷ (0 ∷ 4294967294 ∷ []) ∷ (6 ∷ 0 ∷ []) ∷ (0 ∷ 1 ∷ []) ∷ (0 ∷ 2 ∷ []) ∷ []
 unfolding in_ticks
 ticks-shown = refl
 
 -- from ticks: the same, infinite, and a result above 32 bits
-pub units-shown : units_row (of_ticks Seconds (for 1) (Given 0))
-    ∷ units_row (of_ticks Seconds (for 1) (Given 1000001))
-    ∷ units_row (of_ticks Seconds (for 4294967295) Standard)
-    ∷ units_row (of_ticks Seconds (for 10001) Standard)
-    ∷ units_row (of_ticks Seconds (for 10001) (Given 1000))
-    ∷ units_row (of_ticks Microseconds (for 4294967294) (Given 1))
+pub units-shown : units_row (of_ticks Seconds (for 1) (Some 0))
+    ∷ units_row (of_ticks Seconds (for 1) (Some 1000001))
+    ∷ units_row (of_ticks Seconds (for 4294967295) None)
+    ∷ units_row (of_ticks Seconds (for 10001) None)
+    ∷ units_row (of_ticks Seconds (for 10001) (Some 1000))
+    ∷ units_row (of_ticks Microseconds (for 4294967294) (Some 1))
     ∷ []
     ≡ (6 ∷ 0 ∷ []) ∷ (6 ∷ 0 ∷ []) ∷ (6 ∷ 0 ∷ []) ∷ (0 ∷ 2 ∷ []) ∷ (0 ∷ 11 ∷ []) ∷ (0 ∷ 4294967294000000 ∷ []) ∷ []
 unfolding of_ticks
@@ -117,13 +114,13 @@ unfolding sizes_fit
 two-limits = fit-limits two refl
 
 -- a size, then the frequency; both together give 14
-pub made-codes-shown : (made many (Given 0)).code ∷ (made two (Given 0)).code ∷ (made two (Given 1000001)).code ∷ (made two (Given 50)).code ∷ []
+pub made-codes-shown : (made many (Some 0)).code ∷ (made two (Some 0)).code ∷ (made two (Some 1000001)).code ∷ (made two (Some 50)).code ∷ []
     ≡ 14 ∷ 6 ∷ 6 ∷ 0 ∷ []
 unfolding all_from sizes_fit made
 made-codes-shown = refl
 
 -- the clock's frequency: where none is given, and as given
-pub made-frequencies-shown : (made two Standard).clock.frequency ∷ (made two (Given 1000)).clock.frequency ∷ (made two (Given 1000000)).clock.frequency ∷ []
+pub made-frequencies-shown : (made two None).clock.frequency ∷ (made two (Some 1000)).clock.frequency ∷ (made two (Some 1000000)).clock.frequency ∷ []
     ≡ 10000 ∷ 1000 ∷ 1000000 ∷ []
 unfolding all_from sizes_fit made
 made-frequencies-shown = refl
@@ -266,7 +263,7 @@ four-boxes (suc (suc (suc zero))) h = refl
 four-boxes (suc (suc (suc (suc m)))) h = absurd (omega arith)
 
 -- fresh tables meet what is asked of a host's
-pub host-shown : Host (made two Standard).tables (made two Standard).clock (step_of request)
+pub host-shown : Host (made two None).tables (made two None).clock (step_of request)
 unfolding all_from sizes_fit made
 host-shown =
     record {

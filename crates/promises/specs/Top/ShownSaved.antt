@@ -1,10 +1,9 @@
 -- Fresh tables saved, by computation: where they lie, the head of their file, what it is loaded as, and each refusal. So the hypotheses of the
 -- statements of saved tables are met.
-use Rattle.std.specs.Prelude.{ℕ, zero, suc, ◌<◌, ◌≡◌, refl, Bool, true, ◌&&◌, List, [], ◌∷◌, ◌++◌, ltb, pos, get_or, take, drop, replicate}
+use Rattle.std.specs.Prelude.{ℕ, zero, suc, ◌<◌, ◌≡◌, refl, Bool, true, ◌&&◌, List, [], ◌∷◌, ◌++◌, ltb, pos, get_or, take, drop, replicate, None}
 use Rattle.std.proofs.Common.{arith, sym, ltb-true}
 use Rattle.std.proofs.Math.Path.{subst⁻¹}
 use Rattle.std.proofs.lemmas.List.{get_or-replicate}
-use Rattle.kernel.specs.declared.units.Rate.TheVariants.{Standard}
 use Rattle.kernel.specs.Records.{blank}
 use Rattle.kernel.specs.Walk.{all_from}
 use Rattle.kernel.proofs.Cases.{both-means}
@@ -30,7 +29,7 @@ abbrev plant : Sizes
 plant = record { threads = 3; semaphores = 2; queues = 2; references = 2; mailboxes = 2; pools = 2; slots = 2 ∷ 2 ∷ 0 ∷ 0 ∷ [] }
 
 abbrev fresh : Kept
-fresh = record { tables = (made plant Standard).tables; clock = (made plant Standard).clock }
+fresh = record { tables = (made plant None).tables; clock = (made plant None).clock }
 
 -- as they lie in a host: eight references that hold nobody, the ready word, and the sizes
 abbrev pub tables : List ℕ

@@ -1,8 +1,7 @@
 -- Signals at the top, in a run from fresh tables, by computation: two threads, a semaphore and a pool.
-use Rattle.std.specs.Prelude.{ℕ, ◌+◌, ◌≡◌, refl, List, [], ◌∷◌, ℤ, pos, negsuc}
+use Rattle.std.specs.Prelude.{ℕ, ◌+◌, ◌≡◌, refl, List, [], ◌∷◌, ℤ, pos, negsuc, None}
 use Rattle.std.proofs.Common.{arith}
 use Rattle.kernel.specs.declared.clock.Clock.{Clock}
-use Rattle.kernel.specs.declared.units.Rate.TheVariants.{Standard}
 use Rattle.kernel.specs.Walk.{first_from, all_from, count_of}
 use Rattle.kernel.specs.Words.{word_of, first_of}
 use Rattle.kernel.specs.Moves.{taken_off, put_on, woken, slept, finished, blocked}
@@ -44,9 +43,9 @@ abbrev tank : Sizes
 tank = record { threads = 2; semaphores = 1; queues = 0; references = 0; mailboxes = 0; pools = 1; slots = 0 ∷ 0 ∷ 0 ∷ 0 ∷ [] }
 
 -- such tables are made
-pub made-tank : Legal tank Standard
+pub made-tank : Legal tank None
 unfolding all_from sizes_fit made
-made-tank = code-legal tank Standard refl
+made-tank = code-legal tank None refl
 
 -- thread 0 sets the counter one below the top, and an interrupt signals, which counts
 abbrev near : List Step
@@ -77,7 +76,7 @@ shown (m ∷ ms) =
     ∷ [])
     ∷ shown ms
 
-pub weeks-shown : shown (fresh_moments tank Standard weeks)
+pub weeks-shown : shown (fresh_moments tank None weeks)
     ≡ (0 ∷ 0 ∷ 0 ∷ 1 ∷ 2147483646 ∷ 0 ∷ [])
     ∷ (0 ∷ 0 ∷ 0 ∷ 0 ∷ 2147483647 ∷ 0 ∷ [])
     ∷ (0 ∷ 1 ∷ 0 ∷ 0 ∷ 2147483647 ∷ 0 ∷ [])
@@ -91,13 +90,13 @@ weeks-shown = refl
 
 -- the tables and the clock after the first two, of which the promise speaks
 abbrev pub full : Tables
-full = (fresh_ran tank Standard near).tables
+full = (fresh_ran tank None near).tables
 
 abbrev pub then : Clock
-then = (fresh_ran tank Standard near).clock
+then = (fresh_ran tank None near).clock
 
 full-going : Going full then
-full-going = run-going near near-typed (made tank Standard).tables (made tank Standard).clock (fresh-going tank Standard made-tank)
+full-going = run-going near near-typed (made tank None).tables (made tank None).clock (fresh-going tank None made-tank)
 
 pub top-shown : AtTop full then (by 0 3 0 0) (stepped full then (by 0 3 0 0))
 unfolding first_from all_from count_of word_of first_of first_ready first_waiter taken_off put_on woken slept finished blocked enqueued released_first released_all taken waited signalled sizes_fit made signal_acted call_made effected acted_on_kernel acted went_on settled call_fits wait_fits ticks_fit flags_fit row_fits rows_fit queued_count counters_fit ready_word waiting_word ready_fits waiting_fits words_fit holder_fits references_fit positions_fit mailboxes_fit promised_count occurrences entries_fit objects_fit pool_fits pools_fit hangs_together refusal_of mask_of outcome_of done_with refused_with stepped reset_to

@@ -1,10 +1,9 @@
 -- DOCUMENT 02, 6/13: SIGNAL AT THE TOP. What a signal answers is promised of any tables, clock and step of a host; that a pool's counter never
 -- gets there of any run, refused steps included, from any tables that hang together, and so from fresh ones.
-use Rattle.std.specs.Prelude.{ℕ, ◌+◌, ◌≤◌, ◌<◌, ◌≡◌, refl, false, List, ℤ, pos, negsuc}
+use Rattle.std.specs.Prelude.{ℕ, ◌+◌, ◌≤◌, ◌<◌, ◌≡◌, refl, false, List, ℤ, pos, negsuc, Option}
 use Rattle.std.proofs.Common.{arith, inl, inr, le-ltb}
 use Rattle.std.specs.Int.Signed.{lt_z}
 use Rattle.kernel.specs.declared.clock.Clock.{Clock}
-use Rattle.kernel.specs.declared.units.Rate.{Rate}
 use Rattle.kernel.proofs.Cases.{same_or}
 use Rattle.kernel.proofs.CountersLaws.{below_top}
 use Rattle.library.specs.declared.calls.Step.{Step}
@@ -81,7 +80,7 @@ module _ (t : Tables) (c : Clock) (g : Going t c) (ss : List Step) (hs : HostSte
   pub pools-low : (q : ℕ) → q < (ran t c ss).tables.sizes.pools → lt_z (pos 32) ((found (ran t c ss).tables).counter (16 + q)) ≡ false
   pools-low q l = pool-low ((run-going ss hs t c g).together.pools q l)
 
-pub pools-low-fresh : (y : Sizes) (r : Rate) (legal : Legal y r) (ss : List Step) → HostSteps ss → (q : ℕ)
+pub pools-low-fresh : (y : Sizes) (r : Option ℕ) (legal : Legal y r) (ss : List Step) → HostSteps ss → (q : ℕ)
     → q < (fresh_ran y r ss).tables.sizes.pools
     → lt_z (pos 32) ((found (fresh_ran y r ss).tables).counter (16 + q)) ≡ false
 pools-low-fresh y r legal ss hs = pools-low (made y r).tables (made y r).clock (fresh-going y r legal) ss hs

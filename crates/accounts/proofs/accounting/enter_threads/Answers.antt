@@ -2,24 +2,17 @@
 use Rattle.std.proofs.Common.{◌≡◌, add-one, arith}
 use Rattle.accounts.specs.Accounting.{threads_entered}
 use Rattle.accounts.proofs.accounting.enter_threads.Goals as goal
+use Rattle.accounts.proofs.accounting.enter_threads.Goals.{then-has_bit, else-has_bit}
 
 pub loop-i-preserved : goal.loop-i-preserved
 loop-i-preserved c =
-    record {
-      in_range = omega arith;
-      turns =
-          rw (
-            add-one,
-            c.enter_if-r.ensures,
-            c.has_bit.ensures,
-            c.entry_of-e.ensures,
-            c.call_by-call.ensures,
-            ← c.loop-i.invariant.turns,
-          );
-    }
+    elim c.if-has_bit.branch [
+      | then-has_bit w ↦ rw (add-one, w.r-is, w.enter_answered-r.ensures, w.call_by-call.ensures, ← c.has_bit.ensures, w.if-has_bit.true, ← c.loop-i.invariant)
+      | else-has_bit w ↦ rw (add-one, w.r-is, ← c.has_bit.ensures, w.if-has_bit.false, ← c.loop-i.invariant)
+    ]
 
 pub returns : goal.returns
 unfolding threads_entered
 returns c =
     let end : c.loop-i.i ≡ 16 = omega arith in
-    rw (c.loop-i.invariant.turns, end)
+    rw (c.loop-i.invariant, end)

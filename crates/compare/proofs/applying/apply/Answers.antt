@@ -8,7 +8,7 @@ use Rattle.compare.proofs.applying.apply.Goals as goal
 
 pub loop-i-init : goal.loop-i-init
 unfolding applied_numbers count_of
-loop-i-init c = record { entries = refl; in_range = omega arith; applied = refl; passed = refl }
+loop-i-init c = record { entries = refl; applied = refl; passed = refl }
 
 pub overflow_add-passed : goal.overflow_add-passed
 overflow_add-passed c =
@@ -24,7 +24,6 @@ loop-i-preserved c =
     let named = c.place_of-k.ensures in
     record {
       entries = refl;
-      in_range = omega arith;
       applied = apply-next l turn.i _ named _ _ _ turn.invariant.applied c.store_named-r.ensures;
       passed = passed-next l turn.i _ named _ _ turn.invariant.passed c.one_passed-passed.ensures;
     }

@@ -7,4 +7,4 @@ use Rattle.compare.proofs.comparing.count_changes.Goals as goal
 
 pub overflow_add-count : goal.overflow_add-count
 overflow_add-count c =
-    omega (arith, c.loop-k.invariant.counted, count-le (differs (reading_of c.args.a) (reading_of c.args.b)) c.loop-k.k)
+    omega (arith, c.loop-k.invariant, count-le (differs (reading_of c.args.a) (reading_of c.args.b)) c.loop-k.k)

@@ -8,7 +8,7 @@ use Rattle.compare.proofs.comparing.list_changes.Goals as goal
 use Rattle.compare.proofs.comparing.list_changes.Goals.{then-is_changed, else-is_changed}
 
 pub loop-k-init : goal.loop-k-init
-loop-k-init c = list-begins _ _ _ _ _ c.count_changes-count.ensures c.if-count-list.true
+loop-k-init c = list-begins _ _ _ _ _ c.count_changes-count.ensures c.if-list-count.false
 
 pub overflow_add-at : goal.overflow_add-at
 overflow_add-at c =

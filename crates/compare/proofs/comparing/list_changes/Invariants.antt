@@ -1,10 +1,6 @@
 -- The invariant: the entries of the first k fields stand in the list, and the next goes behind them.
-use Rattle.std.proofs.Common.{◌-◌}
 use Rattle.compare.proofs.ListLaws.{OnList}
 use Rattle.compare.proofs.comparing.list_changes.Given as goal
 
 abbrev pub invariant-loop-k : goal.invariant-loop-k
 invariant-loop-k l = OnList l.a l.b l.n l.k l.initial.list l.list l.at
-
-abbrev pub decreases-loop-k : goal.decreases-loop-k
-decreases-loop-k l = l.n - l.k

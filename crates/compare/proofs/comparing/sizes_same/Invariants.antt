@@ -1,11 +1,8 @@
 -- The invariant: whether all are the same is whether all from f on are.
-use Rattle.std.proofs.Common.{◌≡◌, ◌-◌, ◌≤◌}
+use Rattle.std.proofs.Common.{◌≡◌, ◌-◌}
 use Rattle.kernel.specs.Walk.{all_from}
 use Rattle.compare.specs.Compared.{size_same, sizes_same}
 use Rattle.compare.proofs.comparing.sizes_same.Given as goal
 
 abbrev pub invariant-loop-f : goal.invariant-loop-f
-invariant-loop-f l = record { in_range : l.f ≤ 10; rest : sizes_same l.y l.z ≡ all_from (size_same l.y l.z) l.f (10 - l.f) }
-
-abbrev pub decreases-loop-f : goal.decreases-loop-f
-decreases-loop-f l = 10 - l.f
+invariant-loop-f l = sizes_same l.y l.z ≡ all_from (size_same l.y l.z) l.f (10 - l.f)

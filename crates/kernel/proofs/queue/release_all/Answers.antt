@@ -6,6 +6,6 @@ use Rattle.kernel.proofs.queue.release_all.Goals as goal
 
 pub returns : goal.returns
 returns c =
-    c.loop-i.invariant.turns
+    c.loop-i.invariant
     ∙ release-all-turns c.args.k c.args.place c.args.m _ c.loop-i.i _ c.waiting_at-word.ensures (omega arith)
     (signed c.ranges.m.sfits)

@@ -1,11 +1,8 @@
 -- The invariant: r is what i turns of the meaning give.
-use Rattle.std.proofs.Common.{◌≡◌, ◌-◌, ◌≤◌}
+use Rattle.std.proofs.Common.{◌≡◌}
 use Rattle.kernel.specs.Queue.{released_one}
 use Rattle.kernel.specs.Walk.{each}
 use Rattle.kernel.proofs.queue.release_all.Given as goal
 
 abbrev pub invariant-loop-i : goal.invariant-loop-i
-invariant-loop-i l = record { in_range : l.i ≤ 16; turns : l.r ≡ each l.i (released_one l.word l.fn.m) l.initial.r }
-
-abbrev pub decreases-loop-i : goal.decreases-loop-i
-decreases-loop-i l = 16 - l.i
+invariant-loop-i l = l.r ≡ each l.i (released_one l.word l.fn.m) l.initial.r

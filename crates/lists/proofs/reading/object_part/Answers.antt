@@ -1,5 +1,6 @@
 -- What was put is the word, if it is shorter than the buffer.
-use Rattle.std.proofs.Common.{refl, replicate}
+use Rattle.std.proofs.Common.{refl, rules, replicate}
+use Rattle.buffers.proofs.SheetLaws.{ended}
 use Rattle.lists.specs.Words.{object_word}
 use Rattle.lists.proofs.ReadingLaws.{tried, not-tried}
 use Rattle.lists.proofs.reading.object_part.Goals as goal
@@ -7,11 +8,11 @@ use Rattle.lists.proofs.reading.object_part.Goals as goal
 pub returns-then-n-lt-LETTERS : goal.returns-then-n-lt-LETTERS
 returns-then-n-lt-LETTERS c =
     let a = c.args in
-    let put = c.put_object-n in
-    tried (replicate 32 0) put.new.out (object_word a.o) put.result a.s.now a.at a.o c.word_part.result refl put.ensures c.if-n-lt-LETTERS.true c.word_part.ensures
+    let put = c.put_object in
+    tried (replicate 32 0) _ (object_word a.o) put.new.sheet.at a.s.now a.at a.o c.word_part.result refl (ended put.ensures (search rules)) c.if-n-lt-LETTERS.true c.word_part.ensures
 
 pub returns-else-n-lt-LETTERS : goal.returns-else-n-lt-LETTERS
 returns-else-n-lt-LETTERS c =
     let a = c.args in
-    let put = c.put_object-n in
-    not-tried (replicate 32 0) put.new.out (object_word a.o) put.result a.s.now a.at a.o c.no_part.result refl put.ensures c.if-n-lt-LETTERS.false c.no_part.ensures
+    let put = c.put_object in
+    not-tried (replicate 32 0) put.new.sheet.out.now (object_word a.o) put.new.sheet.at a.s.now a.at a.o c.no_part.result refl put.ensures.put c.if-n-lt-LETTERS.false c.no_part.ensures

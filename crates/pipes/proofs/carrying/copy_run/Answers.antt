@@ -1,9 +1,9 @@
--- A turn carries one byte more, within both ends.
-use Rattle.pipes.proofs.CarryingLaws.{run-begins, run-goes-on}
+-- The part that is copied is the run, which passes neither end.
+use Rattle.std.proofs.Common.{sym, ◌∙◌}
+use Rattle.pipes.proofs.CarryingLaws.{run-copied}
 use Rattle.pipes.proofs.carrying.copy_run.Goals as goal
 
-pub loop-j-init : goal.loop-j-init
-loop-j-init c = run-begins _ _ _ _ _ _ _ _ c.both.ensures c.run_fits.ensures c.run_fits-2.ensures c.if-both.true
-
-pub loop-j-preserved : goal.loop-j-preserved
-loop-j-preserved c = run-goes-on _ _ _ _ _ _ _ c.loop-j.invariant c.loop-j-test.true
+pub returns-then-run_fits-2 : goal.returns-then-run_fits-2
+returns-then-run_fits-2 c =
+    run-copied _ _ _ _ _ _ (sym c.if-run_fits.true ∙ c.run_fits.ensures) (sym c.if-run_fits-2.true ∙ c.run_fits-then-run_fits.ensures)
+    c.copy_from_slice.ensures.after

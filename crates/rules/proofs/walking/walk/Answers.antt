@@ -1,5 +1,5 @@
 -- Each row is tested, and its bit is added to the words that its keys name; each word has room for it.
-use Rattle.std.proofs.Common.{◌≡◌, ℕ, ◌<◌, ◌^◌, Bool, ◌&&◌, eqb, refl, sym, ap, ◌∙◌, arith}
+use Rattle.std.proofs.Common.{◌≡◌, ℕ, ◌<◌, ◌^◌, Bool, eqb, refl, sym, ◌∙◌, arith}
 use Rattle.kernel.proofs.Loops.{used_le}
 use Rattle.kernel.proofs.WalkLaws.{all_more}
 use Rattle.kernel.proofs.WordsLaws.{value_in}
@@ -20,8 +20,6 @@ pub loop-i-init : goal.loop-i-init
 unfolding word_of all_from
 loop-i-init c =
     record {
-      in_range = omega arith;
-      few = used_le _ c.args.z.threads c.used_rows-end.ensures;
       tested = refl;
       is_word = refl;
       queued = tally-none words _ 36;
@@ -32,28 +30,28 @@ loop-i-init c =
 pub overflow_add-ready : goal.overflow_add-ready
 overflow_add-ready c =
     let i = c.loop-i.i in
-    let few : i < 16 = omega arith in
+    let few : i < 16 = omega (arith, used_le _ c.args.z.threads c.used_rows-i-end.ensures) in
     let one = value_in i _ c.bit_value-value.ensures few in
     omega (arith, one, c.loop-i.invariant.is_word, room (λ j. is_ready (row_in c.args.threads j)) i few)
 
 pub overflow_add-waiting : goal.overflow_add-waiting
 overflow_add-waiting c =
     let i = c.loop-i.i in
-    let few : i < 16 = omega arith in
+    let few : i < 16 = omega (arith, used_le _ c.args.z.threads c.used_rows-i-end.ensures) in
     let one = value_in i _ c.bit_value-value.ensures few in
     omega (arith, one, word_room _ 36 _ i c.queue_of-p.result c.loop-i.invariant.queued c.if-p-lt36.true few)
 
 pub overflow_add-suspended : goal.overflow_add-suspended
 overflow_add-suspended c =
     let i = c.loop-i.i in
-    let few : i < 16 = omega arith in
+    let few : i < 16 = omega (arith, used_le _ c.args.z.threads c.used_rows-i-end.ensures) in
     let one = value_in i _ c.bit_value-value.ensures few in
     omega (arith, one, word_room _ 8 _ i c.reference_of-r.result c.loop-i.invariant.suspended c.if-r-lt8.true few)
 
 pub overflow_add-promised : goal.overflow_add-promised
 overflow_add-promised c =
     let i = c.loop-i.i in
-    let few : i < 16 = omega arith in
+    let few : i < 16 = omega (arith, used_le _ c.args.z.threads c.used_rows-i-end.ensures) in
     let one = value_in i _ c.bit_value-value.ensures few in
     omega (arith, one, word_room _ 4 _ i c.pool_of-q.result c.loop-i.invariant.promised c.if-q-lt4.true few)
 
@@ -63,7 +61,7 @@ loop-i-preserved c =
     let i = c.loop-i.i in
     let a = c.args in
     let t = row_in a.threads i in
-    let few : i < 16 = omega arith in
+    let few : i < 16 = omega (arith, used_le _ c.args.z.threads c.used_rows-i-end.ensures) in
     let one : c.bit_value-value.result ≡ 2 ^ i = value_in i _ c.bit_value-value.ensures few in
     let passes = sym c.is_ready.ensures in
     let fits : ℕ → Bool = λ j. row_fits (row_in a.threads j) a.z in
@@ -74,11 +72,7 @@ loop-i-preserved c =
     let pool : (q : ℕ) → q < 4 → promised_by q t ≡ eqb c.pool_of-q.result q =
     keyed (is_promised t) t.call.object 4 _ c.pool_of-q.ensures in
     record {
-      in_range = omega arith;
-      few = omega arith;
-      tested = c.both-rows.ensures
-          ∙ (ap (λ (b : Bool). b && c.row_fits.result) inv.tested
-          ∙ (ap (λ (b : Bool). all_from fits 0 i && b) c.row_fits.ensures ∙ sym (all_more fits i)));
+      tested = rw (all_more fits i, ← c.row_fits-rows.ensures, ← inv.tested);
       is_word = elim c.if-is_ready.branch [
         | then-is_ready w ↦ w.ready-is ∙ word-hit (λ j. is_ready (row_in a.threads j)) i _ _ inv.is_word one (passes ∙ w.if-is_ready.true)
         | else-is_ready w ↦ w.ready-is ∙ word-miss (λ j. is_ready (row_in a.threads j)) i _ inv.is_word (passes ∙ w.if-is_ready.false)
@@ -100,7 +94,7 @@ loop-i-preserved c =
 pub returns : goal.returns
 returns c =
     let inv = c.loop-i.invariant in
-    let end : c.loop-i.i ≡ used_rows c.args.z.threads = omega (arith, c.used_rows-end.ensures) in
+    let end : c.loop-i.i ≡ used_rows c.args.z.threads = omega (arith, c.used_rows-i-end.ensures) in
     rw (
       ← end,
       inv.tested,

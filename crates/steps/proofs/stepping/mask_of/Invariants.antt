@@ -5,6 +5,3 @@ use Rattle.steps.proofs.stepping.mask_of.Given as goal
 
 abbrev pub invariant-loop-i : goal.invariant-loop-i
 invariant-loop-i l = record { in_range : l.i ≤ 16; word : l.w ≡ mask_of (drop l.i l.flags) }
-
-abbrev pub decreases-loop-i : goal.decreases-loop-i
-decreases-loop-i l = l.i

@@ -9,7 +9,7 @@ use Rattle.steps.proofs.stepping.step_kernel.Goals as goal
 pub returns-then-running_free : goal.returns-then-running_free
 unfolding done_with
 returns-then-running_free c =
-    let acted = rw (c.begin.ensures, c.cause_of.ensures) at c.act_on_kernel-k.ensures in
+    let acted = rw (c.begin.ensures, c.number.ensures, c.cause_of.ensures) at c.act_on_kernel-k.ensures in
     let a = c.args in
     let n = a.tables.sizes.threads in
     let q = started a.tables a.s in

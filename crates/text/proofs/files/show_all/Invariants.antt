@@ -1,9 +1,6 @@
--- Each turn goes one byte on within the names.
-use Rattle.std.proofs.Common.{◌-◌, ◌≤◌, length}
+-- A name begins within the names, up to the byte that is looked at.
+use Rattle.std.proofs.Common.{◌≤◌}
 use Rattle.text.proofs.files.show_all.Given as goal
 
 abbrev pub invariant-loop-i : goal.invariant-loop-i
-invariant-loop-i g l = l.i ≤ length l.names
-
-abbrev pub decreases-loop-i : goal.decreases-loop-i
-decreases-loop-i g l = length l.names - l.i
+invariant-loop-i g l = l.from ≤ l.i

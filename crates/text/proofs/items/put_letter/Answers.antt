@@ -1,7 +1,7 @@
--- By the test.
+-- No letter for a zero.
 use Rattle.std.proofs.Common.{eq-eqb}
-use Rattle.text.proofs.PutLaws.{nothing}
+use Rattle.buffers.proofs.SheetLaws.{none}
 use Rattle.text.proofs.items.put_letter.Goals as goal
 
-pub returns-then-b-eq0 : goal.returns-then-b-eq0
-returns-then-b-eq0 c = rw (eq-eqb _ _ c.if-b-eq0.true) (nothing _ _)
+pub returns-else-b-ne0 : goal.returns-else-b-ne0
+returns-else-b-ne0 c = rw (eq-eqb _ _ c.if-b-ne0.false) (none _)

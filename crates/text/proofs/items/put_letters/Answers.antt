@@ -1,14 +1,9 @@
 -- Each turn puts one letter more.
-use Rattle.std.proofs.Common.{arith}
-use Rattle.text.specs.Rows.{word_text}
-use Rattle.text.proofs.RowLaws.{rows_more, rows_none}
+use Rattle.buffers.proofs.SheetLaws.{row_more, row_none}
 use Rattle.text.proofs.items.put_letters.Goals as goal
 
-pub loop-i-init : goal.loop-i-init
-unfolding word_text
-loop-i-init c = record { in_range = omega arith; put = rows_none _ _ _ }
+pub loop-b-init : goal.loop-b-init
+loop-b-init c = row_none _ _
 
-pub loop-i-preserved : goal.loop-i-preserved
-unfolding word_text
-loop-i-preserved c =
-    record { in_range = omega arith; put = rows_more _ c.loop-i.i c.loop-i.invariant.put c.put_letter-end.ensures }
+pub loop-b-preserved : goal.loop-b-preserved
+loop-b-preserved c = row_more _ c.loop-b.b-index c.loop-b.invariant c.put_letter.ensures

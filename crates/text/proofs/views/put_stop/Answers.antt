@@ -1,12 +1,16 @@
 -- Only a bad record has a row.
-use Rattle.text.proofs.PutLaws.{nothing}
+use Rattle.std.proofs.Common.{◌≡◌, [], refl, Ok, Option, Some, None}
+use Rattle.trace.specs.declared.decoding.Record.{Record}
+use Rattle.trace.specs.declared.decoding.Record.TheVariants as read
+use Rattle.trace.specs.Decoding.{told_found}
+use Rattle.text.specs.Views.{stop_text}
+use Rattle.buffers.proofs.SheetLaws.{none}
 use Rattle.text.proofs.views.put_stop.Goals as goal
 
-pub returns-in-Opened : goal.returns-in-Opened
-returns-in-Opened c = rw c.in-Opened.is (nothing _ _)
+no-stop : (r : Option Record) → stop_text (told_found (Ok r)) ≡ []
+no-stop (Some (read.Sizes z)) = refl
+no-stop (Some (read.Step s)) = refl
+no-stop None = refl
 
-pub returns-in-Stepped : goal.returns-in-Stepped
-returns-in-Stepped c = rw c.in-Stepped.is (nothing _ _)
-
-pub returns-in-Ended : goal.returns-in-Ended
-returns-in-Ended c = rw c.in-Ended.is (nothing _ _)
+pub returns-in-Ok : goal.returns-in-Ok
+returns-in-Ok c = rw (c.in-Ok.is, no-stop c.in-Ok.field-0) (none _)
