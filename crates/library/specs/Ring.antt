@@ -63,8 +63,3 @@ emptied q = record { slot = no_slot; positions = record { read = 0; write = 0; c
 -- what a call gives: a slot with the positions after it, if there is room or a message
 abbrev pub given_if : Bool → Placed → Option Placed
 given_if b x = cond b (Some x) None
-
--- how that is told as one record: without a slot the positions stay
-abbrev pub told_placed : Positions → Option Placed → Placed
-told_placed q (Some x) = x
-told_placed q None = record { slot = no_slot; positions = q }

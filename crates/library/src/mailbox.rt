@@ -1,8 +1,8 @@
 // The mailbox rule: reset state first, then room or a message, then a timeout of 0 or sleep.
 // A thread's own call and its continuation after a waking run the same function, so a retry sleeps with its full timeout.
 // (Who calls and the call stand apart, as `enqueue` and the meanings take them: one struct of both would be one name more.)
-ghost use Rattle.std.specs.Prelude.{◌≡◌};
-ghost use Rattle.library.specs.Ring.{told_placed};
+ghost use Rattle.std.specs.Prelude.{◌≡◌, ltb};
+ghost use Rattle.library.specs.Ring.{given_if};
 ghost use Rattle.library.specs.Mailbox.{
   message_at,
   with_message,
@@ -46,7 +46,7 @@ pub fn set_message(b: Mailbox, slot: u16, x: u32) -> Mailbox
 // Where a message goes: at the write place, or ahead of the read place.
 #[tactic(auto, unfolding(crate::specs::Ring::posted, crate::specs::Ring::posted_ahead))]
 fn place_for(b: Mailbox, kind: u16, slots: u16) -> Option<Placed>
-    ensures { told_placed b.positions result ≡ placed_for b kind slots }
+    ensures { result ≡ given_if (ltb b.positions.count slots) (placed_for b kind slots) }
 {
     if kind == Kind::PostAhead as u16 {
         b.positions.post_ahead(slots)
@@ -72,7 +72,7 @@ fn end_post(p: Plant, i: u8, call: Call, placed: Placed) -> Plant
 }
 
 // Thread i, or an interrupt, posts the operand of a call: chMBPostTimeoutS, chMBPostAheadTimeoutS.
-#[tactic(auto, unfolding(crate::specs::Mailbox::post_tried))]
+#[tactic(auto, unfolding(crate::specs::Mailbox::post_tried, crate::specs::Ring::posted, crate::specs::Ring::posted_ahead))]
 pub fn try_post(p: Plant, i: u8, call: Call) -> Plant
     ensures { result ≡ post_tried p i call }
 {
@@ -138,7 +138,7 @@ pub fn reset_mailbox(p: Plant, number: u16) -> Plant
     let mailboxes = p.mailboxes;
     let b = mailbox_at(mailboxes, number);
     let next = Mailbox {
-        positions: b.positions.reset(),
+        positions: b.positions.reset().positions,
         reset: 1,
         ..b
     };

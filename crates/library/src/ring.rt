@@ -14,6 +14,8 @@ ghost use Rattle.library.specs.Ring.{
   given_if,
 };
 
+use crate::numbers::NO_SLOT;
+
 #[repr(C)]
 #[derive(Clone, Copy, Default)]
 pub struct Positions {
@@ -127,11 +129,15 @@ impl Positions {
         }
     }
 
-    // All messages are dropped, and both places return to 0.
+    // All messages are dropped, and both places return to 0. It is about no slot: the form is that of the other three (docs/DECISIONS.md,
+    // "Named forms").
     #[tactic(auto, unfolding(crate::specs::Ring::emptied))]
-    pub fn reset(self) -> Positions
-        ensures { result ≡ (emptied self).positions }
+    pub fn reset(self) -> Placed
+        ensures { result ≡ emptied self }
     {
-        Positions::default()
+        Placed {
+            slot: NO_SLOT,
+            positions: Positions::default(),
+        }
     }
 }

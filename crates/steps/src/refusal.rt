@@ -112,24 +112,32 @@ fn state_fits(references: [u8; 8], pools: [Pool; 4], s: Step) -> bool
     }
 }
 
-// Why a step is refused, if it is. The tests are made in document 01's order, the first that fails gives the reason.
+// Why a step is refused, if it is. All tests are made, in document 01's order and whatever the others say; the first that fails gives the
+// reason.
 #[tactic(auto, unfolding(crate::specs::Refusal::refusal_of, kernel::specs::Waiters::first_ready))]
 pub fn refuse(t: Tables, clock: Clock, s: Step) -> Result<(), Refusal>
     ensures { code_of result ≡ refusal_of (opened t) clock s }
 {
-    if !hangs_together(t, clock) {
+    let hangs = hangs_together(t, clock);
+    let kind = kind_fits(s.kind);
+    let caller = caller_fits(first_in(t.kernel.words.ready), s.caller);
+    let context = context_fits(s);
+    let outside = object_limit(t.sizes, s.kind) <= s.object as u16;
+    let value = value_fits(clock.time, s);
+    let state = state_fits(t.kernel.references, t.pools, s);
+    if !hangs {
         Err(Refusal::Tables)
-    } else if !kind_fits(s.kind) {
+    } else if !kind {
         Err(Refusal::Kind)
-    } else if !caller_fits(first_in(t.kernel.words.ready), s.caller) {
+    } else if !caller {
         Err(Refusal::Caller)
-    } else if !context_fits(s) {
+    } else if !context {
         Err(Refusal::Context)
-    } else if object_limit(t.sizes, s.kind) <= s.object as u16 {
+    } else if outside {
         Err(Refusal::Object)
-    } else if !value_fits(clock.time, s) {
+    } else if !value {
         Err(Refusal::Value)
-    } else if !state_fits(t.kernel.references, t.pools, s) {
+    } else if !state {
         Err(Refusal::State)
     } else {
         Ok(())

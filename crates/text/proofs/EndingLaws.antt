@@ -3,6 +3,12 @@ use Rattle.std.proofs.Common.{◌≡◌, ℕ, zero, suc, ◌-◌, ◌<◌, List,
 use Rattle.trace.specs.Decoding.{next_read}
 use Rattle.text.specs.Ending.{place_read}
 
+-- no reads are left
+pub none_left : (n : ℕ) (s : List ℕ) (at : ℕ) → n ≡ 0 → place_read n s at ≡ at
+unfolding place_read
+none_left zero s at e = refl
+none_left (suc n) s at e = absurd (omega (arith, e))
+
 -- a read that moves nothing is the last: reading on stays there
 pub stays : (n : ℕ) (s : List ℕ) (at : ℕ) → (next_read s at).next ≡ at → place_read n s at ≡ at
 unfolding place_read

@@ -1,5 +1,5 @@
 -- The records' texts, one after the other, are the view's; and the laws of one record and of the loop, as the code meets them.
-use Rattle.std.proofs.Common.{◌≡◌, ℕ, zero, suc, ◌+◌, ◌*◌, ◌<◌, ◌≤◌, eqb, ◌≢◌, List, [], ◌++◌, length, get_or, take, drop, refl, ap, subst, append-nil, arith, eq-eqb, ne_eqb, eqb-true}
+use Rattle.std.proofs.Common.{◌≡◌, ℕ, zero, suc, ◌+◌, ◌-◌, ◌*◌, ◌<◌, ◌≤◌, ◌∙◌, eqb, ◌≢◌, List, [], ◌++◌, length, get_or, take, drop, refl, ap, subst, append-nil, arith, eq-eqb, ne_eqb, eqb-true}
 use Rattle.std.proofs.lemmas.List.{get_or_past}
 use borrow.Author.Tests.{eqb-false}
 use Rattle.kernel.proofs.Cases.{split}
@@ -20,7 +20,7 @@ use Rattle.buffers.specs.declared.putting.Sheet.{Sheet}
 use Rattle.buffers.specs.Put.{Put, Puts, rows}
 use Rattle.text.specs.Tables.{least}
 use Rattle.text.specs.Views.{counts, part_text, head_text, rows_in, parts_text, view_parts, fresh_seen, seen_after, records_text, reading_text, view_text}
-use Rattle.text.specs.Views.{Record, seen_behind, shown_parts, stop_text, record_of, text_from, Listed}
+use Rattle.text.specs.Views.{Record, seen_behind, shown_parts, stop_text, record_of, text_from, seen_from, Listed}
 use Rattle.buffers.proofs.PutLaws.{whole-text}
 use Rattle.buffers.proofs.SheetLaws.{on}
 
@@ -115,6 +115,26 @@ no-part x n h =
       ne_eqb n 21 (λ e. omega arith),
       no-rows x.tables.sizes n h,
     )
+
+-- ---- what is known behind the records, as the loop meets it: one more; none more; and one that moves no reader, which is the last
+pub seen-on : (v : Parts) (n i : ℕ) (s : List ℕ) (x y : Seen) (at next : ℕ) → y ≡ (record_of v i x (next_read s at)).seen
+    → next ≡ (next_read s at).next → next ≢ at → 0 < n → seen_from v (n - 1) (i + 1) s y next ≡ seen_from v n i s x at
+unfolding seen_from
+seen-on v zero i s x y at next e f g h = absurd (omega (arith, h))
+seen-on v (suc n) i s x y at next e f g h =
+    let less : suc n - 1 ≡ n = omega arith in
+    rw (less, e, f, ne_eqb (next_read s at).next at (λ k. g (f ∙ k)))
+
+pub seen-none : (v : Parts) (n i : ℕ) (s : List ℕ) (x : Seen) (at : ℕ) → n ≡ 0 → seen_from v n i s x at ≡ x
+unfolding seen_from
+seen-none v zero i s x at e = refl
+seen-none v (suc n) i s x at e = absurd (omega (arith, e))
+
+pub seen-last : (v : Parts) (n i : ℕ) (s : List ℕ) (x y : Seen) (at : ℕ) → y ≡ (record_of v i x (next_read s at)).seen
+    → (next_read s at).next ≡ at → 0 < n → y ≡ seen_from v n i s x at
+unfolding seen_from
+seen-last v zero i s x y at e f h = absurd (omega (arith, h))
+seen-last v (suc n) i s x y at e f h = rw (e, eq-eqb (next_read s at).next at f)
 
 -- ---- one record, as the code meets it: what is known behind it, its parts, and where reading stopped
 pub next-listed : {s t u : Sheet} (x : Listing) (v : Parts) (n : ℕ) (a b : Read) (seen : Seen) (shown : Shown) → a ≡ b

@@ -208,6 +208,13 @@ text_from v (suc n) i s x at =
     let y = record_of v i x (next_read s at) in
     y.text ++ cond (y.at == at) [] (text_from v n (i + 1) s y.seen y.at)
 
+-- what is known behind them
+unfoldable pub seen_from : Parts → ℕ → ℕ → List ℕ → Seen → ℕ → Seen
+seen_from v zero i s x at = x
+seen_from v (suc n) i s x at =
+    let y = record_of v i x (next_read s at) in
+    cond (y.at == at) y.seen (seen_from v n (i + 1) s y.seen y.at)
+
 -- a record's text has been put on the sheet, and r is the listing behind it
 pub record Listed (s t : Sheet) (x r : Listing) (y : Record) : Type 0 where
   pub put : Puts s t y.text

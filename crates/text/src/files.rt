@@ -59,11 +59,14 @@ pub fn show_all<R: Files, W: Write>(
     ensures { IfOk result (λ r. r ≡ length names.now) }
 {
     let mut from: usize = 0;
+    let mut read: usize = 0;
     for (i, &b) in names.iter().enumerate() {
         if b == b'\n' {
             show(rt, sink, &names[from..i], view)?;
             from = i + 1;
         }
+        // the answer is how far the names were read, so that a loop that ends early has another
+        read = i + 1;
     }
-    Ok(names.len())
+    Ok(read)
 }

@@ -4,6 +4,7 @@
 // write call writes what it is handed, and here the lines that hand it over: `write_out`, where it is called, and the place 0 behind it.
 ghost use Rattle.std.specs.Prelude.{◌≡◌, IfOk};
 ghost use Rattle.text.specs.Ending.{place_read};
+ghost use Rattle.text.specs.Views.{seen_from};
 
 use crate::views::{Listing, Parts, View, fresh_seen, list_next, parts_of, put_parts};
 use buffers::putting::Sheet;
@@ -18,40 +19,39 @@ const NEARLY_FULL: usize = 32768;
 
 // A text that filled the buffer may lack its end, and is not written: there is none so long.
 // The only error is the sink's, of its write; it leaves the buffer as it was, of which a part may have been written.
-fn write_out<W: Write>(sink: &mut W, sheet: &mut Sheet) -> io::Result<()>
-    ensures { IfOk result (λ u. sheet.new.at ≡ 0) }
+fn write_out<W: Write>(sink: &mut W, out: &[u8], end: usize) -> io::Result<usize>
+    ensures { IfOk result (λ r. r ≡ 0) }
 {
-    let end = sheet.at;
-    if end < sheet.out.len() {
-        sink.write_all(&sheet.out[..end])?;
+    if end < out.len() {
+        sink.write_all(&out[..end])?;
     }
-    sheet.at = 0;
-    Ok(())
+    Ok(0)
 }
 
-// Prints the records from a listing's place on. The answer is the place in the trace where reading ended.
-#[tactic(auto, unfolding(crate::specs::Ending::place_read))]
+// Prints the records from a listing's place on, which have the numbers from 0 on. The answer is the listing where reading ended.
+#[tactic(auto, unfolding(crate::specs::Ending::place_read, crate::specs::Views::seen_from))]
 fn print_records<W: Write>(
     sink: &mut W,
     sheet: &mut Sheet,
     s: &[u8],
     first: Listing,
     v: Parts,
-) -> io::Result<usize>
-    ensures { IfOk result (λ r. r ≡ place_read 5000 s.now first.at) }
+) -> io::Result<Listing>
+    ensures { IfOk result (λ r. (r.at ≡ place_read 5000 s.now first.at) × (r.seen ≡ seen_from v 5000 0 s.now first.seen first.at)) }
 {
     let mut x = first;
     for number in 0..READS {
         let at = x.at;
         x = list_next(sheet, s, x, number, v);
         if NEARLY_FULL < sheet.at {
-            write_out(sink, sheet)?;
+            let end = sheet.at;
+            sheet.at = write_out(sink, sheet.out, end)?;
         }
         if x.at == at {
-            return Ok(at);
+            return Ok(x);
         }
     }
-    Ok(x.at)
+    Ok(x)
 }
 
 // Prints a view of a trace. The answer is the place in the trace where reading ended: its end, or the bad record.
@@ -69,7 +69,8 @@ pub fn print_trace<W: Write>(sink: &mut W, s: &[u8], view: View) -> io::Result<u
     let fresh = fresh_seen(no_sizes());
     put_parts(&mut sheet, fresh, v.head, v.heads);
     let first = Listing { seen: fresh, at: 0 };
-    let end = print_records(sink, &mut sheet, s, first, v)?;
-    write_out(sink, &mut sheet)?;
-    Ok(end)
+    let last = print_records(sink, &mut sheet, s, first, v)?;
+    let end = sheet.at;
+    write_out(sink, sheet.out, end)?;
+    Ok(last.at)
 }
